@@ -1,0 +1,275 @@
+-- The reader of Binary HTTP in 01's order of judgement (01, "Binary HTTP as we take it", "Sizes", "Numbers a call answers with"; RFC 9292, section 3).
+use Prim.Native.Nat.{ℕ, zero, suc, _+_, _-_}
+use mathlib.Core.Bool.{Bool, true, false, cond, not, _&&_, _||_}
+use mathlib.Core.List.{List, [], _∷_, _++_}
+use lib.Dec.{ltb, leb, eqb}
+use lib.ListN.{length, take, drop}
+use Rattle.octets.specs.Ascii.{ascii}
+use Rattle.octets.specs.Text.{sameText, isEmpty}
+use Rattle.octets.specs.Limits.{methodMost, authorityMost, pathMost, linesMost, chunksMost, contentMost, binaryMost, informationalMost}
+use Rattle.octets.specs.Refusals.{badSyntax, notSupported, badLength, tooLarge, cutOff, badFraming, badSection, badPadding}
+use Rattle.script.specs.Script.{Answer, accepted, refused, more}
+use Rattle.script.specs.Do.{Piece, piece, Judged, good, wrong}
+use Rattle.messages.specs.Message.{FieldRead, Section, InformationalRead, Start, requestStart, responseStart, Message}
+use Rattle.messages.specs.Control.{methodVerdict, pathVerdict, authorityVerdict, statusVerdict, isInformational, isBodyless, isLowerName, isTrimmedValue}
+use Rattle.messages.specs.Names.{areTrailers, keptTrailers}
+use Rattle.messages.specs.Rules.{authorityIn, Framing, unstated, binaryFramingOf, nothingStated, mayState, agrees}
+use Rattle.messages.specs.Meaning.{contentOf}
+use Rattle.binary.specs.Reader.{Got, got, no, Reader, _>>=_, give, refuse, here, ended, tell, rule, integer, octets}
+
+-- ---- parts: a length and what it counts
+
+-- a part without a size of its own
+unfoldable pub part : Reader Piece
+part = do
+  p ← here
+  n ← integer cutOff p
+  octets n cutOff p
+
+-- a part of at most so many octets: the length is judged before what it counts
+unfoldable pub partWithin : ℕ → Reader Piece
+partWithin most = do
+  p ← here
+  n ← integer cutOff p
+  cond (leb n most) (octets n cutOff p) (refuse tooLarge p)
+
+-- a part whose octets have a rule, by its number
+unfoldable pub ruledPart : ℕ → (List ℕ → ℕ) → Reader Piece
+ruledPart most verdict = do
+  p ← here
+  w ← partWithin most
+  tell (rule (verdict (w .text)) p w)
+
+-- ---- control data
+
+-- the number of a scheme; another is refused
+unfoldable pub schemeOf : List ℕ → ℕ → Judged ℕ
+schemeOf w p = cond (sameText w (ascii "http")) (good 0) (cond (sameText w (ascii "https")) (good 1) (wrong notSupported p))
+
+unfoldable pub schemePart : Reader ℕ
+schemePart = do
+  p ← here
+  w ← part
+  tell (schemeOf (w .text) p)
+
+-- the control data of a request; the authority may still be empty
+pub record RequestControl : Type 0 where
+  pub method : Piece
+  pub scheme : ℕ
+  pub authority : Piece
+  pub path : Piece
+
+unfoldable pub requestControl : Reader RequestControl
+requestControl = do
+  m ← ruledPart methodMost methodVerdict
+  s ← schemePart
+  a ← ruledPart authorityMost authorityVerdict
+  p ← ruledPart pathMost pathVerdict
+  give (record { method = m; scheme = s; authority = a; path = p })
+
+-- ---- field lines
+
+-- a line's octets are judged when both halves are in, at the line's first octet
+unfoldable pub lineOf : ℕ → Piece → Piece → Judged FieldRead
+lineOf p n v = cond (isLowerName (n .text)) (cond (isTrimmedValue (v .text)) (good (record { name = n; value = v })) (wrong badSyntax p)) (wrong badSyntax p)
+
+-- a line of a known-length section: whatever is cut off crosses the section
+unfoldable pub knownLine : Reader FieldRead
+knownLine = do
+  p ← here
+  a ← integer badSection p
+  cond (eqb a 0)
+    (refuse badSection p)
+    (do
+      n ← octets a badSection p
+      b ← integer badSection p
+      v ← octets b badSection p
+      tell (lineOf p n v))
+
+-- the lines that fill the body of a known-length section exactly; a 65th is refused before it is read. The first number is above how many may come
+unfoldable pub knownLines : ℕ → List FieldRead → Reader (List FieldRead)
+knownLines zero fs = refuse 0 0
+knownLines (suc f) fs = do
+  e ← ended
+  p ← here
+  cond e
+    (give fs)
+    (cond (leb linesMost (length fs))
+      (refuse tooLarge p)
+      (do
+        h ← knownLine
+        knownLines f (fs ++ h ∷ [])))
+
+-- the body is read by itself; behind it the reading goes on
+abbrev pub onBody : Got (List FieldRead) → Reader (List FieldRead)
+onBody (got fs e r) at s = got fs at s
+onBody (no n p) at s = no n p
+
+unfoldable pub bodyLines : Piece → Reader (List FieldRead)
+bodyLines b = onBody (knownLines (suc linesMost) [] (b .place) (b .text))
+
+unfoldable pub knownSection : Reader (List FieldRead)
+knownSection = do
+  b ← part
+  bodyLines b
+
+-- the rest of a line of an indeterminate section, which starts at the place p and whose name has a octets: name, then value, a part of its own
+unfoldable pub openLine : ℕ → ℕ → Reader FieldRead
+openLine p a = do
+  n ← octets a cutOff p
+  v ← part
+  tell (lineOf p n v)
+
+-- the lines up to a name length of zero; a 65th is refused when its name length is in
+unfoldable pub openLines : ℕ → List FieldRead → Reader (List FieldRead)
+openLines zero fs = refuse 0 0
+openLines (suc f) fs = do
+  p ← here
+  a ← integer cutOff p
+  cond (eqb a 0)
+    (give fs)
+    (cond (leb linesMost (length fs))
+      (refuse tooLarge p)
+      (do
+        h ← openLine p a
+        openLines f (fs ++ h ∷ [])))
+
+-- a section and the place behind it
+unfoldable pub section : Bool → Reader Section
+section known = do
+  fs ← cond known knownSection (openLines (suc linesMost) [])
+  e ← here
+  give (record { lines = fs; end = e })
+
+-- ---- content
+
+-- a piece as a list: nothing where it is empty
+abbrev pub nonEmpty : Piece → List Piece
+nonEmpty c = cond (isEmpty (c .text)) [] (c ∷ [])
+
+unfoldable pub knownContent : Reader (List Piece)
+knownContent = do
+  c ← partWithin contentMost
+  give (nonEmpty c)
+
+-- chunks up to a length of zero, behind chunks of so many octets in all: a 257th or a total above the size is refused at its length
+unfoldable pub openChunks : ℕ → List Piece → ℕ → Reader (List Piece)
+openChunks zero cs total = refuse 0 0
+openChunks (suc f) cs total = do
+  p ← here
+  n ← integer cutOff p
+  cond (eqb n 0)
+    (give cs)
+    (cond (leb chunksMost (length cs))
+      (refuse tooLarge p)
+      (cond (ltb contentMost (total + n))
+        (refuse tooLarge p)
+        (do
+          c ← octets n cutOff p
+          openChunks f (cs ++ c ∷ []) (total + n))))
+
+-- the message may end before its content: then there is none
+unfoldable pub content : Bool → Reader (List Piece)
+content known = do
+  e ← ended
+  cond e (give []) (cond known knownContent (openChunks (suc chunksMost) [] 0))
+
+-- what is read of the content agrees with the length stated, and with the status
+unfoldable pub contentRule : Bool → Framing → ℕ → List Piece → Judged (List Piece)
+contentRule body f end cs =
+    cond (agrees f (length (contentOf cs))) (cond (body || isEmpty (contentOf cs)) (good cs) (wrong badLength end)) (wrong badLength end)
+
+-- ---- trailers and padding
+
+abbrev pub noLines : List FieldRead → Bool
+noLines [] = true
+noLines (f ∷ fs) = false
+
+unfoldable pub trailerRule : Bool → Section → Judged (List FieldRead)
+trailerRule body h =
+    cond (areTrailers (h .lines)) (cond (body || noLines (keptTrailers (h .lines))) (good (h .lines)) (wrong badLength (h .end))) (wrong badLength (h .end))
+
+-- the message may end before its trailers: then there are none
+unfoldable pub trailers : Bool → Bool → Reader (List FieldRead)
+trailers known body = do
+  e ← ended
+  cond e
+    (give [])
+    (do
+      h ← section known
+      tell (trailerRule body h))
+
+-- zero octets may follow, to the end; any other is refused at its place
+unfoldable pub padding : ℕ → List ℕ → Got ℕ
+padding at [] = got at at []
+padding at (b ∷ s) = cond (eqb b 0) (padding (at + 1) s) (no badPadding at)
+
+-- ---- whole messages
+
+-- behind the header section: content, trailers, padding. `body` says whether the message may have content
+unfoldable pub afterHeaders : Bool → Bool → Start → Section → Framing → Reader Message
+afterHeaders known body start h f = do
+  cs ← content known
+  e ← here
+  c ← tell (contentRule body f e cs)
+  ts ← trailers known body
+  z ← padding
+  give (record { start = start; lines = h .lines; chunks = c; trailers = ts })
+
+-- a request: host, then the length, are judged behind the header section
+unfoldable pub requestMessage : Bool → Reader Message
+requestMessage known = do
+  q ← requestControl
+  h ← section known
+  a ← tell (authorityIn (h .end) (q .authority) (h .lines))
+  f ← tell (mayState (h .end) (binaryFramingOf (h .lines)))
+  afterHeaders known true (requestStart (q .method) (q .scheme) a (q .path)) h f
+
+-- behind a final status
+unfoldable pub finalResponse : Bool → List InformationalRead → ℕ → Reader Message
+finalResponse known is n = do
+  h ← section known
+  cond (isBodyless n)
+    (do
+      b ← tell (nothingStated (h .end) (binaryFramingOf (h .lines)))
+      afterHeaders known false (responseStart is n) h unstated)
+    (do
+      f ← tell (mayState (h .end) (binaryFramingOf (h .lines)))
+      afterHeaders known true (responseStart is n) h f)
+
+-- one status after another, behind informational heads: a fifth is refused at its status, and each is judged behind its section
+unfoldable pub responseMessage : Bool → ℕ → List InformationalRead → Reader Message
+responseMessage known zero is = refuse 0 0
+responseMessage known (suc f) is = do
+  p ← here
+  v ← integer cutOff p
+  n ← tell (rule (statusVerdict v) p v)
+  cond (isInformational n)
+    (cond (leb informationalMost (length is))
+      (refuse tooLarge p)
+      (do
+        h ← section known
+        u ← tell (nothingStated (h .end) (binaryFramingOf (h .lines)))
+        responseMessage known f (is ++ record { status = n; lines = h .lines } ∷ [])))
+    (finalResponse known is n)
+
+-- the framing: 0 request, 1 response, of known length; 2 and 3 the same of indeterminate length
+unfoldable pub message : Reader Message
+message = do
+  f ← integer cutOff 0
+  cond (leb f 3)
+    (cond (eqb f 0)
+      (requestMessage true)
+      (cond (eqb f 1)
+        (responseMessage true (suc informationalMost) [])
+        (cond (eqb f 2) (requestMessage false) (responseMessage false (suc informationalMost) []))))
+    (refuse badFraming 0)
+
+-- the whole input is the message, padding too
+abbrev pub answerOf : Got Message → Answer Message
+answerOf (got m n r) = accepted n m
+answerOf (no k p) = refused k p
+
+-- input above the size is refused first
+unfoldable pub readBinary : List ℕ → Answer Message
+readBinary s = cond (leb (length s) binaryMost) (answerOf (message 0 s)) (refused tooLarge 0)

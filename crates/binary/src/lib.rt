@@ -1,0 +1,1 @@
+// Reading Binary HTTP (RFC 9292).

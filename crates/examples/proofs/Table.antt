@@ -1,0 +1,20 @@
+-- Every row of the table, by computation.
+use mathlib.Core.Path.{_≡_, refl}
+use Rattle.examples.specs.Examples.{Statement, table, hex, scanPost, twoLengths, scanBinary, figure13}
+use Rattle.examples.specs.Computing.{computing}
+
+pub examples : Statement
+unfolding computing table hex scanPost twoLengths scanBinary figure13
+examples =
+    (refl, (refl, (refl,
+    ((refl, refl), (refl,
+    (refl, (refl,
+    ((refl, refl), ((refl, refl), (refl,
+    ((refl, refl),
+    ((refl, refl),
+    ((refl, refl),
+    ((refl, refl),
+    ((refl, refl), ((refl, refl),
+    ((refl, refl),
+    ((refl, refl),
+    tt))))))))))))))))))

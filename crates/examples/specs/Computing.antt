@@ -1,0 +1,26 @@
+-- Opens every definition: for proofs by computation only.
+use Rattle.octets.specs.Class.{isToken, isValue, isPath, isAuthority, classOf, hasClass, isBlank}
+use Rattle.octets.specs.Text.{spanLen, all, lowerOf, isLower, sameText, trimBack, isEmpty}
+use Rattle.numbers.specs.Places.{push}
+use Rattle.numbers.specs.Integer.{extraOf, readMore, readInt, intLen, tagOf, intBytes}
+use Rattle.numbers.specs.Digits.{digitOf, charOf, numFrom, numOf, moreOf, countOf, digits}
+use Rattle.script.specs.Script.{afterOf, lineOf, cutBy, run, free}
+use Rattle.script.specs.Do.{_>>=_}
+use Rattle.messages.specs.Control.{isUnsupported, methodVerdict, pathVerdict, authorityVerdict, isHost, statusVerdict, isInformational, isBodyless, isLowerName, isTrimmedValue}
+use Rattle.messages.specs.Names.{isHopByHop, kindOf, lineKind, sameKind, linesOf, kept, areTrailers, keptTrailers}
+use Rattle.messages.specs.Rules.{authorityFrom, authorityIn, framingFrom, framingOf, binaryFramingOf, requestBody, nothingStated, contentBody, responseBody, mayState}
+use Rattle.messages.specs.Meaning.{fieldMeans, informationalMeans, contentOf, meaning}
+use Rattle.messages.specs.Valid.{validField, validFields, validSection, validInformational, validHeads, isScheme, validControl, validBody, valid}
+use Rattle.messages.specs.Answers.{fieldsNumbers, chunksNumbers, informationalNumbers, informationalLines, padded, rangesOf, noRanges, recordOf}
+use Rattle.http1.specs.Lines.{isOther, requestParts, requestVersion, requestTarget, requestLens, requestOf, statusVersion, isStatusShape, statusLens, statusOf, valueFrom, valueIn, nameTo, fieldLens, fieldOf, chunkLens, chunkOf}
+use Rattle.http1.specs.Read.{fieldLines, section, trailerSection, chunkData, chunksFrom, content, afterHead, request, readRequest, afterFinal, heads, readResponse}
+use Rattle.binary.specs.Reader.{_>>=_ as bind-binary, integer, octets}
+use Rattle.binary.specs.Read.{part, partWithin, ruledPart, schemeOf, schemePart, requestControl, lineOf as lineOf-binary, knownLine, knownLines, bodyLines, knownSection, openLine, openLines, section as section-binary, knownContent, openChunks, content as content-binary, contentRule, trailerRule, trailers, padding, afterHeaders, requestMessage, finalResponse, responseMessage, message, readBinary}
+use Rattle.write_binary.specs.Write.{counted, fieldBytes, fieldsBytes, sectionBytes, schemeBytes, informationalBytes, controlBytes, binaryOf, binaryFits}
+use Rattle.write_http1.specs.Write.{fieldText, sectionText, requestLine, statusLine, hostField, lengthField, codingField, lengthLine, headLines, informationalText, headText, chunkText, chunkedText, bodyText, http1Of, http1Fits}
+use Rattle.turn.specs.Turn.{toBinary, toHttp1, requestToBinary, responseToBinary, binaryToBinary, binaryToHttp1}
+use Rattle.turn.specs.Question.{firstOf}
+
+unfoldable pub computing : Unit {0}
+unfolding isToken isValue isPath isAuthority classOf hasClass isBlank spanLen all lowerOf isLower sameText trimBack isEmpty push extraOf readMore readInt intLen tagOf intBytes digitOf charOf numFrom numOf moreOf countOf digits afterOf lineOf cutBy run free _>>=_ isUnsupported methodVerdict pathVerdict authorityVerdict isHost statusVerdict isInformational isBodyless isLowerName isTrimmedValue isHopByHop kindOf lineKind sameKind linesOf kept areTrailers keptTrailers authorityFrom authorityIn framingFrom framingOf binaryFramingOf requestBody nothingStated contentBody responseBody mayState fieldMeans informationalMeans contentOf meaning validField validFields validSection validInformational validHeads isScheme validControl validBody valid fieldsNumbers chunksNumbers informationalNumbers informationalLines padded rangesOf noRanges recordOf isOther requestParts requestVersion requestTarget requestLens requestOf statusVersion isStatusShape statusLens statusOf valueFrom valueIn nameTo fieldLens fieldOf chunkLens chunkOf fieldLines section trailerSection chunkData chunksFrom content afterHead request readRequest afterFinal heads readResponse bind-binary integer octets part partWithin ruledPart schemeOf schemePart requestControl lineOf-binary knownLine knownLines bodyLines knownSection openLine openLines section-binary knownContent openChunks content-binary contentRule trailerRule trailers padding afterHeaders requestMessage finalResponse responseMessage message readBinary counted fieldBytes fieldsBytes sectionBytes schemeBytes informationalBytes controlBytes binaryOf binaryFits fieldText sectionText requestLine statusLine hostField lengthField codingField lengthLine headLines informationalText headText chunkText chunkedText bodyText http1Of http1Fits toBinary toHttp1 requestToBinary responseToBinary binaryToBinary binaryToHttp1 firstOf
+computing = tt

@@ -1,0 +1,139 @@
+-- The examples P1 to P13 of 01 ("Examples"), one table under one statement.
+use Prim.Native.Nat.{ℕ, zero, suc, _+_, _*_}
+use Prim.Native.Char.{Char, code}
+use Prim.Native.String.{String, [] as none, _∷_ as _then_}
+use mathlib.Core.Path.{_≡_}
+use mathlib.Core.Bool.{Bool, true, false, cond}
+use mathlib.Core.List.{List, [], _∷_, _++_}
+use lib.Dec.{eqb, ltb}
+use lib.ListN.{length, take}
+use Rattle.octets.specs.Ascii.{ascii}
+use Rattle.numbers.specs.Digits.{digitOf}
+use Rattle.numbers.specs.Integer.{readInt}
+use Rattle.numbers.specs.declared.Integer.the-variants.{Value, Cut}
+use Rattle.script.specs.Script.{Answer}
+use Rattle.messages.specs.Told.{Told}
+use Rattle.messages.specs.Message.{Message}
+use Rattle.messages.specs.Answers.{readingOf, numberOf, placeOf}
+use Rattle.messages.specs.declared.Record.{Record}
+use Rattle.messages.specs.declared.Outcome.{Outcome}
+use Rattle.messages.specs.declared.Outcome.the-variants as outcome
+use Rattle.http1.specs.Read.{readRequest}
+use Rattle.binary.specs.Read.{readBinary}
+use Rattle.turn.specs.Turn.{requestToBinary, binaryToBinary}
+use Rattle.output.specs.Reply.{Reply, octets, wrong}
+
+-- ---- octets by pairs of hexadecimal digits; spaces are passed over
+
+abbrev pub paired : List ℕ → List ℕ
+paired [] = []
+paired (a ∷ []) = []
+paired (a ∷ b ∷ s) = (digitOf a * 16 + digitOf b) ∷ paired s
+
+abbrev pub solid : List ℕ → List ℕ
+solid [] = []
+solid (b ∷ s) = cond (eqb b 32) (solid s) (b ∷ solid s)
+
+unfoldable pub hex : String → List ℕ
+hex t = paired (solid (ascii t))
+
+-- ---- what a row says
+
+pub data Example : Type 0 where
+  -- the octets are this integer, and no octet is left
+  integer : List ℕ → ℕ → Example
+  -- reading as an HTTP/1.1 request under http: number, then the length or the refusal's place
+  http1 : List ℕ → ℕ → ℕ → Example
+  -- reading as Binary: the same
+  binary : List ℕ → ℕ → ℕ → Example
+  -- an accepted Binary message has so many octets of content and so many trailers
+  binaryHas : List ℕ → ℕ → ℕ → Example
+  -- an HTTP/1.1 request under http becomes these octets of Binary
+  becomes : List ℕ → List ℕ → Example
+  -- a Binary message is written anew as these octets
+  anew : List ℕ → List ℕ → Example
+  -- so many octets
+  long : List ℕ → ℕ → Example
+
+abbrev pub http : Told
+http = record { scheme = 0 }
+
+-- number and place of an answer on an input
+abbrev pub Answers : List ℕ → Answer Message → ℕ → ℕ → Type 0
+Answers s a k p = (numberOf (readingOf a .outcome) ≡ k) × (placeOf (length s) (readingOf a .outcome) ≡ p)
+
+abbrev pub Counts : Outcome → ℕ → ℕ → Type 0
+Counts (outcome.Message r) c t = (r .content ≡ c) × (r .trailers ≡ t)
+Counts (outcome.Refusal k p) c t = ⊥
+Counts outcome.More c t = ⊥
+
+abbrev pub Holds : Example → Type 0
+Holds (integer s v) = readInt 0 s ≡ Value v (length s)
+Holds (http1 s k p) = Answers s (readRequest http s) k p
+Holds (binary s k p) = Answers s (readBinary s) k p
+Holds (binaryHas s c t) = Counts (readingOf (readBinary s) .outcome) c t
+Holds (becomes s b) = requestToBinary http s ≡ octets b
+Holds (anew s b) = binaryToBinary s ≡ octets b
+Holds (long s n) = length s ≡ n
+
+abbrev pub AllHold : List Example → Type 0
+AllHold [] = Unit {0}
+AllHold (e ∷ es) = Holds e × AllHold es
+
+-- ---- the inputs
+
+-- input A
+unfoldable pub scanPost : List ℕ
+scanPost = ascii "POST /s HTTP/1.1\r\nHost: a\r\nContent-Length: 3\r\n\r\nabc"
+
+-- input A with Transfer-Encoding behind its length line
+unfoldable pub twoLengths : List ℕ
+twoLengths = ascii "POST /s HTTP/1.1\r\nHost: a\r\nContent-Length: 3\r\nTransfer-Encoding: chunked\r\n\r\nabc"
+
+-- what P5 becomes
+unfoldable pub scanBinary : List ℕ
+scanBinary = hex "00 04504f5354 0468747470 0161 022f73 00 03616263 00"
+
+-- Figure 13 of document 001
+unfoldable pub figure13 : List ℕ
+figure13 =
+    hex "0140c800 1d546869 7320636f 6e74656e" ++ hex "7420636f 6e746169 6e732043 524c462e" ++ hex "0d0a0d07 74726169 6c657204 74657874"
+
+-- ---- the table
+
+unfoldable pub table : List Example
+table =
+    -- P1 to P3
+    integer (hex "25") 37
+    ∷ integer (hex "4025") 37
+    ∷ integer (hex "7bbd") 15293
+    -- P4: A is accepted, length 51
+    ∷ http1 scanPost 0 51
+    ∷ long scanPost 51
+    -- P5: A under http becomes 22 octets
+    ∷ becomes scanPost scanBinary
+    ∷ long scanBinary 22
+    -- P6: Figure 13 is accepted and written back identically: 48 octets, content 29, one trailer
+    ∷ binary figure13 0 48
+    ∷ binaryHas figure13 29 1
+    ∷ anew figure13 figure13
+    -- P7: empty HTTP/1.1
+    ∷ http1 [] 1 0
+    -- P8: empty Binary
+    ∷ binary [] 9 0
+    -- P9
+    ∷ binary (hex "04") 10 0
+    -- P10: two statements of its length
+    ∷ http1 twoLengths 7 76
+    -- P11: P5's first 17 octets are accepted, no content
+    ∷ binary (take 17 scanBinary) 0 17
+    ∷ binaryHas (take 17 scanBinary) 0 0
+    -- P12: its first 16
+    ∷ binary (take 16 scanBinary) 9 16
+    -- P13: Figure 13 and an octet that is not zero
+    ∷ binary (figure13 ++ hex "01") 12 48
+    ∷ []
+
+-- the statement: every row holds
+abbrev pub Statement : Type 0
+Statement = AllHold table

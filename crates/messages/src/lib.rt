@@ -1,0 +1,53 @@
+// What the readers answer with.
+
+// So many octets of the input from a place on.
+pub struct Part {
+    pub start: u32,
+    pub len: u32,
+}
+
+// What a field name says of its field (01, "Fields that do not travel").
+pub enum Kind {
+    Ordinary,
+    HopByHop,
+    Host,
+    ContentLength,
+    TransferEncoding,
+}
+
+// The numbers of an accepted message. A request has scheme, method, authority and path; a response has informational heads and a status.
+pub struct Record {
+    pub response: bool,
+    pub scheme: u32,
+    pub method: Part,
+    pub authority: Part,
+    pub path: Part,
+    pub informational: usize,
+    pub status: u32,
+    pub headers: usize,
+    pub chunks: usize,
+    pub content: usize,
+    pub trailers: usize,
+    pub length: usize,
+}
+
+pub enum Outcome {
+    Message(Record),
+    Refusal { number: u32, place: usize },
+    More,
+}
+
+// The parts of an accepted message, zero past the counts of its record. Of each kept field: start and length of its name, start and length of
+// its value; the fields of informational heads stand before those of the final head. Of each informational head: its status and how many
+// kept fields it has. Of each chunk: start and length.
+pub struct Ranges {
+    pub informational: [u32; 8],
+    pub headers: [u32; 1280],
+    pub trailers: [u32; 256],
+    pub chunks: [u32; 512],
+}
+
+pub struct Reading {
+    pub outcome: Outcome,
+    pub ranges: Ranges,
+}

@@ -1,0 +1,1 @@
+// Streams of messages: definitions and laws, no code.

@@ -1,0 +1,47 @@
+-- Turning each form into the other, and writing Binary anew (01, "Needed", "How we write", and the order of refusals in writing: the reader's, 14, 8 at 0, 13).
+use Prim.Native.Nat.{ℕ}
+use mathlib.Core.Bool.{Bool, true, false, cond}
+use mathlib.Core.List.{List, [], _∷_}
+use lib.Dec.{eqb}
+use lib.ListN.{length}
+use Rattle.octets.specs.Refusals.{moreNeeded, notSupported, tooLarge, otherScheme}
+use Rattle.script.specs.Script.{Answer, accepted, refused, more}
+use Rattle.messages.specs.Told.{Told}
+use Rattle.messages.specs.Message.{Message}
+use Rattle.messages.specs.Meaning.{Control, request, response, Meaning, meaning}
+use Rattle.messages.specs.Valid.{isScheme}
+use Rattle.http1.specs.Read.{readRequest, readResponse}
+use Rattle.binary.specs.Read.{readBinary}
+use Rattle.write_binary.specs.Write.{binaryOf, binaryFits}
+use Rattle.write_http1.specs.Write.{http1Of, http1Fits}
+use Rattle.output.specs.Reply.{Reply, octets, wrong}
+
+-- what is written of a reader's answer on an input of n octets: the reader's refusal goes first. Room is the writer's last refusal (Reply)
+abbrev pub replyTo : ℕ → Answer Message → (Meaning → Reply) → Reply
+replyTo n (accepted k m) write = write (meaning m)
+replyTo n (refused k p) write = wrong k p
+replyTo n more write = wrong moreNeeded n
+
+unfoldable pub toBinary : Meaning → Reply
+toBinary m = cond (binaryFits m) (octets (binaryOf m)) (wrong tooLarge 0)
+
+-- a request's scheme is the connection's; a response has none
+abbrev pub onConnection : Told → Control → Bool
+onConnection t (request m s a p) = eqb s (t .scheme)
+onConnection t (response hs s) = true
+
+unfoldable pub toHttp1 : Told → Meaning → Reply
+toHttp1 t m = cond (onConnection t (m .control)) (cond (http1Fits m) (octets (http1Of m)) (wrong tooLarge 0)) (wrong otherScheme 0)
+
+unfoldable pub requestToBinary : Told → List ℕ → Reply
+requestToBinary t s = replyTo (length s) (readRequest t s) toBinary
+
+unfoldable pub responseToBinary : List ℕ → Reply
+responseToBinary s = replyTo (length s) (readResponse s) toBinary
+
+unfoldable pub binaryToBinary : List ℕ → Reply
+binaryToBinary s = replyTo (length s) (readBinary s) toBinary
+
+-- told another scheme number it is 4 at 0, first
+unfoldable pub binaryToHttp1 : Told → List ℕ → Reply
+binaryToHttp1 t s = cond (isScheme (t .scheme)) (replyTo (length s) (readBinary s) (toHttp1 t)) (wrong notSupported 0)

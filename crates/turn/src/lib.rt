@@ -1,0 +1,1 @@
+// Turning messages from one form into the other.

@@ -1,0 +1,1 @@
+// Writing Binary HTTP (RFC 9292).

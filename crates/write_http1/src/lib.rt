@@ -1,0 +1,1 @@
+// Writing HTTP/1.1.
