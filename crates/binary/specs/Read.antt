@@ -13,7 +13,9 @@ use Rattle.script.specs.Do.{Piece, piece, Judged, good, wrong}
 use Rattle.messages.specs.Message.{FieldRead, Section, InformationalRead, Start, requestStart, responseStart, Message}
 use Rattle.messages.specs.Control.{methodVerdict, pathVerdict, authorityVerdict, statusVerdict, isInformational, isBodyless, isLowerName, isTrimmedValue}
 use Rattle.messages.specs.Names.{areTrailers, keptTrailers}
-use Rattle.messages.specs.Rules.{authorityIn, Framing, unstated, binaryFramingOf, nothingStated, mayState, agrees}
+use Rattle.messages.specs.Rules.{authorityIn, binaryFramingOf, nothingStated, mayState, agrees}
+use Rattle.messages.specs.declared.Framing.{Framing}
+use Rattle.messages.specs.declared.Framing.the-variants.{Unstated}
 use Rattle.messages.specs.Meaning.{contentOf}
 use Rattle.binary.specs.Reader.{Got, got, no, Reader, _>>=_, give, refuse, here, ended, tell, rule, integer, octets}
 
@@ -232,7 +234,7 @@ finalResponse known is n = do
   cond (isBodyless n)
     (do
       b ← tell (nothingStated (h .end) (binaryFramingOf (h .lines)))
-      afterHeaders known false (responseStart is n) h unstated)
+      afterHeaders known false (responseStart is n) h Unstated)
     (do
       f ← tell (mayState (h .end) (binaryFramingOf (h .lines)))
       afterHeaders known true (responseStart is n) h f)

@@ -13,7 +13,9 @@ use Rattle.messages.specs.Told.{Told}
 use Rattle.messages.specs.Message.{FieldRead, Section, InformationalRead, requestStart, responseStart, Message}
 use Rattle.messages.specs.Control.{isInformational}
 use Rattle.messages.specs.Names.{areTrailers}
-use Rattle.messages.specs.Rules.{authorityIn, framingOf, Body, sized, inChunks, requestBody, nothingStated, responseBody}
+use Rattle.messages.specs.Rules.{authorityIn, framingOf, requestBody, nothingStated, responseBody}
+use Rattle.messages.specs.declared.Body.{Body}
+use Rattle.messages.specs.declared.Body.the-variants.{Sized, InChunks}
 use Rattle.messages.specs.Valid.{isScheme}
 use Rattle.http1.specs.Lines.{RequestRead, requestOf, statusOf, fieldOf, chunkOf}
 
@@ -91,10 +93,10 @@ chunksFrom (suc f) cs total = do
           chunksFrom f (cs ++ c ∷ []) (total + n))))
 
 unfoldable pub content : Body → Script Content
-content (sized n) = do
+content (Sized n) = do
   c ← word (someOctets n)
   done (record { chunks = nonEmpty c; trailers = [] })
-content inChunks = chunksFrom (suc chunksMost) [] 0
+content InChunks = chunksFrom (suc chunksMost) [] 0
 
 -- ---- requests
 

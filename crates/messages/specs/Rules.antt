@@ -16,6 +16,10 @@ use Rattle.script.specs.Do.{Piece, piece, Judged, good, wrong}
 use Rattle.messages.specs.Message.{FieldRead}
 use Rattle.messages.specs.Control.{isHost, isBodyless}
 use Rattle.messages.specs.Names.{linesOf}
+use Rattle.messages.specs.declared.Body.{Body}
+use Rattle.messages.specs.declared.Body.the-variants.{Sized, InChunks}
+use Rattle.messages.specs.declared.Framing.{Framing}
+use Rattle.messages.specs.declared.Framing.the-variants.{Unstated, Stated, Chunked, Clashing}
 use Rattle.messages.specs.declared.Kind.{Kind}
 use Rattle.messages.specs.declared.Kind.the-variants as kind
 
@@ -39,29 +43,18 @@ authorityIn end a lines = orBadHost end (authorityFrom a (linesOf kind.Host line
 
 -- ---- lengths
 
--- what a head states of the content's length
-pub data Framing : Type 0 where
-  -- nothing
-  unstated : Framing
-  -- a number, at the place of its line
-  stated : ℕ → ℕ → Framing
-  -- the chunked coding
-  chunked : Framing
-  -- more than one statement, or one that is none
-  clashing : Framing
-
 abbrev pub lengthStated : ℕ → Number → Framing
-lengthStated p (Is n) = stated n p
-lengthStated p Not = clashing
+lengthStated p (Is n) = Stated n p
+lengthStated p Not = Clashing
 
 -- at most one content-length line, digits and nothing else; at most one transfer-encoding line, "chunked" in any case of letters; never both
 unfoldable pub framingFrom : List FieldRead → List FieldRead → Framing
-framingFrom [] [] = unstated
-framingFrom [] (c ∷ []) = cond (sameText (map lowerOf (c .value .text)) (ascii "chunked")) chunked clashing
-framingFrom [] (c ∷ d ∷ cs) = clashing
+framingFrom [] [] = Unstated
+framingFrom [] (c ∷ []) = cond (sameText (map lowerOf (c .value .text)) (ascii "chunked")) Chunked Clashing
+framingFrom [] (c ∷ d ∷ cs) = Clashing
 framingFrom (f ∷ []) [] = lengthStated (f .name .place) (numOf 10 (f .value .text))
-framingFrom (f ∷ []) (c ∷ cs) = clashing
-framingFrom (f ∷ g ∷ fs) cs = clashing
+framingFrom (f ∷ []) (c ∷ cs) = Clashing
+framingFrom (f ∷ g ∷ fs) cs = Clashing
 
 -- in HTTP/1.1 both lines count
 unfoldable pub framingOf : List FieldRead → Framing
@@ -71,45 +64,40 @@ framingOf lines = framingFrom (linesOf kind.ContentLength lines) (linesOf kind.T
 unfoldable pub binaryFramingOf : List FieldRead → Framing
 binaryFramingOf lines = framingFrom (linesOf kind.ContentLength lines) []
 
--- how the content of an HTTP/1.1 message is read
-pub data Body : Type 0 where
-  sized : ℕ → Body
-  inChunks : Body
-
 -- a request: nothing stated is no content. Judged behind the head; a number above the size at its line
 unfoldable pub requestBody : ℕ → Framing → Judged Body
-requestBody end unstated = good (sized 0)
-requestBody end (stated n p) = cond (leb n contentMost) (good (sized n)) (wrong tooLarge p)
-requestBody end chunked = good inChunks
-requestBody end clashing = wrong badLength end
+requestBody end Unstated = good (Sized 0)
+requestBody end (Stated n p) = cond (leb n contentMost) (good (Sized n)) (wrong tooLarge p)
+requestBody end Chunked = good InChunks
+requestBody end Clashing = wrong badLength end
 
 -- a head that can't have content states nothing: informational, 204, 304
 unfoldable pub nothingStated : ℕ → Framing → Judged Body
-nothingStated end unstated = good (sized 0)
-nothingStated end (stated n p) = wrong badLength end
-nothingStated end chunked = wrong badLength end
-nothingStated end clashing = wrong badLength end
+nothingStated end Unstated = good (Sized 0)
+nothingStated end (Stated n p) = wrong badLength end
+nothingStated end Chunked = wrong badLength end
+nothingStated end Clashing = wrong badLength end
 
 -- another final response states one
 unfoldable pub contentBody : ℕ → Framing → Judged Body
-contentBody end unstated = wrong badLength end
-contentBody end (stated n p) = requestBody end (stated n p)
-contentBody end chunked = requestBody end chunked
-contentBody end clashing = requestBody end clashing
+contentBody end Unstated = wrong badLength end
+contentBody end (Stated n p) = requestBody end (Stated n p)
+contentBody end Chunked = requestBody end Chunked
+contentBody end Clashing = requestBody end Clashing
 
 unfoldable pub responseBody : ℕ → ℕ → Framing → Judged Body
 responseBody status end f = cond (isBodyless status) (nothingStated end f) (contentBody end f)
 
 -- in Binary HTTP a head may state the length or not; 204, 304 and informational heads may not. What it states is compared later
 unfoldable pub mayState : ℕ → Framing → Judged Framing
-mayState end unstated = good unstated
-mayState end (stated n p) = good (stated n p)
-mayState end chunked = good chunked
-mayState end clashing = wrong badLength end
+mayState end Unstated = good Unstated
+mayState end (Stated n p) = good (Stated n p)
+mayState end Chunked = good Chunked
+mayState end Clashing = wrong badLength end
 
 -- the length of the content is the one stated, if any is
 abbrev pub agrees : Framing → ℕ → Bool
-agrees unstated n = true
-agrees (stated k p) n = eqb k n
-agrees chunked n = true
-agrees clashing n = false
+agrees Unstated n = true
+agrees (Stated k p) n = eqb k n
+agrees Chunked n = true
+agrees Clashing n = false

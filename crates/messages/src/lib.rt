@@ -15,6 +15,21 @@ pub enum Kind {
     TransferEncoding,
 }
 
+// What the lines of a head state of the content's length: nothing, a number at the place of its line, the chunked coding, or more than one
+// statement or one that is none.
+pub enum Framing {
+    Unstated,
+    Stated { size: usize, place: usize },
+    Chunked,
+    Clashing,
+}
+
+// How the content of an HTTP/1.1 message is read: so many octets, or in chunks.
+pub enum Body {
+    Sized(usize),
+    InChunks,
+}
+
 // The numbers of an accepted message. A request has scheme, method, authority and path; a response has informational heads and a status.
 pub struct Record {
     pub response: bool,

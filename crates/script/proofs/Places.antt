@@ -1,5 +1,5 @@
 -- The laws of `run` at a position i of the whole input, as code has it; and what lies at a place.
-use Prim.Native.Nat.{ℕ, zero, suc, _+_, _-_, _<_, _≤_}
+use Prim.Native.Nat.{ℕ, _+_, _-_, _<_, _≤_}
 use mathlib.Core.Path.{_≡_, refl, sym, ap, _∙_}
 use mathlib.Core.List.{List, [], _∷_, _++_, append-assoc}
 use native.Mathlib.Omega.{arith}
@@ -10,9 +10,9 @@ use Rattle.script.specs.Script.{Answer, accepted, refused, more, Cut, cu
 use Rattle.script.specs.Do.{_>>=_, andThen}
 use Rattle.script.specs.declared.Line.{Line}
 use Rattle.script.specs.declared.Line.the-variants.{Ends, Bad, Long, More}
-use Rattle.script.proofs.Lines.{Whole, line-whole}
+use Rattle.script.proofs.Lines.{line-whole}
 use Rattle.script.proofs.Made.{Made, made}
-use Rattle.script.proofs.Laws.{run-need, run-done, run-stop}
+use Rattle.script.proofs.Laws.{run-need}
 
 -- where a line that ends at a position ends
 pub line-within : (s : List ℕ) (n i next : ℕ) → i ≤ length s → lineOf (drop i s) n i 0 ≡ Ends next → (i + 2 ≤ next) × (next ≤ length s) × (next - i ≤ n)
@@ -45,13 +45,13 @@ module _ {A : Type 0} (n p q : ℕ) (k : ℕ → List ℕ → Script A) (s : Lis
       rw (run-need (aLine n p q) k, e, d)
 
 module _ {A : Type 0} (n : ℕ) (k : ℕ → List ℕ → Script A) (s : List ℕ) (i : ℕ) (within : i ≤ length s) where
-  pub bytes-more : length s - i < n → run (need (someOctets n) k) i (drop i s) ≡ more
+  pub octets-more : length s - i < n → run (need (someOctets n) k) i (drop i s) ≡ more
   unfolding cutBy
-  bytes-more h = let l : length (drop i s) ≡ length s - i = length-drop i s in rw (run-need, l, lt-ltb _ _ h)
+  octets-more h = let l : length (drop i s) ≡ length s - i = length-drop i s in rw (run-need, l, lt-ltb _ _ h)
 
-  pub bytes-in : n ≤ length s - i → run (need (someOctets n) k) i (drop i s) ≡ run (k i (take n (drop i s))) (i + n) (drop (i + n) s)
+  pub octets-in : n ≤ length s - i → run (need (someOctets n) k) i (drop i s) ≡ run (k i (take n (drop i s))) (i + n) (drop (i + n) s)
   unfolding cutBy
-  bytes-in h = let l : length (drop i s) ≡ length s - i = length-drop i s in rw (run-need (someOctets n) k, l, le-ltb _ _ h, drop-drop n i s)
+  octets-in h = let l : length (drop i s) ≡ length s - i = length-drop i s in rw (run-need (someOctets n) k, l, le-ltb _ _ h, drop-drop n i s)
 
 -- one script after another, at a position: what a function that runs the first says of the whole
 pub run-bind : {A B : Type 0} (sc : Script A) (k : A → Script B) (s : List ℕ) (i : ℕ)

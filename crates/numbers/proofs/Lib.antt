@@ -1,0 +1,9 @@
+pub mod Kit
+pub mod Computed
+pub mod Places
+pub mod ReadInteger
+pub mod IntegerForm
+pub mod IntegerLaws
+pub mod ReadDigits
+pub mod Counting
+pub mod DigitLaws

@@ -1,0 +1,8 @@
+use Rattle.numbers.specs.Digits.{charOf}
+use Rattle.numbers.proofs.Kit.{kit}
+use Rattle.numbers.proofs.digit_char.Statement.{statement}
+use Rattle.numbers.proofs.digit_char.Tie as tie
+
+pub digit-char-spec : {M : Type 1} → statement M
+unfolding charOf
+digit-char-spec = tie.close (tie.spec (λ c. search kit) (λ c. search kit) (λ c. search kit) (λ c. search kit) (λ c. search kit) (λ c. search kit))

@@ -1,0 +1,41 @@
+-- What a public writer answers, and what it leaves in the octets that it was lent (01, "Numbers a call answers with": a refusal writes
+-- nothing; success gives the length written, and all behind it stays).
+use mathlib.Core.Path.{_≡_}
+use mathlib.Core.Bool.{cond}
+use mathlib.Core.List.{List}
+use Prim.Native.Nat.{ℕ, _+_, _-_}
+use lib.Dec.{leb}
+use lib.ListN.{length}
+use Rattle.octets.specs.Refusals.{noRoom}
+use Rattle.output.specs.Splice.{splice}
+use Rattle.output.specs.declared.Written.{Written}
+use Rattle.output.specs.declared.Written.the-variants.{Done, Refused}
+
+-- what is to be written, whatever the room: octets, or a refusal with its number and its place
+pub data Reply : Type 0 where
+  octets : List ℕ → Reply
+  wrong : ℕ → ℕ → Reply
+
+-- the answer where there is room for so many octets
+unfoldable pub answerOf : Reply → ℕ → Written
+answerOf (octets bs) room = cond (leb (length bs) room) (Done (length bs)) (Refused noRoom 0)
+answerOf (wrong number place) room = Refused number place
+
+-- the lent octets afterwards
+unfoldable pub afterOf : Reply → List ℕ → List ℕ
+afterOf (octets bs) o = cond (leb (length bs) (length o)) (splice o 0 bs) o
+afterOf (wrong number place) o = o
+
+-- a writer that was lent o leaves o′ and answers r
+pub record Served (y : Reply) (o o′ : List ℕ) (r : Written) : Type 0 where
+  pub answer : r ≡ answerOf y (length o)
+  pub after : o′ ≡ afterOf y o
+
+-- the octets afterwards where the writer was lent those from the place k on
+unfoldable pub afterAt : Reply → ℕ → List ℕ → List ℕ
+afterAt (octets bs) k o = cond (leb (k + length bs) (length o)) (splice o k bs) o
+afterAt (wrong number place) k o = o
+
+pub record ServedAt (y : Reply) (k : ℕ) (o o′ : List ℕ) (r : Written) : Type 0 where
+  pub answer : r ≡ answerOf y (length o - k)
+  pub after : o′ ≡ afterAt y k o

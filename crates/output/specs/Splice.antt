@@ -1,0 +1,31 @@
+-- What a writer leaves in the octets that it was lent, and the part of a source that it copies.
+use mathlib.Core.Path.{_≡_}
+use mathlib.Core.List.{List, [], _∷_}
+use Prim.Native.Nat.{ℕ, zero, suc, _+_}
+use lib.ListN.{length, getD, set}
+
+-- the octets `bs` put into `o` one by one from the place `at` on, all else as it was
+abbrev pub splice : List ℕ → ℕ → List ℕ → List ℕ
+splice o at [] = o
+splice o at (b ∷ bs) = splice (set o at b) (at + 1) bs
+
+-- `n` elements of `l` from the place `from` on, and `d` for each that is past the end
+abbrev pub elements : {A : Type 0} → A → List A → ℕ → ℕ → List A
+elements d l from zero = []
+elements d l from (suc n) = getD l from d ∷ elements d l (from + 1) n
+
+-- `n` octets of `s` from the place `from` on
+abbrev pub part : List ℕ → ℕ → ℕ → List ℕ
+part = elements 0
+
+-- what a writer leaves: the octets `bs`, which are n, in `o` from `at` on; its answer is the place behind them
+pub record Put (o : List ℕ) (at : ℕ) (bs : List ℕ) (n : ℕ) (o′ : List ℕ) (r : ℕ) : Type 0 where
+  pub next : r ≡ at + n
+  pub size : length bs ≡ n
+  pub all : o′ ≡ splice o at bs
+
+-- what is left of a run of writes: the octets `bs`, n of them, put into `o` from `at` on give what `bs₀` give in `o₀` from `at₀` on
+pub record Left (o₀ : List ℕ) (at₀ : ℕ) (bs₀ : List ℕ) (n₀ : ℕ) (o : List ℕ) (at : ℕ) (bs : List ℕ) (n : ℕ) : Type 0 where
+  pub next : at + n ≡ at₀ + n₀
+  pub kept : length o ≡ length o₀
+  pub all : splice o at bs ≡ splice o₀ at₀ bs₀
