@@ -81,12 +81,12 @@ knownLine = do
   p ← here
   a ← integer badSection p
   cond (eqb a 0)
-    (refuse badSection p)
-    (do
-      n ← octets a badSection p
-      b ← integer badSection p
-      v ← octets b badSection p
-      tell (lineOf p n v))
+      (refuse badSection p)
+      (do
+        n ← octets a badSection p
+        b ← integer badSection p
+        v ← octets b badSection p
+        tell (lineOf p n v))
 
 -- the lines that fill the body of a known-length section exactly; a 65th is refused before it is read. The first number is above how many may come
 unfoldable pub knownLines : ℕ → List FieldRead → Reader (List FieldRead)
@@ -95,8 +95,8 @@ knownLines (suc f) fs = do
   e ← ended
   p ← here
   cond e
-    (give fs)
-    (cond (leb linesMost (length fs))
+      (give fs)
+      (cond (leb linesMost (length fs))
       (refuse tooLarge p)
       (do
         h ← knownLine
@@ -129,8 +129,8 @@ openLines (suc f) fs = do
   p ← here
   a ← integer cutOff p
   cond (eqb a 0)
-    (give fs)
-    (cond (leb linesMost (length fs))
+      (give fs)
+      (cond (leb linesMost (length fs))
       (refuse tooLarge p)
       (do
         h ← openLine p a
@@ -161,14 +161,14 @@ openChunks (suc f) cs total = do
   p ← here
   n ← integer cutOff p
   cond (eqb n 0)
-    (give cs)
-    (cond (leb chunksMost (length cs))
+      (give cs)
+      (cond (leb chunksMost (length cs))
       (refuse tooLarge p)
       (cond (ltb contentMost (total + n))
-        (refuse tooLarge p)
-        (do
-          c ← octets n cutOff p
-          openChunks f (cs ++ c ∷ []) (total + n))))
+      (refuse tooLarge p)
+      (do
+        c ← octets n cutOff p
+        openChunks f (cs ++ c ∷ []) (total + n))))
 
 -- the message may end before its content: then there is none
 unfoldable pub content : Bool → Reader (List Piece)
@@ -196,10 +196,10 @@ unfoldable pub trailers : Bool → Bool → Reader (List FieldRead)
 trailers known body = do
   e ← ended
   cond e
-    (give [])
-    (do
-      h ← section known
-      tell (trailerRule body h))
+      (give [])
+      (do
+        h ← section known
+        tell (trailerRule body h))
 
 -- zero octets may follow, to the end; any other is refused at its place
 unfoldable pub padding : ℕ → List ℕ → Got ℕ
@@ -232,12 +232,12 @@ unfoldable pub finalResponse : Bool → List InformationalRead → ℕ → Reade
 finalResponse known is n = do
   h ← section known
   cond (isBodyless n)
-    (do
-      b ← tell (nothingStated (h .end) (binaryFramingOf (h .lines)))
-      afterHeaders known false (responseStart is n) h Unstated)
-    (do
-      f ← tell (mayState (h .end) (binaryFramingOf (h .lines)))
-      afterHeaders known true (responseStart is n) h f)
+      (do
+        b ← tell (nothingStated (h .end) (binaryFramingOf (h .lines)))
+        afterHeaders known false (responseStart is n) h Unstated)
+      (do
+        f ← tell (mayState (h .end) (binaryFramingOf (h .lines)))
+        afterHeaders known true (responseStart is n) h f)
 
 -- one status after another, behind informational heads: a fifth is refused at its status, and each is judged behind its section
 unfoldable pub responseMessage : Bool → ℕ → List InformationalRead → Reader Message
@@ -247,25 +247,25 @@ responseMessage known (suc f) is = do
   v ← integer cutOff p
   n ← tell (rule (statusVerdict v) p v)
   cond (isInformational n)
-    (cond (leb informationalMost (length is))
+      (cond (leb informationalMost (length is))
       (refuse tooLarge p)
       (do
         h ← section known
         u ← tell (nothingStated (h .end) (binaryFramingOf (h .lines)))
         responseMessage known f (is ++ record { status = n; lines = h .lines } ∷ [])))
-    (finalResponse known is n)
+      (finalResponse known is n)
 
 -- the framing: 0 request, 1 response, of known length; 2 and 3 the same of indeterminate length
 unfoldable pub message : Reader Message
 message = do
   f ← integer cutOff 0
   cond (leb f 3)
-    (cond (eqb f 0)
+      (cond (eqb f 0)
       (requestMessage true)
       (cond (eqb f 1)
-        (responseMessage true (suc informationalMost) [])
-        (cond (eqb f 2) (requestMessage false) (responseMessage false (suc informationalMost) []))))
-    (refuse badFraming 0)
+      (responseMessage true (suc informationalMost) [])
+      (cond (eqb f 2) (requestMessage false) (responseMessage false (suc informationalMost) []))))
+      (refuse badFraming 0)
 
 -- the whole input is the message, padding too
 abbrev pub answerOf : Got Message → Answer Message

@@ -5,16 +5,58 @@ use Rattle.examples.specs.Computing.{computing}
 
 pub examples : Statement
 unfolding computing table hex scanPost twoLengths scanBinary figure13
-examples =
-    (refl, (refl, (refl,
-    ((refl, refl), (refl,
-    (refl, (refl,
-    ((refl, refl), ((refl, refl), (refl,
-    ((refl, refl),
-    ((refl, refl),
-    ((refl, refl),
-    ((refl, refl),
-    ((refl, refl), ((refl, refl),
-    ((refl, refl),
-    ((refl, refl),
-    tt))))))))))))))))))
+examples = (
+  refl,
+  (
+    refl,
+    (
+      refl,
+      (
+        (refl, refl),
+        (
+          refl,
+          (
+            refl,
+            (
+              refl,
+              (
+                (refl, refl),
+                (
+                  (refl, refl),
+                  (
+                    refl,
+                    (
+                      (refl, refl),
+                      (
+                        (refl, refl),
+                        (
+                          (refl, refl),
+                          (
+                            (refl, refl),
+                            (
+                              (refl, refl),
+                              (
+                                (refl, refl),
+                                (
+                                  (refl, refl),
+                                  (
+                                    (refl, refl),
+                                    tt,
+                                  ),
+                                ),
+                              ),
+                            ),
+                          ),
+                        ),
+                      ),
+                    ),
+                  ),
+                ),
+              ),
+            ),
+          ),
+        ),
+      ),
+    ),
+  ),
+)

@@ -42,8 +42,8 @@ fieldLines zero left fs = stop 0 0
 fieldLines (suc f) left fs = do
   l ← word (lineWithin left)
   cond (isEmpty (l .text))
-    (done (record { lines = fs; end = l .place + 2; left = left - 2 }))
-    (cond (leb linesMost (length fs))
+      (done (record { lines = fs; end = l .place + 2; left = left - 2 }))
+      (cond (leb linesMost (length fs))
       (stop tooLarge (l .place))
       (do
         h ← tell (fieldOf l)
@@ -82,15 +82,15 @@ chunksFrom (suc f) cs total = do
   l ← word (lineWithin chunkLineMost)
   n ← tell (chunkOf l)
   cond (eqb n 0)
-    (trailerSection cs)
-    (cond (leb chunksMost (length cs))
+      (trailerSection cs)
+      (cond (leb chunksMost (length cs))
       (stop tooLarge (l .place))
       (cond (ltb contentMost (total + n))
-        (stop tooLarge (l .place))
-        (do
-          d ← word (someOctets (n + 2))
-          c ← tell (chunkData n d)
-          chunksFrom f (cs ++ c ∷ []) (total + n))))
+      (stop tooLarge (l .place))
+      (do
+        d ← word (someOctets (n + 2))
+        c ← tell (chunkData n d)
+        chunksFrom f (cs ++ c ∷ []) (total + n))))
 
 unfoldable pub content : Body → Script Content
 content (Sized n) = do
@@ -136,15 +136,15 @@ heads (suc f) is left = do
   l ← word (lineWithin left)
   n ← tell (statusOf l)
   cond (isInformational n)
-    (cond (leb informationalMost (length is))
+      (cond (leb informationalMost (length is))
       (stop tooLarge (l .place))
       (do
         h ← section (less left l)
         u ← tell (nothingStated (h .end) (framingOf (h .lines)))
         heads f (is ++ record { status = n; lines = h .lines } ∷ []) (h .left)))
-    (do
-      h ← section (less left l)
-      afterFinal is n h)
+      (do
+        h ← section (less left l)
+        afterFinal is n h)
 
 unfoldable pub readResponse : List ℕ → Answer Message
 readResponse s = run (heads (suc informationalMost) [] headMost) 0 s

@@ -14,7 +14,11 @@ pub enum StatusLine {
 
 // A field line: how long its name is, where its value starts and how long that is.
 pub enum FieldLine {
-    Of { name: usize, value: usize, len: usize },
+    Of {
+        name: usize,
+        value: usize,
+        len: usize,
+    },
     Bad,
 }
 

@@ -57,7 +57,7 @@ rangesOf m =
       informational = padded 8 (informationalNumbers (informationalIn (m .start)));
       headers = padded 1280 (fieldsNumbers (informationalLines (informationalIn (m .start)) ++ kept (isResponse (m .start)) (m .lines)));
       trailers = padded 256 (fieldsNumbers (keptTrailers (m .trailers)));
-      chunks = padded 512 (chunksNumbers (m .chunks))
+      chunks = padded 512 (chunksNumbers (m .chunks));
     }
 
 unfoldable pub noRanges : Ranges
@@ -86,7 +86,7 @@ recordWith r scheme method authority path heads status n m =
       chunks = length (m .chunks);
       content = length (contentOf (m .chunks));
       trailers = length (keptTrailers (m .trailers));
-      length = n
+      length = n;
     }
 
 abbrev pub recordFrom : Start → ℕ → Message → Record

@@ -50,5 +50,5 @@ meaning m =
       control = controlMeans (m .start);
       headers = map fieldMeans (kept (isResponse (m .start)) (m .lines));
       content = contentOf (m .chunks);
-      trailers = map fieldMeans (keptTrailers (m .trailers))
+      trailers = map fieldMeans (keptTrailers (m .trailers));
     }

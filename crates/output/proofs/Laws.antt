@@ -26,7 +26,7 @@ module _ {A : Type 0} (d : A) where
   elements-length l from zero = refl
   elements-length l from (suc n) = ap suc (elements-length l (from + 1) n)
 
-  -- elements with one element at least: the first, and the rest
+  -- where one is left at least: the first, and the others
   pub elements-more : (l : List A) (from i n : ℕ) → i < n
       → elements d l (from + i) (n - i) ≡ getD l (from + i) d ∷ elements d l (from + (i + 1)) (n - (i + 1))
   elements-more l from i n h =
@@ -40,7 +40,7 @@ module _ {A : Type 0} (d : A) where
       let e : n - i ≡ suc (n - (i + 1)) = omega arith in
       rw e
 
-  -- elements with no element left
+  -- where none is left
   pub elements-none : (l : List A) (from i n : ℕ) → n ≤ i → elements d l from (n - i) ≡ []
   elements-none l from i n h =
       let e : n - i ≡ 0 = omega arith in

@@ -1,5 +1,5 @@
 use Rattle.numbers.specs.Digits.{charOf}
-use Rattle.numbers.proofs.Kit.{kit}
+use Rattle.octets.proofs.Kit.{kit}
 use Rattle.numbers.proofs.digit_char.Statement.{statement}
 use Rattle.numbers.proofs.digit_char.Tie as tie
 

@@ -3,7 +3,7 @@ use mathlib.Core.Path.{_≡_}
 use native.Mathlib.Omega.{arith}
 use Rattle.numbers.specs.Digits.{countOf, moreOf}
 use Rattle.numbers.proofs.Counting.{count-start, count-stop, count-more, count-done}
-use Rattle.numbers.proofs.Kit.{kit}
+use Rattle.octets.proofs.Kit.{kit}
 use Rattle.numbers.proofs.digit_count.Statement.{statement}
 use Rattle.numbers.proofs.digit_count.Tie as tie
 

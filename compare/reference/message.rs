@@ -1,0 +1,123 @@
+//! A message as a reader hands it out: its length and ranges into the input; and "Fields that do not travel".
+
+#[derive(Clone, Copy, PartialEq, Eq, Debug)]
+pub struct Span {
+    pub start: usize,
+    pub len: usize,
+}
+
+impl Span {
+    pub fn new(start: usize, end: usize) -> Span {
+        Span { start, len: end - start }
+    }
+    pub fn of<'a>(&self, input: &'a [u8]) -> &'a [u8] {
+        &input[self.start..self.start + self.len]
+    }
+}
+
+/// A field line that has been judged: where the line starts, its name's and its value's range.
+#[derive(Clone, Debug)]
+pub struct Field {
+    pub line: usize,
+    pub name: Span,
+    pub value: Span,
+    /// The name in lower case.
+    pub lower: Vec<u8>,
+}
+
+impl Field {
+    pub fn is(&self, name: &str) -> bool {
+        self.lower == name.as_bytes()
+    }
+}
+
+pub fn all_named<'a>(fields: &'a [Field], name: &str) -> Vec<&'a Field> {
+    fields.iter().filter(|f| f.is(name)).collect()
+}
+
+#[derive(Clone, Copy, PartialEq, Eq, Debug)]
+pub enum Scheme {
+    Http,
+    Https,
+}
+
+impl Scheme {
+    pub fn text(&self) -> &'static str {
+        match self {
+            Scheme::Http => "http",
+            Scheme::Https => "https",
+        }
+    }
+}
+
+#[derive(Clone, Debug)]
+pub struct Informational {
+    pub status: u64,
+    /// Kept fields only.
+    pub fields: Vec<Field>,
+}
+
+#[derive(Clone, Debug)]
+pub enum Control {
+    Request { method: Span, scheme: Scheme, authority: Span, path: Span },
+    Response { informational: Vec<Informational>, status: u64 },
+}
+
+#[derive(Clone, Debug)]
+pub struct Message {
+    pub length: usize,
+    pub control: Control,
+    /// Kept fields only.
+    pub headers: Vec<Field>,
+    /// The non-empty chunks of the content.
+    pub chunks: Vec<Span>,
+    /// Kept fields only.
+    pub trailers: Vec<Field>,
+}
+
+impl Message {
+    pub fn content_length(&self) -> usize {
+        self.chunks.iter().map(|c| c.len).sum()
+    }
+    pub fn content(&self, input: &[u8]) -> Vec<u8> {
+        let mut all = Vec::new();
+        for chunk in &self.chunks {
+            all.extend_from_slice(chunk.of(input));
+        }
+        all
+    }
+}
+
+/// "In both forms these are dropped after they are judged: connection, keep-alive, proxy-connection, te,
+/// transfer-encoding, upgrade, content-length, and host in requests."
+pub fn keep_headers(fields: Vec<Field>, request: bool) -> Vec<Field> {
+    let dropped = [
+        "connection",
+        "keep-alive",
+        "proxy-connection",
+        "te",
+        "transfer-encoding",
+        "upgrade",
+        "content-length",
+    ];
+    fields
+        .into_iter()
+        .filter(|f| !dropped.iter().any(|name| f.is(name)) && !(request && f.is("host")))
+        .collect()
+}
+
+/// "In trailers content-length, transfer-encoding and host are refused".
+pub fn has_refused_trailer(fields: &[Field]) -> bool {
+    fields.iter().any(|f| f.is("content-length") || f.is("transfer-encoding") || f.is("host"))
+}
+
+/// "the others named are dropped": connection, keep-alive, proxy-connection, te, upgrade.
+pub fn keep_trailers(fields: Vec<Field>) -> Vec<Field> {
+    let dropped = ["connection", "keep-alive", "proxy-connection", "te", "upgrade"];
+    fields.into_iter().filter(|f| !dropped.iter().any(|name| f.is(name))).collect()
+}
+
+/// "the first kept header value of that name (of the final head in a response)".
+pub fn first_header(message: &Message, name: &[u8]) -> Option<Span> {
+    message.headers.iter().find(|f| f.lower == name).map(|f| f.value)
+}

@@ -1,0 +1,14 @@
+//! The independent second program: the law of document 01, written out plainly.
+//!
+//! Written from the papers alone (documents 00, 01, the readings, and RFC 9112 / RFC 9292 where 01
+//! points to them). Nothing here was taken from, or looked up in, the Rattle crates.
+//! The words in quotation marks are 01's; `R7` is point 7 of the readings.
+
+#![allow(dead_code)]
+
+pub mod binary;
+pub mod figures;
+pub mod http1;
+pub mod message;
+pub mod octets;
+pub mod writing;

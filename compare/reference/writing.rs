@@ -1,0 +1,230 @@
+//! "How we write", and turning one form into the other.
+
+use super::binary;
+use super::http1;
+use super::message::*;
+use super::octets::*;
+
+/// "shortest integers"
+pub fn push_integer(out: &mut Vec<u8>, value: u64) {
+    if value < 1 << 6 {
+        out.push(value as u8);
+    } else if value < 1 << 14 {
+        out.extend_from_slice(&((value as u16) | 0x4000).to_be_bytes());
+    } else if value < 1 << 30 {
+        out.extend_from_slice(&((value as u32) | 0x8000_0000).to_be_bytes());
+    } else {
+        out.extend_from_slice(&(value | 0xc000_0000_0000_0000).to_be_bytes());
+    }
+}
+
+fn push_string(out: &mut Vec<u8>, bytes: &[u8]) {
+    push_integer(out, bytes.len() as u64);
+    out.extend_from_slice(bytes);
+}
+
+fn push_section(out: &mut Vec<u8>, input: &[u8], fields: &[Field]) {
+    let mut lines = Vec::new();
+    for field in fields {
+        push_string(&mut lines, &field.lower);
+        push_string(&mut lines, field.value.of(input));
+    }
+    push_string(out, &lines);
+}
+
+/// "Binary: known length, shortest integers, all three sections present, no padding."
+pub fn as_binary(input: &[u8], message: &Message) -> Result<Vec<u8>, Refusal> {
+    let mut out = Vec::new();
+    match &message.control {
+        Control::Request { method, scheme, authority, path } => {
+            push_integer(&mut out, 0);
+            push_string(&mut out, method.of(input));
+            push_string(&mut out, scheme.text().as_bytes());
+            push_string(&mut out, authority.of(input));
+            push_string(&mut out, path.of(input));
+        }
+        Control::Response { informational, status } => {
+            push_integer(&mut out, 1);
+            for head in informational {
+                push_integer(&mut out, head.status);
+                push_section(&mut out, input, &head.fields);
+            }
+            push_integer(&mut out, *status);
+        }
+    }
+    push_section(&mut out, input, &message.headers);
+    push_string(&mut out, &message.content(input));
+    push_section(&mut out, input, &message.trailers);
+    // "8 at 0 (... or Binary above 65,535 bytes)"
+    if out.len() > BINARY_MOST {
+        return refuse(SIZE, 0);
+    }
+    Ok(out)
+}
+
+/// "Lines are `name: value`."
+fn push_lines(out: &mut Vec<u8>, input: &[u8], fields: &[Field]) {
+    for field in fields {
+        out.extend_from_slice(&field.lower);
+        out.extend_from_slice(b": ");
+        out.extend_from_slice(field.value.of(input));
+        out.extend_from_slice(b"\r\n");
+    }
+}
+
+/// HTTP/1.1 as we write it.
+pub fn as_http1(input: &[u8], message: &Message) -> Result<Vec<u8>, Refusal> {
+    let content = message.content(input);
+    // "Kept trailers: `transfer-encoding: chunked` ... Else `content-length` in plain decimal, save in requests with
+    // empty content, 204, 304 and informational heads."
+    let chunked = !message.trailers.is_empty();
+    let without_length = match &message.control {
+        Control::Request { .. } => content.is_empty(),
+        Control::Response { status, .. } => *status == 204 || *status == 304,
+    };
+    let length_line = if chunked {
+        Some("transfer-encoding: chunked\r\n".to_string())
+    } else if without_length {
+        None
+    } else {
+        Some(format!("content-length: {}\r\n", content.len()))
+    };
+
+    let mut heads = Vec::new();
+    let mut too_many = false;
+    let mut lines = 0; // of the final head
+    match &message.control {
+        Control::Request { method, authority, path, .. } => {
+            // "request line, `host`, length line, fields, empty line, body"
+            heads.extend_from_slice(method.of(input));
+            heads.push(SP);
+            heads.extend_from_slice(path.of(input));
+            heads.extend_from_slice(b" HTTP/1.1\r\nhost: ");
+            heads.extend_from_slice(authority.of(input));
+            heads.extend_from_slice(b"\r\n");
+            lines += 1;
+        }
+        Control::Response { informational, status } => {
+            // "each informational head, then the final head in the same way, host not added; the reason is empty, its
+            // space stays"
+            for head in informational {
+                heads.extend_from_slice(format!("HTTP/1.1 {} \r\n", head.status).as_bytes());
+                push_lines(&mut heads, input, &head.fields);
+                heads.extend_from_slice(b"\r\n");
+                too_many |= head.fields.len() > LINES_MOST;
+            }
+            heads.extend_from_slice(format!("HTTP/1.1 {} \r\n", status).as_bytes());
+        }
+    }
+    if let Some(line) = &length_line {
+        heads.extend_from_slice(line.as_bytes());
+        lines += 1;
+    }
+    push_lines(&mut heads, input, &message.headers);
+    lines += message.headers.len();
+    heads.extend_from_slice(b"\r\n");
+    too_many |= lines > LINES_MOST;
+
+    let mut trailer_part = Vec::new();
+    if chunked {
+        push_lines(&mut trailer_part, input, &message.trailers);
+        trailer_part.extend_from_slice(b"\r\n");
+        too_many |= message.trailers.len() > LINES_MOST;
+    }
+
+    // "8 at 0 (written heads, trailers or lines too many ...)"
+    if too_many || heads.len() > HEADS_MOST || trailer_part.len() > TRAILER_PART_MOST {
+        return refuse(SIZE, 0);
+    }
+
+    let mut out = heads;
+    if chunked {
+        // "one chunk with the content (none if empty), lower-case hex without leading zeros"
+        if !content.is_empty() {
+            out.extend_from_slice(format!("{:x}\r\n", content.len()).as_bytes());
+            out.extend_from_slice(&content);
+            out.extend_from_slice(b"\r\n");
+        }
+        out.extend_from_slice(b"0\r\n");
+        out.extend_from_slice(&trailer_part);
+    } else {
+        out.extend_from_slice(&content);
+    }
+    Ok(out)
+}
+
+fn into_room(out: Vec<u8>, room: u128) -> Result<Vec<u8>, Refusal> {
+    if out.len() as u128 > room {
+        return refuse(ROOM, 0);
+    }
+    Ok(out)
+}
+
+// "Writing: the reader's refusal, 14, 8 at 0, 13."
+
+pub fn http1_request_to_binary(input: &[u8], scheme: Option<Scheme>, room: u128) -> Result<Vec<u8>, Refusal> {
+    let message = http1::read_request(input, scheme)?;
+    into_room(as_binary(input, &message)?, room)
+}
+
+pub fn http1_response_to_binary(input: &[u8], room: u128) -> Result<Vec<u8>, Refusal> {
+    let message = http1::read_response(input)?;
+    into_room(as_binary(input, &message)?, room)
+}
+
+pub fn binary_to_http1(input: &[u8], connection: Option<Scheme>, room: u128) -> Result<Vec<u8>, Refusal> {
+    // "any call told another number is 4 at 0, first"
+    let connection = match connection {
+        Some(scheme) => scheme,
+        None => return refuse(UNSUPPORTED, 0),
+    };
+    let message = binary::read(input)?;
+    // "request's scheme is not the connection's": 14 at 0; never for a response (R26).
+    if let Control::Request { scheme, .. } = &message.control {
+        if *scheme != connection {
+            return refuse(OTHER_SCHEME, 0);
+        }
+    }
+    into_room(as_http1(input, &message)?, room)
+}
+
+pub fn binary_to_binary(input: &[u8], room: u128) -> Result<Vec<u8>, Refusal> {
+    let message = binary::read(input)?;
+    into_room(as_binary(input, &message)?, room)
+}
+
+/// The listing program's print for a request stream under http.
+pub fn listing(stream: &[u8]) -> String {
+    let mut text = String::from("message start length fields content trailers\n");
+    // "Above 65,536 bytes of input it prints the header and `end 65536 8`."
+    if stream.len() > LISTING_MOST {
+        text.push_str("end 65536 8\n");
+        return text;
+    }
+    let mut start = 0;
+    let mut count = 0;
+    // "`end` gives the stop's place in the stream and the refusal, or 0 when no byte is left."
+    while start < stream.len() {
+        match http1::read_request(&stream[start..], Some(Scheme::Http)) {
+            Ok(message) => {
+                count += 1;
+                text.push_str(&format!(
+                    "{} {} {} {} {} {}\n",
+                    count,
+                    start,
+                    message.length,
+                    message.headers.len(),
+                    message.content_length(),
+                    message.trailers.len()
+                ));
+                start += message.length;
+            }
+            Err(refusal) => {
+                text.push_str(&format!("end {} {}\n", start + refusal.place, refusal.number));
+                return text;
+            }
+        }
+    }
+    text.push_str(&format!("end {} 0\n", start));
+    text
+}

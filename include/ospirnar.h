@@ -1,0 +1,58 @@
+/* Ospirnar: the HTTP message layer, proved in Rattle. Link with libcapi.a (rt staticlib capi).
+ *
+ * Slices. A slice is a pointer and a number of elements. The pointer is not null and is aligned for its element, also where the slice is empty
+ * (any such pointer serves then). Nothing lent for writing overlaps anything else that is lent to the same call. The caller owns all that it lends; no
+ * call keeps a pointer.
+ *
+ * Answers. A call returns a number: 0 accepted, 1 more octets are needed, 2 and above a refusal (document 01, "Numbers a call answers with").
+ * *place is always written: the message's length where it is accepted, the input's length for 1, the refusal's place otherwise. A refusal and a call
+ * for more alter none of the other lent elements.
+ *
+ * Ranges. An accepted message is described by numbers in `ranges`; only those in use are written, all behind them stays as it was. Where they do not fit
+ * the answer is 13 at 0. OSPIRNAR_RANGES_MOST elements are always enough. A part is its start in the input and its length; a field is the
+ * part of its name and the part of its value. Only fields that travel are named.
+ *
+ *   ranges[0]        0 request, 1 response
+ *   ranges[1]        scheme of a request: 0 http, 1 https; 0 in a response
+ *   ranges[2..4]     method       (start, length; 0 and 0 in a response)
+ *   ranges[4..6]     authority
+ *   ranges[6..8]     path
+ *   ranges[8]        status of a response; 0 in a request
+ *   ranges[9]        informational heads: I
+ *   ranges[10]       header fields of the (final) head: H
+ *   ranges[11]       non-empty content chunks: C
+ *   ranges[12]       octets of content
+ *   ranges[13]       trailer fields: T
+ *   ranges[14..22]   status and number of fields of each informational head; 0 for those that are not there
+ *   then             4 numbers for each field of the informational heads, in order,
+ *                    4 numbers for each of the H header fields,
+ *                    2 numbers for each of the C chunks,
+ *                    4 numbers for each of the T trailer fields.
+ */
+#ifndef OSPIRNAR_H
+#define OSPIRNAR_H
+
+#include <stddef.h>
+#include <stdint.h>
+
+#ifdef __cplusplus
+extern "C" {
+#endif
+
+#define OSPIRNAR_RANGES_MOST 2070
+
+/* The first HTTP/1.1 request of a stream, under the scheme told (0 http, 1 https; another number is 4 at 0). */
+uint32_t ospirnar_read_request(const uint8_t *input, size_t input_len, uint32_t scheme, uint32_t *ranges, size_t ranges_len, size_t *place);
+
+/* The first HTTP/1.1 response of a stream. */
+uint32_t ospirnar_read_response(const uint8_t *input, size_t input_len, uint32_t *ranges, size_t ranges_len, size_t *place);
+
+/* The listing of an HTTP/1.1 request stream under http, as the listing program prints it, into `output`; *place is its length. 13 at 0 where it
+ * does not fit; nothing else is refused. */
+uint32_t ospirnar_listing(const uint8_t *input, size_t input_len, uint8_t *output, size_t output_len, size_t *place);
+
+#ifdef __cplusplus
+}
+#endif
+
+#endif
