@@ -39,3 +39,13 @@ afterAt (wrong number place) k o = o
 pub record ServedAt (y : Reply) (k : ℕ) (o o′ : List ℕ) (r : Written) : Type 0 where
   pub answer : r ≡ answerOf y (length o - k)
   pub after : o′ ≡ afterAt y k o
+
+-- 01's number for each case of a writer's answer
+abbrev pub writtenNumber : Written → ℕ
+writtenNumber (Done n) = 0
+writtenNumber (Refused number place) = number
+
+-- the length written, or the refusal's place
+abbrev pub writtenPlace : Written → ℕ
+writtenPlace (Done n) = n
+writtenPlace (Refused number place) = place

@@ -3,38 +3,46 @@ use Prim.Native.Nat.{ℕ}
 use mathlib.Core.Bool.{Bool, true, false, cond}
 use mathlib.Core.Option.{Option, none, some}
 use mathlib.Core.List.{List, [], _∷_, map}
-use lib.ListN.{length, take, drop}
-use Rattle.octets.specs.Refusals.{moreNeeded, notSupported}
+use lib.ListN.{length}
+use Rattle.octets.specs.Refusals.{moreNeeded}
 use Rattle.octets.specs.Text.{lowerOf, sameText}
 use Rattle.script.specs.Script.{Answer, accepted, refused, more}
 use Rattle.script.specs.Do.{Piece}
 use Rattle.messages.specs.Told.{Told}
 use Rattle.messages.specs.Message.{FieldRead, isResponse, Message}
 use Rattle.messages.specs.Names.{kept}
+use Rattle.http1.specs.Read.{readRequest, readResponse}
+use Rattle.binary.specs.Read.{readBinary}
 
 -- the first value of the name. Names of fields are compared in lower case, so a name that is not in lower case finds nothing
 unfoldable pub firstOf : List ℕ → List FieldRead → Option Piece
 firstOf name [] = none
 firstOf name (f ∷ fs) = cond (sameText (map lowerOf (f .name .text)) name) (some (f .value)) (firstOf name fs)
 
--- what is found in a reader's answer: a refused message and a call for more have nothing
-abbrev pub foundIn : List ℕ → Answer Message → Option Piece
-foundIn name (accepted n m) = firstOf name (kept (isResponse (m .start)) (m .lines))
-foundIn name (refused k p) = none
-foundIn name more = none
+-- an answer: the found part, or nothing for the whole default; the lent number and place
+pub record Question : Type 0 where
+  pub found : Option Piece
+  pub number : ℕ
+  pub place : ℕ
 
--- the octets answered with
+-- from a reader's answer on an input of n octets: an accepted message gives 0 and 0, a refused one and a cut one their number and place
+-- and the whole default
+abbrev pub questionOf : List ℕ → ℕ → Answer Message → Question
+questionOf name n (accepted k m) = record { found = firstOf name (kept (isResponse (m .start)) (m .lines)); number = 0; place = 0 }
+questionOf name n (refused k p) = record { found = none; number = k; place = p }
+questionOf name n more = record { found = none; number = moreNeeded; place = n }
+
+-- the octets answered with: the found part's, or the default's
 abbrev pub valueOr : List ℕ → Option Piece → List ℕ
-valueOr given none = given
-valueOr given (some w) = w .text
+valueOr default none = default
+valueOr default (some w) = w .text
 
--- the lent number and place: the message's refusal, or 0 and 0
-abbrev pub questionNumber : Answer Message → ℕ
-questionNumber (accepted n m) = 0
-questionNumber (refused k p) = k
-questionNumber more = moreNeeded
+-- the question to each reader
+unfoldable pub requestQuestion : Told → List ℕ → List ℕ → Question
+requestQuestion t name s = questionOf name (length s) (readRequest t s)
 
-abbrev pub questionPlace : ℕ → Answer Message → ℕ
-questionPlace n (accepted k m) = 0
-questionPlace n (refused k p) = p
-questionPlace n more = n
+unfoldable pub responseQuestion : List ℕ → List ℕ → Question
+responseQuestion name s = questionOf name (length s) (readResponse s)
+
+unfoldable pub binaryQuestion : List ℕ → List ℕ → Question
+binaryQuestion name s = questionOf name (length s) (readBinary s)

@@ -16,12 +16,13 @@ use Rattle.write_binary.specs.Write.{binaryOf, binaryFits}
 use Rattle.write_http1.specs.Write.{http1Of, http1Fits}
 use Rattle.output.specs.Reply.{Reply, octets, wrong}
 
--- what is written of a reader's answer on an input of n octets: the reader's refusal goes first. Room is the writer's last refusal (Reply)
+-- what is written of a reader's answer on an input of n octets: the reader's refusal goes first. Room is the writer's last refusal (output/specs/Reply)
 abbrev pub replyTo : ℕ → Answer Message → (Meaning → Reply) → Reply
 replyTo n (accepted k m) write = write (meaning m)
 replyTo n (refused k p) write = wrong k p
 replyTo n more write = wrong moreNeeded n
 
+-- a meaning as Binary, or 8 at 0 where that is above the size of a Binary input
 unfoldable pub toBinary : Meaning → Reply
 toBinary m = cond (binaryFits m) (octets (binaryOf m)) (wrong tooLarge 0)
 
@@ -30,8 +31,11 @@ abbrev pub onConnection : Told → Control → Bool
 onConnection t (request m s a p) = eqb s (t .scheme)
 onConnection t (response hs s) = true
 
+-- a meaning as HTTP/1.1 on the connection: 14, then 8 at 0 where a written size is passed
 unfoldable pub toHttp1 : Told → Meaning → Reply
 toHttp1 t m = cond (onConnection t (m .control)) (cond (http1Fits m) (octets (http1Of m)) (wrong tooLarge 0)) (wrong otherScheme 0)
+
+-- ---- the four turnings of an input
 
 unfoldable pub requestToBinary : Told → List ℕ → Reply
 requestToBinary t s = replyTo (length s) (readRequest t s) toBinary
