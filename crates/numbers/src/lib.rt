@@ -92,7 +92,7 @@ pub fn int_tag(v: usize) -> usize
 }
 
 // The value of a hexadecimal digit, and 255 of any other octet.
-fn digit(b: u8) -> usize
+pub fn digit(b: u8) -> usize
     ensures { λ r. ⌜ r ≡ digitOf b ⌝ }
 {
     if b < 48 {
