@@ -1,4 +1,5 @@
 // Reading HTTP/1.1.
+pub mod lines;
 
 // A request line: how long its method and its path are, or the number of its refusal.
 pub enum RequestLine {

@@ -3,6 +3,7 @@ pub mod Message
 pub mod Control
 pub mod Names
 pub mod Rules
+pub mod Notes
 pub mod Meaning
 pub mod Valid
 pub mod Answers

@@ -1,4 +1,6 @@
-// What the readers answer with.
+// What both forms judge alike: kinds of names, single parts, what the lines of a section state; and what the readers answer with.
+pub mod parts; // parts.rt: names and single parts
+pub mod sections; // sections.rt: what the lines of a section state
 
 // So many octets of the input from a place on.
 pub struct Part {
@@ -24,10 +26,37 @@ pub enum Framing {
     Clashing,
 }
 
+// The host lines of a section: none, one with the place and length of its value, or more.
+pub enum Hosts {
+    Nothing,
+    One { start: usize, len: usize },
+    Several,
+}
+
+// What is noted of the lines of a section while they are read: its host lines, what it states of the content's length, and whether it may be a
+// trailer section.
+pub struct Notes {
+    pub hosts: Hosts,
+    pub framing: Framing,
+    pub trailers: bool,
+}
+
+// Where the authority of a request stands, or that the host rule is broken.
+pub enum Authority {
+    Found { start: usize, len: usize },
+    Wrong,
+}
+
 // How the content of an HTTP/1.1 message is read: so many octets, or in chunks.
 pub enum Body {
     Sized(usize),
     InChunks,
+}
+
+// How the content is read, or a refusal with its number and place.
+pub enum BodyAnswer {
+    Read(Body),
+    Refused { number: u32, place: usize },
 }
 
 // The numbers of an accepted message. A request has scheme, method, authority and path; a response has informational heads and a status.

@@ -1,0 +1,7 @@
+pub mod Judgement
+pub mod Parts
+pub mod Lines
+pub mod Keeping
+pub mod Messages
+pub mod Back
+pub mod Samples

@@ -1,0 +1,1 @@
+// The round trip of Binary HTTP: definitions and laws, no code.

@@ -1,0 +1,4 @@
+pub mod Judges
+pub mod Parts
+pub mod Views
+pub mod Back

@@ -1,0 +1,235 @@
+// The judges of single lines, without their CR LF.
+ghost use mathlib.Core.Path.{_≡_};
+ghost use Prim.Native.Nat.{_+_, _≤_, _<_};
+ghost use lib.ListN.{length, drop};
+ghost use Rattle.octets.specs.Table.{classes};
+ghost use Rattle.octets.specs.Class.{hasClass, value};
+ghost use Rattle.octets.specs.Text.{spanLen, all};
+ghost use Rattle.numbers.specs.Digits.{digitOf};
+ghost use Rattle.http1.specs.Lines.{isOther, valueIn, fieldLens, chunkLens};
+ghost use Rattle.http1.specs.Lines.{statusAt, statusVersion, isStatusShape, statusLens};
+ghost use Rattle.http1.specs.Lines.{requestParts, requestVersion, requestLens};
+use super::ChunkLine;
+use super::FieldLine;
+use super::RequestLine;
+use super::StatusLine;
+use messages::parts::method_verdict;
+use messages::parts::path_verdict;
+use messages::parts::status_verdict;
+use numbers::Number;
+use numbers::digit;
+use numbers::hexadecimal;
+use octets::Refusals;
+use octets::all_of;
+use octets::blank_end;
+use octets::equal;
+use octets::span;
+use octets::trim_len;
+
+// The place of the first d from `from` on, or the end.
+fn find(s: &[u8], from: usize, d: u8) -> usize
+    requires { ⌜ from ≤ length (now s) ⌝ }
+    ensures { λ r. ⌜ (r ≡ from + spanLen (isOther d) (drop from (now (s .entry)))) × (r ≤ length (now (s .entry))) ⌝ }
+{
+    let mut i = from;
+    while i < s.len() {
+        if s[i] == d {
+            return i;
+        }
+        i += 1;
+    }
+    i
+}
+
+// Whether all octets from `from` on are those of a value.
+fn is_value_from(t: &[u8; 256], w: &[u8], from: usize) -> bool
+    requires { ⌜ now t ≡ classes ⌝ }
+    ensures { λ r. ⌜ r ≡ all (hasClass value) (drop from (now (w .entry))) ⌝ }
+{
+    if w.len() <= from {
+        return true;
+    }
+    all_of(t, &w[from..], 2)
+}
+
+// The value of the field whose name has `name` octets, from `from` on.
+fn value_in(t: &[u8; 256], w: &[u8], name: usize, from: usize) -> FieldLine
+    requires { ⌜ (now t ≡ classes) × (from ≤ length (now w)) ⌝ }
+    ensures { λ r. ⌜ r ≡ valueIn (now (w .entry)) name from ⌝ }
+{
+    if span(t, w, from, 2) == w.len() {
+        let b = blank_end(w, from);
+        let len = trim_len(&w[b..]);
+        return FieldLine::Of {
+            name: name,
+            value: b,
+            len: len,
+        };
+    }
+    FieldLine::Bad
+}
+
+pub fn field_line(t: &[u8; 256], w: &[u8]) -> FieldLine
+    requires { ⌜ now t ≡ classes ⌝ }
+    ensures { λ r. ⌜ r ≡ fieldLens (now (w .entry)) ⌝ }
+{
+    let n = span(t, w, 0, 1);
+    if n == 0 {
+        return FieldLine::Bad;
+    }
+    if w.len() <= n {
+        return FieldLine::Bad;
+    }
+    if w[n] == 58 {
+        return value_in(t, w, n, n + 1);
+    }
+    FieldLine::Bad
+}
+
+pub fn chunk_line(t: &[u8; 256], w: &[u8]) -> ChunkLine
+    requires { ⌜ now t ≡ classes ⌝ }
+    ensures { λ r. ⌜ r ≡ chunkLens (now (w .entry)) ⌝ }
+{
+    let h = find(w, 0, 59);
+    let size = hexadecimal(&w[..h]);
+    match size {
+        Number::Is(n) => {
+            if is_value_from(t, w, h + 1) {
+                return ChunkLine::Of { size: n };
+            } else {
+                return ChunkLine::Bad;
+            }
+        }
+        Number::Not => return ChunkLine::Bad,
+    }
+}
+
+fn digit_value(b: u8) -> usize
+    ensures { λ r. ⌜ (r ≡ digitOf b) × (r ≤ 255) ⌝ }
+{
+    digit(b)
+}
+
+// The value of three digits from d on.
+fn status_at(w: &[u8], d: usize) -> usize
+    requires { ⌜ d + 3 ≤ length (now w) ⌝ }
+    ensures { λ r. ⌜ (r ≡ statusAt (now (w .entry)) d) × (r ≤ 28305) ⌝ }
+{
+    let a = digit_value(w[d]);
+    let b = digit_value(w[d + 1]);
+    let c = digit_value(w[d + 2]);
+    a * 100 + b * 10 + c
+}
+
+// The version and the status, around the first space at v.
+fn status_version(w: &[u8], v: usize) -> StatusLine
+    requires { ⌜ v + 5 ≤ length (now w) ⌝ }
+    ensures { λ r. ⌜ r ≡ statusVersion (now (w .entry)) v ⌝ }
+{
+    if equal(&w[..v], b"HTTP/1.1") {
+        let n = status_at(w, v + 1);
+        let verdict = status_verdict(n);
+        if verdict == 0 {
+            return StatusLine::Of { status: n as u32 };
+        }
+        return StatusLine::Bad { number: verdict };
+    } else {
+        return StatusLine::Bad {
+            number: Refusals::BAD_VERSION,
+        };
+    }
+}
+
+// Whether three digits, a space and a reason stand behind the first space at v.
+fn is_status_shape(t: &[u8; 256], w: &[u8], v: usize) -> bool
+    requires { ⌜ (now t ≡ classes) × (v ≤ length (now w)) ⌝ }
+    ensures { λ r. ⌜ r ≡ isStatusShape (now (w .entry)) v ⌝ }
+{
+    if w.len() < v + 5 {
+        return false;
+    }
+    if 10 <= digit(w[v + 1]) {
+        return false;
+    }
+    if 10 <= digit(w[v + 2]) {
+        return false;
+    }
+    if 10 <= digit(w[v + 3]) {
+        return false;
+    }
+    if w[v + 4] == 32 {
+        return is_value_from(t, w, v + 5);
+    }
+    false
+}
+
+pub fn status_line(t: &[u8; 256], w: &[u8]) -> StatusLine
+    requires { ⌜ now t ≡ classes ⌝ }
+    ensures { λ r. ⌜ r ≡ statusLens (now (w .entry)) ⌝ }
+{
+    let v = find(w, 0, 32);
+    if is_status_shape(t, w, v) {
+        return status_version(w, v);
+    } else {
+        return StatusLine::Bad {
+            number: Refusals::BAD_SYNTAX,
+        };
+    }
+}
+
+// Method and path, of so many octets.
+fn request_parts(t: &[u8; 256], w: &[u8], m: usize, p: usize) -> RequestLine
+    requires { ⌜ (now t ≡ classes) × (m + 1 + p ≤ length (now w)) ⌝ }
+    ensures { λ r. ⌜ r ≡ requestParts (now (w .entry)) m p ⌝ }
+{
+    let first = method_verdict(t, &w[..m]);
+    if first == 0 {
+        let a = m + 1;
+        let e = a + p;
+        let second = path_verdict(t, &w[a..e]);
+        if second == 0 {
+            return RequestLine::Of { method: m, path: p };
+        }
+        return RequestLine::Bad { number: second };
+    }
+    RequestLine::Bad { number: first }
+}
+
+// What stands behind the second space, at e; then method and path.
+fn request_version(t: &[u8; 256], w: &[u8], m: usize, e: usize) -> RequestLine
+    requires { ⌜ (now t ≡ classes) × (m < e) × (e < length (now w)) ⌝ }
+    ensures { λ r. ⌜ r ≡ requestVersion (now (w .entry)) m e ⌝ }
+{
+    let v = e + 1;
+    if find(w, v, 32) == w.len() {
+        if equal(&w[v..], b"HTTP/1.1") {
+            return request_parts(t, w, m, e - (m + 1));
+        } else {
+            return RequestLine::Bad {
+                number: Refusals::BAD_VERSION,
+            };
+        }
+    }
+    RequestLine::Bad {
+        number: Refusals::BAD_SYNTAX,
+    }
+}
+
+pub fn request_line(t: &[u8; 256], w: &[u8]) -> RequestLine
+    requires { ⌜ now t ≡ classes ⌝ }
+    ensures { λ r. ⌜ r ≡ requestLens (now (w .entry)) ⌝ }
+{
+    let m = find(w, 0, 32);
+    if w.len() <= m {
+        return RequestLine::Bad {
+            number: Refusals::BAD_SYNTAX,
+        };
+    }
+    let e = find(w, m + 1, 32);
+    if w.len() <= e {
+        return RequestLine::Bad {
+            number: Refusals::BAD_SYNTAX,
+        };
+    }
+    request_version(t, w, m, e)
+}

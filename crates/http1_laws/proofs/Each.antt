@@ -1,0 +1,74 @@
+-- What holds of each of a list, and of each part of a message.
+use Prim.Native.Nat.{ℕ, _+_}
+use mathlib.Core.Path.{_≡_, refl, _∙_}
+use mathlib.Core.Bool.{Bool, true, false, cond}
+use mathlib.Core.List.{List, [], _∷_, _++_}
+use native.Mathlib.Omega.{arith}
+use lib.ListN.{length, length-append}
+use Rattle.script.specs.Do.{Piece}
+use Rattle.script.proofs.Places.{lies-in}
+use Rattle.messages.specs.Message.{FieldRead, InformationalRead, Start, requestStart, responseStart, Message}
+use Rattle.messages.specs.Names.{lineKind, travels, kept}
+use Rattle.messages.specs.Meaning.{contentOf}
+use Rattle.http1_laws.specs.Placed.{Each, OfLine, OfStart, OfParts, Lying, Inside, Placed}
+use Rattle.http1_laws.specs.Sound.{lengths}
+
+module _ {A : Type 0} (P : A → Type 0) where
+  pub each-snoc : (xs : List A) (x : A) → Each P xs → P x → Each P (xs ++ x ∷ [])
+  each-snoc [] x h g = (g, tt)
+  each-snoc (y ∷ xs) x h g = (h .0, each-snoc xs x (h .1) g)
+
+  pub each-map : (Q : A → Type 0) → ((x : A) → P x → Q x) → (xs : List A) → Each P xs → Each Q xs
+  each-map Q f [] h = tt
+  each-map Q f (x ∷ xs) h = (f x (h .0), each-map Q f xs (h .1))
+
+-- what holds of each line holds of each line that travels
+pub each-kept : (P : FieldRead → Type 0) (host : Bool) (fs : List FieldRead) → Each P fs → Each P (kept host fs)
+unfolding kept
+each-kept P host [] h = tt
+each-kept P host (f ∷ fs) h = go (travels host (lineKind f)) (each-kept P host fs (h .1))
+  where
+    go : (b : Bool) → Each P (kept host fs) → Each P (cond b (f ∷ kept host fs) (kept host fs))
+    go true ih = (h .0, ih)
+    go false ih = ih
+
+module _ (P Q : Piece → Type 0) (f : (p : Piece) → P p → Q p) where
+  pub line-map : (x : FieldRead) → OfLine P x → OfLine Q x
+  line-map x h = record { name = f (x .name) (h .name); value = f (x .value) (h .value) }
+
+  pub lines-map : (fs : List FieldRead) → Each (OfLine P) fs → Each (OfLine Q) fs
+  lines-map = each-map (OfLine P) (OfLine Q) line-map
+
+  start-map : (x : Start) → OfStart P x → OfStart Q x
+  start-map (requestStart method s authority path) h = (f method (h .0), f authority (h .1), f path (h .2))
+  start-map (responseStart hs s) h =
+      each-map (λ (x : InformationalRead). Each (OfLine P) (x .lines)) (λ (x : InformationalRead). Each (OfLine Q) (x .lines)) (λ x. lines-map (x .lines)) hs h
+
+  pub parts-map : (m : Message) → OfParts P m → OfParts Q m
+  parts-map m h = record {
+    start = start-map (m .start) (h .start);
+    lines = lines-map (m .lines) (h .lines);
+    chunks = each-map P Q f (m .chunks) (h .chunks);
+    trailers = lines-map (m .trailers) (h .trailers);
+  }
+
+-- what lies in the input is within it
+pub lying-inside : (s : List ℕ) (p : Piece) → Lying s p → Inside (length s) p
+lying-inside s p h = lies-in h
+
+pub placed-inside : (s : List ℕ) (m : Message) → Placed s m → OfParts (Inside (length s)) m
+placed-inside s m h = parts-map (Lying s) (Inside (length s)) (lying-inside s) m h
+
+-- ---- content
+
+pub content-snoc : (cs : List Piece) (c : Piece) → length (contentOf (cs ++ c ∷ [])) ≡ length (contentOf cs) + length (c .text)
+unfolding contentOf
+content-snoc [] c = length-append (c .text) [] ∙ omega arith
+content-snoc (x ∷ cs) c =
+    length-append (x .text) (contentOf (cs ++ c ∷ [])) ∙ omega (arith, content-snoc cs c, length-append (x .text) (contentOf cs))
+
+-- the chunks' lengths add up to the content's length
+pub lengths-content : (cs : List Piece) → lengths cs ≡ length (contentOf cs)
+unfolding contentOf lengths
+lengths-content [] = refl
+lengths-content (c ∷ cs) = rw length-append (omega (arith, lengths-content cs))

@@ -1,0 +1,4 @@
+pub mod Front
+pub mod Placed
+pub mod Sound
+pub mod Read

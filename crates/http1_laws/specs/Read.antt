@@ -1,0 +1,57 @@
+-- What holds of every message that is accepted from HTTP/1.1 (00, demand 2, and the case it begins with: two statements of a length;
+-- 01, "HTTP/1.1 as we take it").
+use Prim.Native.Nat.{ℕ, _<_, _≤_}
+use mathlib.Core.Path.{_≡_}
+use mathlib.Core.Bool.{true}
+use mathlib.Core.List.{List, [], _∷_}
+use lib.ListN.{length}
+use Rattle.script.specs.Script.{accepted}
+use Rattle.messages.specs.Told.{Told}
+use Rattle.messages.specs.Message.{FieldRead, Start, requestStart, responseStart, Message}
+use Rattle.messages.specs.Names.{linesOf}
+use Rattle.messages.specs.Rules.{framingOf, agrees}
+use Rattle.messages.specs.Meaning.{contentOf}
+use Rattle.messages.specs.declared.Kind.the-variants as kind
+use Rattle.http1.specs.Read.{readRequest, readResponse}
+use Rattle.http1_laws.specs.Front.{Front}
+use Rattle.http1_laws.specs.Sound.{Sound}
+
+-- a request of the scheme that was told; host stands exactly once, and it is the authority
+abbrev pub IsRequest : Told → List FieldRead → Start → Type 0
+IsRequest t lines (requestStart method s authority path) = (s ≡ t .scheme) × (f : FieldRead) × (linesOf kind.Host lines ≡ f ∷ []) × (authority ≡ f .value)
+IsRequest t lines (responseStart hs s) = ⊥
+
+abbrev pub IsResponse : Start → Type 0
+IsResponse (requestStart method s authority path) = ⊥
+IsResponse (responseStart hs s) = Unit {0}
+
+-- one statement of the length at most, and where it is a number it is the content's length
+abbrev pub Stated : Message → Type 0
+Stated m = agrees (framingOf (m .lines)) (length (contentOf (m .chunks))) ≡ true
+
+pub record SoundRequest (t : Told) (s : List ℕ) (n : ℕ) (m : Message) : Type 0 where
+  pub sound : Sound s m
+  pub request : IsRequest t (m .lines) (m .start)
+  pub stated : Stated m
+  pub some : 0 < n
+  pub within : n ≤ length s
+
+pub record SoundResponse (s : List ℕ) (n : ℕ) (m : Message) : Type 0 where
+  pub sound : Sound s m
+  pub response : IsResponse (m .start)
+  pub stated : Stated m
+  pub some : 0 < n
+  pub within : n ≤ length s
+
+abbrev pub RequestsSound : Type 0
+RequestsSound = (t : Told) (s : List ℕ) (n : ℕ) (m : Message) → readRequest t s ≡ accepted n m → SoundRequest t s n m
+
+abbrev pub ResponsesSound : Type 0
+ResponsesSound = (s : List ℕ) (n : ℕ) (m : Message) → readResponse s ≡ accepted n m → SoundResponse s n m
+
+-- the claims on both readers of HTTP/1.1; a call told any scheme number is meant
+pub record Http1Reads : Type 0 where
+  pub requests : (t : Told) → Front (readRequest t)
+  pub responses : Front readResponse
+  pub requestsSound : RequestsSound
+  pub responsesSound : ResponsesSound

@@ -1,0 +1,193 @@
+// Names with a rule of their own, and the rules of single parts. A table is the one of `octets::class_table`.
+use crate::Kind;
+ghost use mathlib.Core.Path.{_≡_};
+ghost use mathlib.Core.List.{map};
+ghost use Rattle.octets.specs.Table.{classes};
+ghost use Rattle.octets.specs.Text.{lowerOf};
+ghost use Rattle.messages.specs.Names.{isHopByHop, kindOf, travels};
+ghost use Rattle.messages.specs.Control.{isUnsupported, methodVerdict, pathVerdict, authorityVerdict, isHost};
+ghost use Rattle.messages.specs.Control.{statusVerdict, isInformational, isBodyless, isLowerName, isTrimmedValue};
+ghost use Rattle.messages.specs.Valid.{isScheme};
+
+// Whether a name, in any case of letters, concerns one connection only.
+pub fn is_hop_by_hop(name: &[u8]) -> bool
+    ensures { λ r. ⌜ r ≡ isHopByHop (map lowerOf (now (name .entry))) ⌝ }
+{
+    if octets::same(name, b"connection") {
+        return true;
+    }
+    if octets::same(name, b"keep-alive") {
+        return true;
+    }
+    if octets::same(name, b"proxy-connection") {
+        return true;
+    }
+    if octets::same(name, b"te") {
+        return true;
+    }
+    octets::same(name, b"upgrade")
+}
+
+// The kind of a name, in any case of letters.
+pub fn kind_of(name: &[u8]) -> Kind
+    ensures { λ r. ⌜ r ≡ kindOf (map lowerOf (now (name .entry))) ⌝ }
+{
+    if octets::same(name, b"host") {
+        return Kind::Host;
+    }
+    if octets::same(name, b"content-length") {
+        return Kind::ContentLength;
+    }
+    if octets::same(name, b"transfer-encoding") {
+        return Kind::TransferEncoding;
+    }
+    if is_hop_by_hop(name) {
+        return Kind::HopByHop;
+    }
+    Kind::Ordinary
+}
+
+// Whether a line of a kind travels; `host` says whether host lines do.
+pub fn does_travel(kind: Kind, host: bool) -> bool
+    ensures { λ r. ⌜ r ≡ travels host kind ⌝ }
+{
+    match kind {
+        Kind::Ordinary => true,
+        Kind::HopByHop => false,
+        Kind::Host => host,
+        Kind::ContentLength => false,
+        Kind::TransferEncoding => false,
+    }
+}
+
+fn is_unsupported(m: &[u8]) -> bool
+    ensures { λ r. ⌜ r ≡ isUnsupported (now (m .entry)) ⌝ }
+{
+    if octets::equal(m, b"HEAD") {
+        return true;
+    }
+    octets::equal(m, b"CONNECT")
+}
+
+pub fn method_verdict(t: &[u8; 256], m: &[u8]) -> u32
+    requires { ⌜ now t ≡ classes ⌝ }
+    ensures { λ r. ⌜ r ≡ methodVerdict (now (m .entry)) ⌝ }
+{
+    if m.len() == 0 {
+        return 2;
+    }
+    if octets::all_of(t, m, 1) {
+        if m.len() <= 32 {
+            if is_unsupported(m) {
+                return 4;
+            }
+            return 0;
+        }
+        return 8;
+    }
+    2
+}
+
+pub fn path_verdict(t: &[u8; 256], p: &[u8]) -> u32
+    requires { ⌜ now t ≡ classes ⌝ }
+    ensures { λ r. ⌜ r ≡ pathVerdict (now (p .entry)) ⌝ }
+{
+    if p.len() == 0 {
+        return 2;
+    }
+    if p[0] == 47 {
+        if octets::all_of(t, p, 4) {
+            if p.len() <= 4096 {
+                return 0;
+            }
+            return 8;
+        }
+        return 2;
+    }
+    4
+}
+
+pub fn authority_verdict(t: &[u8; 256], a: &[u8]) -> u32
+    requires { ⌜ now t ≡ classes ⌝ }
+    ensures { λ r. ⌜ r ≡ authorityVerdict (now (a .entry)) ⌝ }
+{
+    if octets::all_of(t, a, 8) {
+        return 0;
+    }
+    2
+}
+
+// Whether the value of a host line names an authority.
+pub fn is_host(t: &[u8; 256], a: &[u8]) -> bool
+    requires { ⌜ now t ≡ classes ⌝ }
+    ensures { λ r. ⌜ r ≡ isHost (now (a .entry)) ⌝ }
+{
+    if a.len() == 0 {
+        return false;
+    }
+    if a.len() <= 255 {
+        return octets::all_of(t, a, 8);
+    }
+    false
+}
+
+pub fn status_verdict(n: usize) -> u32
+    ensures { λ r. ⌜ r ≡ statusVerdict n ⌝ }
+{
+    if n < 100 {
+        return 5;
+    }
+    if 599 < n {
+        return 5;
+    }
+    if n == 101 {
+        return 4;
+    }
+    0
+}
+
+pub fn is_informational(n: usize) -> bool
+    ensures { λ r. ⌜ r ≡ isInformational n ⌝ }
+{
+    n < 200
+}
+
+pub fn is_bodyless(n: usize) -> bool
+    ensures { λ r. ⌜ r ≡ isBodyless n ⌝ }
+{
+    if n == 204 {
+        return true;
+    }
+    n == 304
+}
+
+pub fn is_lower_name(t: &[u8; 256], n: &[u8]) -> bool
+    requires { ⌜ now t ≡ classes ⌝ }
+    ensures { λ r. ⌜ r ≡ isLowerName (now (n .entry)) ⌝ }
+{
+    if n.len() == 0 {
+        return false;
+    }
+    if octets::all_of(t, n, 1) {
+        return octets::is_lower_case(n);
+    }
+    false
+}
+
+pub fn is_trimmed_value(t: &[u8; 256], v: &[u8]) -> bool
+    requires { ⌜ now t ≡ classes ⌝ }
+    ensures { λ r. ⌜ r ≡ isTrimmedValue (now (v .entry)) ⌝ }
+{
+    if octets::all_of(t, v, 2) {
+        if octets::blank_end(v, 0) == 0 {
+            return octets::trim_len(v) == v.len();
+        }
+    }
+    false
+}
+
+pub fn is_scheme(n: u32) -> bool
+    ensures { λ r. ⌜ r ≡ isScheme n ⌝ }
+{
+    n < 2
+}

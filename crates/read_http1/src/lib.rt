@@ -1,0 +1,42 @@
+// Reading HTTP/1.1 from a stream: sections, chunks, requests and responses.
+pub mod lines;
+
+use messages::Notes;
+
+// A section that was read: the place behind it, what is left of its allowance, how many kept fields stand in the lent ranges now, and what its
+// lines state.
+pub enum Section {
+    Done {
+        end: usize,
+        left: usize,
+        kept: usize,
+        notes: Notes,
+    },
+    Refused {
+        number: u32,
+        place: usize,
+    },
+    More,
+}
+
+// A field line that was read: whether it is one, and then the count of kept fields and the notes with it.
+pub struct LineRead {
+    pub good: bool,
+    pub kept: usize,
+    pub notes: Notes,
+}
+
+// Content that was read: the place behind it, how many non-empty chunks it has, how many octets they are, and how many kept trailers.
+pub enum ContentRead {
+    Done {
+        end: usize,
+        chunks: usize,
+        total: usize,
+        trailers: usize,
+    },
+    Refused {
+        number: u32,
+        place: usize,
+    },
+    More,
+}
