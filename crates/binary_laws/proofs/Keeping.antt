@@ -1,55 +1,27 @@
 -- Valid fields are kept, in order, with their names as they are; none states a length, and in requests none names a host.
 use mathlib.Core.Path.{_≡_, refl}
-use mathlib.Core.Bool.{Bool, true, false, _&&_}
+use mathlib.Core.Bool.{Bool, true, false}
 use mathlib.Core.List.{List, [], _∷_, _++_, map}
 use Prim.Native.Nat.{ℕ, _+_}
-use borrow.Author.Tests.{eqb-true}
-use lib.Dec.{eqb}
 use lib.ListN.{length}
-use Rattle.octets.proofs.Kit.{and-split}
-use Rattle.messages.specs.Control.{statusVerdict, isInformational}
-use Rattle.messages.specs.Names.{kindOf, lineKind, sameKind, linesOf, travels, kept, refusedInTrailers, areTrailers}
+use Rattle.messages.specs.Names.{kindOf, lineKind, sameKind, linesOf, travels, kept, areTrailers}
 use Rattle.messages.specs.declared.Kind.{Kind}
 use Rattle.messages.specs.declared.Kind.the-variants as kind
 use Rattle.messages.specs.declared.Framing.the-variants.{Unstated}
 use Rattle.messages.specs.Rules.{framingFrom, binaryFramingOf}
 use Rattle.messages.specs.Meaning.{Field, fieldMeans, Informational, informationalMeans}
-use Rattle.messages.specs.Valid.{validFields, validSection, validInformational, validHeads, noFields}
+use Rattle.messages.specs.Valid.{validFields, validHeads, noFields}
+use Rattle.messages.proofs.Valid.{no-length, no-host, in-trailers, FieldOk, first-ok, section-fields, head-ok}
 use Rattle.binary.specs.Read.{noLines}
 use Rattle.write_binary.specs.Write.{fieldBytes, sectionBytes}
 use Rattle.numbers.specs.Integer.{intBytes}
 use Rattle.binary_laws.specs.RoundTrip.{lineAt, linesAt, headsAt}
-use Rattle.binary_laws.proofs.Lines.{FieldOk, first-ok}
 
 -- ---- kinds
 
 line-kind : (host : Bool) (f : Field) (at : ℕ) → FieldOk host f → lineKind (lineAt at f) ≡ kindOf (f .name)
 unfolding lineKind
 line-kind host f at ok = rw (ok .lower)
-
--- a kind that travels is another than one that doesn't
-no-length : (host : Bool) (k : Kind) → travels host k ≡ true → sameKind k kind.ContentLength ≡ false
-unfolding sameKind
-no-length host kind.Ordinary h = refl
-no-length host kind.HopByHop h = refl
-no-length host kind.Host h = refl
-no-length host kind.ContentLength h = cc
-no-length host kind.TransferEncoding h = refl
-
-no-host : (k : Kind) → travels false k ≡ true → sameKind k kind.Host ≡ false
-unfolding sameKind
-no-host kind.Ordinary h = refl
-no-host kind.HopByHop h = refl
-no-host kind.Host h = cc
-no-host kind.ContentLength h = refl
-no-host kind.TransferEncoding h = refl
-
-in-trailers : (k : Kind) → travels false k ≡ true → refusedInTrailers k ≡ false
-in-trailers kind.Ordinary h = refl
-in-trailers kind.HopByHop h = refl
-in-trailers kind.Host h = cc
-in-trailers kind.ContentLength h = cc
-in-trailers kind.TransferEncoding h = cc
 
 -- ---- lines
 
@@ -99,23 +71,6 @@ as-many [] at = refl
 as-many (f ∷ fs) at = refl
 
 -- ---- informational heads
-
-pub section-fields : (host : Bool) (fs : List Field) → validSection host fs ≡ true → validFields host fs ≡ true
-unfolding validSection
-section-fields host fs v = and-split (validFields host fs) _ v .0
-
-pub record HeadOk (h : Informational) : Type 0 where
-  pub status : statusVerdict (h .status) ≡ 0
-  pub early : isInformational (h .status) ≡ true
-  pub fields : validSection true (h .fields) ≡ true
-
-pub head-ok : (h : Informational) (hs : List Informational) → validHeads (h ∷ hs) ≡ true → HeadOk h × (validHeads hs ≡ true)
-unfolding validHeads validInformational
-head-ok h hs v =
-    let p = and-split (validInformational h) (validHeads hs) v in
-    let q = and-split (eqb (statusVerdict (h .status)) 0 && isInformational (h .status)) _ (p .0) in
-    let r = and-split (eqb (statusVerdict (h .status)) 0) _ (q .0) in
-    (record { status = eqb-true (statusVerdict (h .status)) 0 (r .0); early = r .1; fields = q .1 }, p .1)
 
 pub heads-back : (hs : List Informational) (at : ℕ) → validHeads hs ≡ true → map informationalMeans (headsAt at hs) ≡ hs
 unfolding headsAt informationalMeans

@@ -1,7 +1,7 @@
 -- The claims are not empty: two meanings that they speak of.
 use mathlib.Core.Path.{_≡_, refl}
 use mathlib.Core.Bool.{true}
-use mathlib.Core.List.{List, [], _∷_}
+use mathlib.Core.List.{[], _∷_}
 use Prim.Native.String.{String}
 use Rattle.octets.specs.Ascii.{ascii}
 use Rattle.octets.specs.Class.{isToken, isValue, isPath, isAuthority, classOf, hasClass, isBlank}

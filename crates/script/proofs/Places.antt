@@ -4,11 +4,10 @@ use mathlib.Core.Path.{_≡_, refl, sym, ap, _∙_}
 use mathlib.Core.List.{List, [], _∷_, _++_, append-assoc}
 use native.Mathlib.Omega.{arith}
 use borrow.Author.Tests.{lt-ltb, le-ltb}
-use lib.ListN.{length, take, drop, length-drop, length-append}
-use lib.Seq.{drop-append-seam, drop-drop, take-at, drop-at}
-use Rattle.script.specs.Script.{Answer, accepted, refused, more, Cut, cut, bad, short, Cutter, aLine, someOctets, lineOf, lineCut, cutBy, Script, done, stop, need, onCut, run, put, Lies}
+use lib.ListN.{length, take, drop, length-drop, length-append, take-append-drop}
+use lib.Seq.{drop-append-seam, drop-drop, take-at, drop-at, length-take-le}
+use Rattle.script.specs.Script.{refused, more, Cut, cut, bad, short, aLine, someOctets, lineOf, cutBy, Script, done, stop, need, onCut, run, put, Lies}
 use Rattle.script.specs.Do.{_>>=_, andThen}
-use Rattle.script.specs.declared.Line.{Line}
 use Rattle.script.specs.declared.Line.the-variants.{Ends, Bad, Long, More}
 use Rattle.script.proofs.Lines.{line-whole}
 use Rattle.script.proofs.Made.{Made, made}
@@ -83,6 +82,16 @@ lies-part {s} {at} {w} a x b k e h y = record {
       ∙ rw (append-assoc (y .front) a (x ++ (b ++ y .back)), append-assoc a (x ++ b) (y .back), append-assoc x b (y .back));
   long = length-append (y .front) a ∙ omega (arith, y .long);
 }
+
+-- the front of what lies, and a part of it from b on
+pub lies-front : {s : List ℕ} {at : ℕ} {w : List ℕ} (n : ℕ) → Lies s at w → Lies s at (take n w)
+lies-front {at = at} {w} n y = lies-part [] (take n w) (drop n w) at (sym (take-append-drop n w)) (omega arith) y
+
+pub lies-from : {s : List ℕ} {at : ℕ} {w : List ℕ} (b e : ℕ) → b ≤ length w → Lies s at w → Lies s (at + b) (take e (drop b w))
+lies-from {at = at} {w} b e h y =
+    lies-part (take b w) (take e (drop b w)) (drop e (drop b w)) (at + b)
+    (sym (take-append-drop b w) ∙ ap (λ (l : List ℕ). take b w ++ l) (sym (take-append-drop e (drop b w))))
+    (omega (arith, length-take-le b w h)) y
 
 pub lies-at : {s : List ℕ} {at : ℕ} {w : List ℕ} → Lies s at w → take (length w) (drop at s) ≡ w
 lies-at {s} {at} {w} y =
