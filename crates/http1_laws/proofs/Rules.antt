@@ -23,7 +23,7 @@ use Rattle.messages.specs.declared.Framing.{Framing}
 use Rattle.messages.specs.declared.Framing.the-variants.{Unstated, Stated, Chunked, Clashing}
 use Rattle.messages.specs.declared.Kind.the-variants as kind
 use Rattle.http1.specs.Read.{Content}
-use Rattle.sound.proofs.Rules.{HostIs, authority-is}
+use Rattle.sound.proofs.Rules.{HostIs, authority-is, nothing-stated}
 
 -- ---- host
 
@@ -78,14 +78,10 @@ content-framed end Clashing b e = request-framed end Clashing b e
 
 -- nothing is stated, and there is no content
 none-framed : (end : ℕ) (f : Framing) (b : Body) → nothingStated end f ≡ good b → Framed f b × (b ≡ Sized 0)
-unfolding nothingStated
-none-framed end Unstated b e =
-    let z : Sized 0 ≡ b = cc in
-    let x : Framed Unstated (Sized 0) = record { fits = omega arith; stated = λ c h. refl } in
-    (subst (Framed Unstated) z x, sym z)
-none-framed end (Stated n p) b e = let z : _≡_ {A = ℕ} 0 1 = cc in absurd (omega arith)
-none-framed end Chunked b e = let z : _≡_ {A = ℕ} 0 1 = cc in absurd (omega arith)
-none-framed end Clashing b e = let z : _≡_ {A = ℕ} 0 1 = cc in absurd (omega arith)
+none-framed end f b e =
+    let h = nothing-stated end f b e in
+    let x : Framed Unstated (Sized 0) = record { fits = omega arith; stated = λ c g. refl } in
+    (rw (h .0, h .1) x, h .1)
 
 -- content without octets and trailers is valid of any head
 empty-body : (t : Bool) (c : Content) → Fills (Sized 0) c → validBody t (contentOf (c .chunks)) (map fieldMeans (keptTrailers (c .trailers))) ≡ true

@@ -1,4 +1,4 @@
--- What the rule on host leaves through.
+-- What the rules on host and lengths leave through.
 use Prim.Native.Nat.{ℕ, _≤_}
 use mathlib.Core.Path.{_≡_, refl, sym, subst}
 use mathlib.Core.Bool.{Bool, true, false, cond}
@@ -12,11 +12,17 @@ use Rattle.script.specs.Do.{Piece, good}
 use Rattle.messages.specs.Message.{FieldRead}
 use Rattle.messages.specs.Control.{isHost}
 use Rattle.messages.specs.Names.{linesOf}
-use Rattle.messages.specs.Rules.{authorityFrom, orBadHost, authorityIn}
+use Rattle.messages.specs.Rules.{authorityFrom, orBadHost, authorityIn, nothingStated}
+use Rattle.messages.specs.declared.Body.{Body}
+use Rattle.messages.specs.declared.Body.the-variants.{Sized}
+use Rattle.messages.specs.declared.Framing.{Framing}
+use Rattle.messages.specs.declared.Framing.the-variants.{Unstated, Stated, Chunked, Clashing}
 use Rattle.messages.specs.declared.Kind.the-variants as kind
 use Rattle.sound.specs.Placed.{Each, Lying}
 use Rattle.sound.proofs.Each.{each-of}
 use Rattle.sound.proofs.Parts.{LineAt, SectionAt}
+
+-- ---- host
 
 -- control data have no authority: the one host line is it
 pub record HostIs (fs : List FieldRead) (a : Piece) : Type 0 where
@@ -74,3 +80,13 @@ pub host-lies : (s : List ℕ) (fs : List FieldRead) (a : Piece) → SectionAt s
 host-lies s fs a h k =
     let x : Each (LineAt s) (k .line ∷ []) = rw (k .one) at (each-of (LineAt s) kind.Host fs (h .lines)) in
     subst (Lying s) (sym (k .same)) (x .0 .lies .value)
+
+-- ---- lengths
+
+-- a head that can't have content states nothing
+pub nothing-stated : (end : ℕ) (f : Framing) (b : Body) → nothingStated end f ≡ good b → (f ≡ Unstated) × (b ≡ Sized 0)
+unfolding nothingStated
+nothing-stated end Unstated b e = let z : Sized 0 ≡ b = cc in (refl, sym z)
+nothing-stated end (Stated n p) b e = let z : _≡_ {A = ℕ} 0 1 = cc in absurd (omega arith)
+nothing-stated end Chunked b e = let z : _≡_ {A = ℕ} 0 1 = cc in absurd (omega arith)
+nothing-stated end Clashing b e = let z : _≡_ {A = ℕ} 0 1 = cc in absurd (omega arith)
