@@ -17,6 +17,7 @@ use Rattle.messages.specs.Names.{keptTrailers}
 use Rattle.messages.specs.Meaning.{Control, request, response, controlMeans, Meaning, meaning}
 use Rattle.messages.specs.Valid.{validControl, ofResponse, hasBody, valid}
 use Rattle.messages.proofs.Valid.{section-fields, response-ok, meaning-ok}
+use Rattle.messages.proofs.ValidLines.{content-back}
 use Rattle.binary.specs.Reader.{got, Reader, _>>=_, integer}
 use Rattle.binary.specs.Read.{message, readBinary}
 use Rattle.write_binary.specs.Write.{counted, sectionBytes, schemeBytes, informationalBytes, controlBytes, binaryOf, binaryFits}
@@ -24,7 +25,7 @@ use Rattle.binary_laws.specs.RoundTrip.{startOf, placedFrom, placedBinar
 use Rattle.binary_laws.proofs.Judgement.{Reads, reads-integer, reads-bind}
 use Rattle.binary_laws.proofs.Lines.{both-fit}
 use Rattle.binary_laws.proofs.Keeping.{fields-back, heads-back}
-use Rattle.binary_laws.proofs.Messages.{content-back, TailOk, tailBytes, requestBytes, reads-request-message, reads-response}
+use Rattle.binary_laws.proofs.Messages.{TailOk, tailBytes, requestBytes, reads-request-message, reads-response}
 
 -- ---- the framing
 

@@ -20,10 +20,11 @@ use Rattle.messages.specs.Names.{keptTrailers}
 use Rattle.messages.specs.Rules.{authorityFrom, authorityIn, binaryFramingOf, mayState, nothingStated}
 use Rattle.messages.specs.declared.Body.the-variants.{Sized}
 use Rattle.messages.specs.declared.Framing.the-variants.{Unstated}
-use Rattle.messages.specs.Meaning.{Field, Informational, request, Meaning, contentOf}
+use Rattle.messages.specs.Meaning.{Field, Informational, request, Meaning}
 use Rattle.messages.specs.Valid.{validControl, validSection, validFields, validHeads, validBody, noFields}
 use Rattle.messages.proofs.Verdicts.{status-rule}
 use Rattle.messages.proofs.Valid.{section-fields, head-ok, request-ok}
+use Rattle.messages.proofs.ValidLines.{content-back}
 use Rattle.binary.specs.Reader.{rule, integer}
 use Rattle.binary.specs.Read.{nonEmpty, knownContent, content, contentRule, trailerRule, trailers, padding, afterHeaders, requestMessage, finalResponse, responseMessage}
 use Rattle.write_binary.specs.Write.{counted, fieldsBytes, sectionBytes, schemeBytes, informationalBytes}
@@ -50,11 +51,6 @@ unfolding content knownContent
 reads-content at c rest h =
     before _ (reads-ended at _ false (counted-some c rest (omega arith)))
     (behind _ (reads-within contentMost at c rest h (lit< tt)) (reads-give _ rest _))
-
-pub content-back : (p : ℕ) (c : List ℕ) → contentOf (nonEmpty (piece p c)) ≡ c
-unfolding contentOf isEmpty
-content-back p [] = refl
-content-back p (x ∷ c) = rw (ne-eqb (length (x ∷ c)) 0 (λ (q : length (x ∷ c) ≡ 0). omega arith)) (append-nil (x ∷ c))
 
 -- ---- behind the control data
 

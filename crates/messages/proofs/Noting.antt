@@ -12,13 +12,14 @@ use Rattle.numbers.specs.declared.Number.{Number}
 use Rattle.numbers.specs.declared.Number.the-variants.{Is, Not}
 use Rattle.script.specs.Do.{Piece}
 use Rattle.messages.specs.Message.{FieldRead}
-use Rattle.messages.specs.Names.{lineKind, sameKind, linesOf, travels, kept, refusedInTrailers, areTrailers}
+use Rattle.messages.specs.Names.{kindOf, lineKind, sameKind, linesOf, travels, kept, refusedInTrailers, areTrailers}
 use Rattle.messages.specs.Rules.{lengthStated, framingFrom, framingOf, binaryFramingOf}
 use Rattle.messages.specs.Notes.{hostsFrom, notesOf, noNotes, anotherHost, noteHost, anotherLength, anotherCoding, noteLength, noteOf, noteLine}
 use Rattle.messages.specs.declared.Framing.{Framing}
 use Rattle.messages.specs.declared.Framing.the-variants.{Unstated, Stated, Chunked, Clashing}
 use Rattle.messages.specs.declared.Kind.{Kind}
 use Rattle.messages.specs.declared.Kind.the-variants.{Ordinary, HopByHop, Host, ContentLength, TransferEncoding}
+use Rattle.messages.specs.declared.Notes.{Notes}
 
 -- ---- lists of lines
 
@@ -158,3 +159,30 @@ notes-more coded fs f =
 pub trailers-noted : (coded : Bool) (fs : List FieldRead) → areTrailers fs ≡ notesOf coded fs .trailers
 unfolding notesOf
 trailers-noted coded fs = refl
+
+pub notes-hosts : (coded : Bool) (fs : List FieldRead) → notesOf coded fs .hosts ≡ hostsFrom (linesOf Host fs)
+unfolding notesOf
+notes-hosts coded fs = refl
+
+pub notes-framing : (fs : List FieldRead) → notesOf true fs .framing ≡ framingOf fs
+unfolding notesOf
+notes-framing fs = refl
+
+pub notes-binary : (fs : List FieldRead) → notesOf false fs .framing ≡ binaryFramingOf fs
+unfolding notesOf
+notes-binary fs = refl
+
+-- ---- a line read, as the code finds it: its kind k
+module _ (fs : List FieldRead) (f : FieldRead) {k : Kind} (e : k ≡ kindOf (map lowerOf (f .name .text))) where
+  pub noted : (coded : Bool) {n r : Notes} → n ≡ notesOf coded fs → r ≡ noteOf coded n k (f .name .place) (f .value .place) (f .value .text)
+      → r ≡ notesOf coded (fs ++ f ∷ [])
+  unfolding lineKind
+  noted coded q h = rw (notes-more coded fs f, ← q, ← e) h
+
+  pub kept-on : (host : Bool) {r : Bool} → r ≡ travels host k → r ≡ true → kept host (fs ++ f ∷ []) ≡ kept host fs ++ f ∷ []
+  unfolding lineKind
+  kept-on host t y = rw (kept-more host fs f, ← e, ← t, y)
+
+  pub kept-off : (host : Bool) {r : Bool} → r ≡ travels host k → r ≡ false → kept host (fs ++ f ∷ []) ≡ kept host fs
+  unfolding lineKind
+  kept-off host t y = rw (kept-more host fs f, ← e, ← t, y) (append-nil (kept host fs))

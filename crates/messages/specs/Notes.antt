@@ -138,6 +138,13 @@ authorityAnswer (some w) = Found (w .place) (length (w .text))
 
 -- ---- what the length rules answer
 
+-- more than one statement of the length, or one that is none
+abbrev pub isClashing : Framing → Bool
+isClashing Unstated = false
+isClashing (Stated n p) = false
+isClashing Chunked = false
+isClashing Clashing = true
+
 abbrev pub bodyAnswer : Judged Body → BodyAnswer
 bodyAnswer (good b) = body.Read b
 bodyAnswer (wrong n p) = body.Refused n p

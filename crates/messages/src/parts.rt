@@ -1,5 +1,7 @@
 // Names with a rule of their own, and the rules of single parts. A table is the one of `octets::class_table`.
 use crate::Kind;
+use octets::Limits;
+use octets::Refusals;
 ghost use mathlib.Core.Path.{_≡_};
 ghost use mathlib.Core.List.{map};
 ghost use Rattle.octets.specs.Table.{classes};
@@ -8,6 +10,15 @@ ghost use Rattle.messages.specs.Names.{isHopByHop, kindOf, travels};
 ghost use Rattle.messages.specs.Control.{isUnsupported, methodVerdict, pathVerdict, authorityVerdict, isHost};
 ghost use Rattle.messages.specs.Control.{statusVerdict, isInformational, isBodyless, isLowerName, isTrimmedValue};
 ghost use Rattle.messages.specs.Valid.{isScheme};
+
+// The classes of octets, as bits of the table.
+const TOKEN: u8 = 1;
+
+const VALUE: u8 = 2;
+
+const PATH: u8 = 4;
+
+const AUTHORITY: u8 = 8;
 
 // Whether a name, in any case of letters, concerns one connection only.
 pub fn is_hop_by_hop(name: &[u8]) -> bool
@@ -74,18 +85,18 @@ pub fn method_verdict(t: &[u8; 256], m: &[u8]) -> u32
     ensures { λ r. ⌜ r ≡ methodVerdict (now (m .entry)) ⌝ }
 {
     if m.len() == 0 {
-        return 2;
+        return Refusals::BAD_SYNTAX;
     }
-    if octets::all_of(t, m, 1) {
-        if m.len() <= 32 {
+    if octets::all_of(t, m, TOKEN) {
+        if m.len() <= Limits::METHOD {
             if is_unsupported(m) {
-                return 4;
+                return Refusals::NOT_SUPPORTED;
             }
             return 0;
         }
-        return 8;
+        return Refusals::TOO_LARGE;
     }
-    2
+    Refusals::BAD_SYNTAX
 }
 
 pub fn path_verdict(t: &[u8; 256], p: &[u8]) -> u32
@@ -93,28 +104,28 @@ pub fn path_verdict(t: &[u8; 256], p: &[u8]) -> u32
     ensures { λ r. ⌜ r ≡ pathVerdict (now (p .entry)) ⌝ }
 {
     if p.len() == 0 {
-        return 2;
+        return Refusals::BAD_SYNTAX;
     }
     if p[0] == 47 {
-        if octets::all_of(t, p, 4) {
-            if p.len() <= 4096 {
+        if octets::all_of(t, p, PATH) {
+            if p.len() <= Limits::PATH {
                 return 0;
             }
-            return 8;
+            return Refusals::TOO_LARGE;
         }
-        return 2;
+        return Refusals::BAD_SYNTAX;
     }
-    4
+    Refusals::NOT_SUPPORTED
 }
 
 pub fn authority_verdict(t: &[u8; 256], a: &[u8]) -> u32
     requires { ⌜ now t ≡ classes ⌝ }
     ensures { λ r. ⌜ r ≡ authorityVerdict (now (a .entry)) ⌝ }
 {
-    if octets::all_of(t, a, 8) {
+    if octets::all_of(t, a, AUTHORITY) {
         return 0;
     }
-    2
+    Refusals::BAD_SYNTAX
 }
 
 // Whether the value of a host line names an authority.
@@ -125,8 +136,8 @@ pub fn is_host(t: &[u8; 256], a: &[u8]) -> bool
     if a.len() == 0 {
         return false;
     }
-    if a.len() <= 255 {
-        return octets::all_of(t, a, 8);
+    if a.len() <= Limits::AUTHORITY {
+        return octets::all_of(t, a, AUTHORITY);
     }
     false
 }
@@ -135,13 +146,13 @@ pub fn status_verdict(n: usize) -> u32
     ensures { λ r. ⌜ r ≡ statusVerdict n ⌝ }
 {
     if n < 100 {
-        return 5;
+        return Refusals::BAD_STATUS;
     }
     if 599 < n {
-        return 5;
+        return Refusals::BAD_STATUS;
     }
     if n == 101 {
-        return 4;
+        return Refusals::NOT_SUPPORTED;
     }
     0
 }
@@ -168,7 +179,7 @@ pub fn is_lower_name(t: &[u8; 256], n: &[u8]) -> bool
     if n.len() == 0 {
         return false;
     }
-    if octets::all_of(t, n, 1) {
+    if octets::all_of(t, n, TOKEN) {
         return octets::is_lower_case(n);
     }
     false
@@ -178,7 +189,7 @@ pub fn is_trimmed_value(t: &[u8; 256], v: &[u8]) -> bool
     requires { ⌜ now t ≡ classes ⌝ }
     ensures { λ r. ⌜ r ≡ isTrimmedValue (now (v .entry)) ⌝ }
 {
-    if octets::all_of(t, v, 2) {
+    if octets::all_of(t, v, VALUE) {
         if octets::blank_end(v, 0) == 0 {
             return octets::trim_len(v) == v.len();
         }

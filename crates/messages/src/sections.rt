@@ -1,17 +1,25 @@
 // What the lines of a section state: noted line by line, and judged behind the section.
 use crate::Authority;
+use crate::Body;
+use crate::BodyAnswer;
 use crate::Framing;
 use crate::Hosts;
 use crate::Kind;
 use crate::Notes;
+use crate::parts::is_bodyless;
 use crate::parts::is_host;
 use numbers::Number;
+use octets::Limits;
+use octets::Refusals;
 ghost use mathlib.Core.Path.{_≡_};
 ghost use Rattle.octets.specs.Table.{classes};
 ghost use Rattle.messages.specs.Names.{refusedInTrailers};
+ghost use Rattle.messages.specs.Rules.{requestBody, nothingStated, contentBody, responseBody, agrees};
+ghost use Rattle.messages.specs.Notes.{bodyAnswer, isClashing};
 ghost use Rattle.messages.specs.Notes.{noNotes, noteOf, noteHost, anotherHost, noteLength, anotherLength, anotherCoding};
 ghost use Rattle.messages.specs.Notes.{isInside, hostAt, hostIn, isSameHost, givenIn, authorityNoted};
 
+// One host line more.
 fn another_host(hosts: Hosts, start: usize, len: usize) -> Hosts
     ensures { λ r. ⌜ r ≡ anotherHost start len hosts ⌝ }
 {
@@ -34,6 +42,7 @@ fn note_host(hosts: Hosts, kind: Kind, start: usize, len: usize) -> Hosts
     }
 }
 
+// One content-length line more.
 fn another_length(framing: Framing, place: usize, value: &[u8]) -> Framing
     ensures { λ r. ⌜ r ≡ anotherLength place (now (value .entry)) framing ⌝ }
 {
@@ -42,12 +51,13 @@ fn another_length(framing: Framing, place: usize, value: &[u8]) -> Framing
             Number::Is(n) => Framing::Stated { size: n, place },
             Number::Not => Framing::Clashing,
         },
-        Framing::Stated { size: _, place: _ } => Framing::Clashing,
+        Framing::Stated { size: _, place: _ } => Framing::Clashing, // a second one, even of the same number
         Framing::Chunked => Framing::Clashing,
         Framing::Clashing => Framing::Clashing,
     }
 }
 
+// One transfer-encoding line more, where such lines count.
 fn another_coding(framing: Framing, value: &[u8]) -> Framing
     ensures { λ r. ⌜ r ≡ anotherCoding (now (value .entry)) framing ⌝ }
 {
@@ -81,6 +91,7 @@ fn note_length(framing: Framing, kind: Kind, place: usize, value: &[u8], coded: 
     }
 }
 
+// Whether a trailer section must not have lines of a kind.
 fn is_refused_in_trailers(kind: Kind) -> bool
     ensures { λ r. ⌜ r ≡ refusedInTrailers kind ⌝ }
 {
@@ -150,6 +161,7 @@ fn is_inside(s: &[u8], start: usize, len: usize) -> bool
     false
 }
 
+// The value of a host line, len octets from start on, as the authority.
 fn host_at(t: &[u8; 256], s: &[u8], start: usize, len: usize) -> Authority
     requires { ⌜ now t ≡ classes ⌝ }
     ensures { λ r. ⌜ r ≡ hostAt (now (s .entry)) start len ⌝ }
@@ -175,6 +187,7 @@ pub fn host_in(t: &[u8; 256], s: &[u8], hosts: Hosts) -> Authority
     }
 }
 
+// Whether the value of a host line, `many` octets from `from` on, is the authority of control data.
 fn is_same_host(s: &[u8], start: usize, len: usize, from: usize, many: usize) -> bool
     ensures { λ r. ⌜ r ≡ isSameHost (now (s .entry)) start len from many ⌝ }
 {
@@ -188,6 +201,7 @@ fn is_same_host(s: &[u8], start: usize, len: usize, from: usize, many: usize) ->
     false
 }
 
+// The authority that control data have, where the host lines agree with it.
 fn given_in(s: &[u8], start: usize, len: usize, hosts: Hosts) -> Authority
     ensures { λ r. ⌜ r ≡ givenIn (now (s .entry)) start len hosts ⌝ }
 {
@@ -215,4 +229,97 @@ pub fn authority_in(t: &[u8; 256], s: &[u8], start: usize, len: usize, hosts: Ho
         return host_in(t, s, hosts);
     }
     given_in(s, start, len, hosts)
+}
+
+// How the content of a request is read, judged at the place behind its head.
+pub fn request_body(framing: Framing, end: usize) -> BodyAnswer
+    ensures { λ r. ⌜ r ≡ bodyAnswer (requestBody end framing) ⌝ }
+{
+    match framing {
+        Framing::Unstated => BodyAnswer::Read(Body::Sized(0)),
+        Framing::Stated { size, place } => {
+            if size <= Limits::CONTENT {
+                return BodyAnswer::Read(Body::Sized(size));
+            }
+            BodyAnswer::Refused {
+                number: Refusals::TOO_LARGE,
+                place,
+            }
+        }
+        Framing::Chunked => BodyAnswer::Read(Body::InChunks),
+        Framing::Clashing => BodyAnswer::Refused {
+            number: Refusals::BAD_LENGTH,
+            place: end,
+        },
+    }
+}
+
+// The same of a head that must state no length: informational, 204 and 304.
+pub fn nothing_stated(framing: Framing, end: usize) -> BodyAnswer
+    ensures { λ r. ⌜ r ≡ bodyAnswer (nothingStated end framing) ⌝ }
+{
+    match framing {
+        Framing::Unstated => BodyAnswer::Read(Body::Sized(0)),
+        Framing::Stated { size: _, place: _ } => BodyAnswer::Refused {
+            number: Refusals::BAD_LENGTH,
+            place: end,
+        },
+        Framing::Chunked => BodyAnswer::Refused {
+            number: Refusals::BAD_LENGTH,
+            place: end,
+        },
+        Framing::Clashing => BodyAnswer::Refused {
+            number: Refusals::BAD_LENGTH,
+            place: end,
+        },
+    }
+}
+
+// The same of another final head, which must state one.
+fn content_body(framing: Framing, end: usize) -> BodyAnswer
+    ensures { λ r. ⌜ r ≡ bodyAnswer (contentBody end framing) ⌝ }
+{
+    match framing {
+        Framing::Unstated => BodyAnswer::Refused {
+            number: Refusals::BAD_LENGTH,
+            place: end,
+        },
+        Framing::Stated { size: _, place: _ } => request_body(framing, end),
+        Framing::Chunked => request_body(framing, end),
+        Framing::Clashing => request_body(framing, end),
+    }
+}
+
+// The same of a final head with a status.
+pub fn response_body(status: usize, framing: Framing, end: usize) -> BodyAnswer
+    ensures { λ r. ⌜ r ≡ bodyAnswer (responseBody status end framing) ⌝ }
+{
+    if is_bodyless(status) {
+        return nothing_stated(framing, end);
+    }
+    content_body(framing, end)
+}
+
+// Whether lengths are stated in a way that no message may have.
+pub fn is_clashing(framing: Framing) -> bool
+    ensures { λ r. ⌜ r ≡ isClashing framing ⌝ }
+{
+    match framing {
+        Framing::Unstated => false,
+        Framing::Stated { size: _, place: _ } => false,
+        Framing::Chunked => false,
+        Framing::Clashing => true,
+    }
+}
+
+// Whether n octets of content are what is stated, if anything is.
+pub fn does_agree(framing: Framing, n: usize) -> bool
+    ensures { λ r. ⌜ r ≡ agrees framing n ⌝ }
+{
+    match framing {
+        Framing::Unstated => true,
+        Framing::Stated { size, place: _ } => size == n,
+        Framing::Chunked => true,
+        Framing::Clashing => false,
+    }
 }
