@@ -18,7 +18,7 @@ use Rattle.messages.specs.Meaning.{Field}
 use Rattle.messages.specs.Valid.{validFields}
 use Rattle.messages.proofs.Valid.{first-ok}
 use Rattle.http1.specs.Read.{lineWithin, Lines, fieldLines, section}
-use Rattle.http1.proofs.Parts.{name-rule}
+use Rattle.messages.proofs.Verdicts.{name-rule}
 use Rattle.write_http1.specs.Write.{crlf, fieldText, sectionText}
 use Rattle.http1_round.proofs.Placed.{lineAt, linesAt}
 use Rattle.http1_round.proofs.Lines.{LineOk, fieldWord, field-clean, field-good}
