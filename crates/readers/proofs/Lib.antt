@@ -3,3 +3,6 @@ pub mod HeadLaws
 pub mod Outcomes
 pub mod Requests
 pub mod RequestHeads
+pub mod ResponseHeads
+pub mod ResponseTurns
+pub mod ResponseLaws
