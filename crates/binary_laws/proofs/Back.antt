@@ -1,31 +1,31 @@
 -- The round trip of Binary HTTP, and what follows from it. Assumes nothing.
 use mathlib.Core.Path.{_≡_, refl, sym, ap, _∙_, subst}
-use mathlib.Core.Bool.{Bool, true, false, _&&_}
+use mathlib.Core.Bool.{true, false}
 use mathlib.Core.List.{List, [], _++_, append-assoc, append-nil}
 use Prim.Native.Nat.{ℕ, suc, _+_, _≤_, _<_}
 use native.Mathlib.Omega.{arith}
-use borrow.Author.Tests.{leb-true, lt-ltb, eqb-true, not-true}
-use lib.Dec.{leb, eqb, lit<}
+use borrow.Author.Tests.{leb-true, lt-ltb}
+use lib.Dec.{lit<}
 use lib.ListN.{length, length-append}
-use Rattle.octets.specs.Limits.{contentMost, binaryMost, informationalMost}
+use Rattle.octets.specs.Limits.{binaryMost, informationalMost}
 use Rattle.octets.specs.Refusals.{cutOff}
-use Rattle.octets.proofs.Kit.{and-split}
 use Rattle.numbers.specs.Integer.{intLen, intBytes}
 use Rattle.numbers.proofs.IntegerLaws.{int-length}
 use Rattle.script.specs.Script.{Answer, accepted, refused, more, means}
 use Rattle.messages.specs.Message.{isResponse}
-use Rattle.messages.specs.Control.{statusVerdict, isInformational}
 use Rattle.messages.specs.Names.{keptTrailers}
-use Rattle.messages.specs.Meaning.{Informational, Control, request, response, controlMeans, Meaning, meaning}
-use Rattle.messages.specs.Valid.{validHeads, validControl, validSection, validBody, ofResponse, hasBody, valid}
+use Rattle.messages.specs.Meaning.{Control, request, response, controlMeans, Meaning, meaning}
+use Rattle.messages.specs.Valid.{validControl, ofResponse, hasBody, valid}
+use Rattle.messages.proofs.Valid.{section-fields, response-ok, meaning-ok}
+use Rattle.messages.proofs.ValidLines.{content-back}
 use Rattle.binary.specs.Reader.{got, Reader, _>>=_, integer}
 use Rattle.binary.specs.Read.{message, readBinary}
 use Rattle.write_binary.specs.Write.{counted, sectionBytes, schemeBytes, informationalBytes, controlBytes, binaryOf, binaryFits}
 use Rattle.binary_laws.specs.RoundTrip.{startOf, placedFrom, placedBinary, RoundTrip, RoundTripOfMeanings, Unique}
 use Rattle.binary_laws.proofs.Judgement.{Reads, reads-integer, reads-bind}
 use Rattle.binary_laws.proofs.Lines.{both-fit}
-use Rattle.binary_laws.proofs.Keeping.{fields-back, section-fields, heads-back}
-use Rattle.binary_laws.proofs.Messages.{content-back, TailOk, tailBytes, requestBytes, reads-request-message, reads-response}
+use Rattle.binary_laws.proofs.Keeping.{fields-back, heads-back}
+use Rattle.binary_laws.proofs.Messages.{TailOk, tailBytes, requestBytes, reads-request-message, reads-response}
 
 -- ---- the framing
 
@@ -71,25 +71,6 @@ control-length c =
     let f = framing-length (framing c) (framing-small c) in
     rw (control-bytes c) (omega arith)
 
-record ResponseOk (hs : List Informational) (s : ℕ) : Type 0 where
-  heads : validHeads hs ≡ true
-  few : length hs ≤ informationalMost
-  status : statusVerdict s ≡ 0
-  late : isInformational s ≡ false
-
-response-ok : (hs : List Informational) (s : ℕ) → validControl (response hs s) ≡ true → ResponseOk hs s
-unfolding validControl
-response-ok hs s v =
-    let v1 = and-split (validHeads hs && leb (length hs) informationalMost && eqb (statusVerdict s) 0) _ v in
-    let v2 = and-split (validHeads hs && leb (length hs) informationalMost) _ (v1 .0) in
-    let v3 = and-split (validHeads hs) _ (v2 .0) in
-    record {
-      heads = v3 .0;
-      few = leb-true (length hs) informationalMost (v3 .1);
-      status = eqb-true (statusVerdict s) 0 (v2 .1);
-      late = not-true (isInformational s) (v1 .1);
-    }
-
 control-back : (c : Control) (w : Meaning) → validControl c ≡ true → TailOk (ofResponse c) (hasBody c) w → length (behindFraming c) ≤ binaryMost
     → Reads message 0 (intBytes (framing c) ++ (behindFraming c ++ tailBytes w)) [] (placedFrom (startOf c) (1 + length (behindFraming c)) w)
 unfolding message startOf
@@ -104,25 +85,6 @@ control-back (response hs s) w v ok h =
 
 -- ---- the message
 
-record Ok (m : Meaning) : Type 0 where
-  control : validControl (m .control) ≡ true
-  headers : validSection (ofResponse (m .control)) (m .headers) ≡ true
-  content : length (m .content) ≤ contentMost
-  trailers : validSection false (m .trailers) ≡ true
-  body : validBody (hasBody (m .control)) (m .content) (m .trailers) ≡ true
-
-ok-of : (m : Meaning) → valid m ≡ true → Ok m
-unfolding valid
-ok-of m v =
-    let a : Bool = validControl (m .control) in
-    let b : Bool = validSection (ofResponse (m .control)) (m .headers) in
-    let c : Bool = leb (length (m .content)) contentMost in
-    let v1 = and-split (a && b && c && validSection false (m .trailers)) _ v in
-    let v2 = and-split (a && b && c) _ (v1 .0) in
-    let v3 = and-split (a && b) c (v2 .0) in
-    let v4 = and-split a b (v3 .0) in
-    record { control = v4 .0; headers = v4 .1; content = leb-true (length (m .content)) contentMost (v3 .1); trailers = v2 .1; body = v1 .1 }
-
 binary-bytes : (m : Meaning) → binaryOf m ≡ intBytes (framing (m .control)) ++ (behindFraming (m .control) ++ tailBytes m)
 unfolding binaryOf
 binary-bytes m =
@@ -136,7 +98,7 @@ binary-bytes m =
 message-back : (m : Meaning) → valid m ≡ true → length (binaryOf m) ≤ binaryMost → Reads message 0 (binaryOf m) [] (placedBinary m)
 unfolding placedBinary
 message-back m v h =
-    let o = ok-of m v in
+    let o = meaning-ok m v in
     let g : length (intBytes (framing (m .control)) ++ (behindFraming (m .control) ++ tailBytes m)) ≤ binaryMost = rw (binary-bytes m) at h in
     let f1 = both-fit (intBytes (framing (m .control))) (behindFraming (m .control) ++ tailBytes m) g in
     let f2 = both-fit (behindFraming (m .control)) (tailBytes m) (f1 .1) in
@@ -162,7 +124,7 @@ control-means (response hs s) v = (rw (heads-back hs 1 (response-ok hs s v .head
 pub meaning-back : (m : Meaning) → valid m ≡ true → meaning (placedBinary m) ≡ m
 unfolding meaning placedBinary placedFrom keptTrailers
 meaning-back m v =
-    let o = ok-of m v in
+    let o = meaning-ok m v in
     let c = control-means (m .control) (o .control) in
     rw (
       c .0,

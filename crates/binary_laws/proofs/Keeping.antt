@@ -1,121 +1,50 @@
--- Valid fields are kept, in order, with their names as they are; none states a length, and in requests none names a host.
-use mathlib.Core.Path.{_≡_, refl}
-use mathlib.Core.Bool.{Bool, true, false, _&&_}
+-- Valid fields are kept, in order, with their names as they are; none states a length, and in requests none names a host (messages/proofs/ValidLines).
+use mathlib.Core.Path.{_≡_, refl, _∙_}
+use mathlib.Core.Bool.{Bool, true, false}
 use mathlib.Core.List.{List, [], _∷_, _++_, map}
 use Prim.Native.Nat.{ℕ, _+_}
-use borrow.Author.Tests.{eqb-true}
-use lib.Dec.{eqb}
 use lib.ListN.{length}
-use Rattle.octets.proofs.Kit.{and-split}
-use Rattle.messages.specs.Control.{statusVerdict, isInformational}
-use Rattle.messages.specs.Names.{kindOf, lineKind, sameKind, linesOf, travels, kept, refusedInTrailers, areTrailers}
-use Rattle.messages.specs.declared.Kind.{Kind}
+use Rattle.messages.specs.Names.{linesOf, kept, areTrailers}
 use Rattle.messages.specs.declared.Kind.the-variants as kind
 use Rattle.messages.specs.declared.Framing.the-variants.{Unstated}
-use Rattle.messages.specs.Rules.{framingFrom, binaryFramingOf}
+use Rattle.messages.specs.Rules.{binaryFramingOf}
 use Rattle.messages.specs.Meaning.{Field, fieldMeans, Informational, informationalMeans}
-use Rattle.messages.specs.Valid.{validFields, validSection, validInformational, validHeads, noFields}
+use Rattle.messages.specs.Valid.{validFields, validHeads, noFields}
+use Rattle.messages.proofs.Valid.{section-fields, head-ok}
+use Rattle.messages.proofs.ValidLines as laws
 use Rattle.binary.specs.Read.{noLines}
 use Rattle.write_binary.specs.Write.{fieldBytes, sectionBytes}
 use Rattle.numbers.specs.Integer.{intBytes}
-use Rattle.binary_laws.specs.RoundTrip.{lineAt, linesAt, headsAt}
-use Rattle.binary_laws.proofs.Lines.{FieldOk, first-ok}
+use Rattle.binary_laws.specs.RoundTrip.{linesAt, headsAt}
 
--- ---- kinds
+lines-say : (fs : List Field) (at : ℕ) → map laws.said (linesAt at fs) ≡ fs
+unfolding linesAt
+lines-say [] at = refl
+lines-say (f ∷ fs) at = rw (lines-say fs (at + length (fieldBytes f)))
 
-line-kind : (host : Bool) (f : Field) (at : ℕ) → FieldOk host f → lineKind (lineAt at f) ≡ kindOf (f .name)
-unfolding lineKind
-line-kind host f at ok = rw (ok .lower)
+module _ (host : Bool) (fs : List Field) (at : ℕ) (v : validFields host fs ≡ true) where
+  lines-valid : validFields host (map laws.said (linesAt at fs)) ≡ true
+  lines-valid = rw (lines-say fs at) v
 
--- a kind that travels is another than one that doesn't
-no-length : (host : Bool) (k : Kind) → travels host k ≡ true → sameKind k kind.ContentLength ≡ false
-unfolding sameKind
-no-length host kind.Ordinary h = refl
-no-length host kind.HopByHop h = refl
-no-length host kind.Host h = refl
-no-length host kind.ContentLength h = cc
-no-length host kind.TransferEncoding h = refl
+  pub unstated : binaryFramingOf (linesAt at fs) ≡ Unstated
+  unstated = laws.unstated-binary host (linesAt at fs) lines-valid
 
-no-host : (k : Kind) → travels false k ≡ true → sameKind k kind.Host ≡ false
-unfolding sameKind
-no-host kind.Ordinary h = refl
-no-host kind.HopByHop h = refl
-no-host kind.Host h = cc
-no-host kind.ContentLength h = refl
-no-host kind.TransferEncoding h = refl
+  pub kept-all : kept host (linesAt at fs) ≡ linesAt at fs
+  kept-all = laws.kept-all host (linesAt at fs) lines-valid
 
-in-trailers : (k : Kind) → travels false k ≡ true → refusedInTrailers k ≡ false
-in-trailers kind.Ordinary h = refl
-in-trailers kind.HopByHop h = refl
-in-trailers kind.Host h = cc
-in-trailers kind.ContentLength h = cc
-in-trailers kind.TransferEncoding h = cc
-
--- ---- lines
-
-module _ (host : Bool) where
-  pub no-lines : (k : Kind) → ((j : Kind) → travels host j ≡ true → sameKind j k ≡ false)
-      → (fs : List Field) (at : ℕ) → validFields host fs ≡ true → linesOf k (linesAt at fs) ≡ []
-  unfolding linesOf linesAt
-  no-lines k other [] at v = refl
-  no-lines k other (f ∷ fs) at v =
-      let o = first-ok host f fs v in
-      rw (line-kind host f at (o .0), other (kindOf (f .name)) (o .0 .travel)) (no-lines k other fs (at + length (fieldBytes f)) (o .1))
-
-  pub unstated : (fs : List Field) (at : ℕ) → validFields host fs ≡ true → binaryFramingOf (linesAt at fs) ≡ Unstated
-  unfolding binaryFramingOf framingFrom
-  unstated fs at v = rw (no-lines kind.ContentLength (no-length host) fs at v)
-
-  pub kept-all : (fs : List Field) (at : ℕ) → validFields host fs ≡ true → kept host (linesAt at fs) ≡ linesAt at fs
-  unfolding kept linesAt
-  kept-all [] at v = refl
-  kept-all (f ∷ fs) at v =
-      let o = first-ok host f fs v in
-      rw (line-kind host f at (o .0), o .0 .travel, kept-all fs (at + length (fieldBytes f)) (o .1))
-
-  pub lines-mean : (fs : List Field) (at : ℕ) → validFields host fs ≡ true → map fieldMeans (linesAt at fs) ≡ fs
-  unfolding fieldMeans linesAt
-  lines-mean [] at v = refl
-  lines-mean (f ∷ fs) at v =
-      let o = first-ok host f fs v in
-      rw (o .0 .lower, lines-mean fs (at + length (fieldBytes f)) (o .1))
-
-  pub fields-back : (fs : List Field) (at : ℕ) → validFields host fs ≡ true → map fieldMeans (kept host (linesAt at fs)) ≡ fs
-  fields-back fs at v = rw (kept-all fs at v) (lines-mean fs at v)
+  pub fields-back : map fieldMeans (kept host (linesAt at fs)) ≡ fs
+  fields-back = laws.fields-back host (linesAt at fs) lines-valid ∙ lines-say fs at
 
 pub no-hosts : (fs : List Field) (at : ℕ) → validFields false fs ≡ true → linesOf kind.Host (linesAt at fs) ≡ []
-no-hosts = no-lines false kind.Host no-host
+no-hosts fs at v = laws.no-hosts (linesAt at fs) (lines-valid false fs at v)
 
 pub are-trailers : (fs : List Field) (at : ℕ) → validFields false fs ≡ true → areTrailers (linesAt at fs) ≡ true
-unfolding areTrailers linesAt
-are-trailers [] at v = refl
-are-trailers (f ∷ fs) at v =
-    let o = first-ok false f fs v in
-    rw (line-kind false f at (o .0), in-trailers (kindOf (f .name)) (o .0 .travel)) (are-trailers fs (at + length (fieldBytes f)) (o .1))
+are-trailers fs at v = laws.are-trailers (linesAt at fs) (lines-valid false fs at v)
 
 pub as-many : (fs : List Field) (at : ℕ) → noLines (linesAt at fs) ≡ noFields fs
 unfolding linesAt
 as-many [] at = refl
 as-many (f ∷ fs) at = refl
-
--- ---- informational heads
-
-pub section-fields : (host : Bool) (fs : List Field) → validSection host fs ≡ true → validFields host fs ≡ true
-unfolding validSection
-section-fields host fs v = and-split (validFields host fs) _ v .0
-
-pub record HeadOk (h : Informational) : Type 0 where
-  pub status : statusVerdict (h .status) ≡ 0
-  pub early : isInformational (h .status) ≡ true
-  pub fields : validSection true (h .fields) ≡ true
-
-pub head-ok : (h : Informational) (hs : List Informational) → validHeads (h ∷ hs) ≡ true → HeadOk h × (validHeads hs ≡ true)
-unfolding validHeads validInformational
-head-ok h hs v =
-    let p = and-split (validInformational h) (validHeads hs) v in
-    let q = and-split (eqb (statusVerdict (h .status)) 0 && isInformational (h .status)) _ (p .0) in
-    let r = and-split (eqb (statusVerdict (h .status)) 0) _ (q .0) in
-    (record { status = eqb-true (statusVerdict (h .status)) 0 (r .0); early = r .1; fields = q .1 }, p .1)
 
 pub heads-back : (hs : List Informational) (at : ℕ) → validHeads hs ≡ true → map informationalMeans (headsAt at hs) ≡ hs
 unfolding headsAt informationalMeans

@@ -1,59 +1,29 @@
 -- Field lines and sections are read back.
 use mathlib.Core.Path.{_≡_, refl, sym, ap}
-use mathlib.Core.Bool.{Bool, true, false, _&&_}
-use mathlib.Core.List.{List, [], _∷_, _++_, map, append-assoc, append-nil}
+use mathlib.Core.Bool.{Bool, true, false}
+use mathlib.Core.List.{List, [], _∷_, _++_, append-assoc, append-nil}
 use Prim.Native.Nat.{ℕ, zero, suc, _+_, _≤_, _<_}
 use native.Mathlib.Omega.{arith}
 use borrow.Author.Tests.{lt-leb, leb-true, eqb-false, ne-eqb}
 use lib.Dec.{leb, eqb}
 use lib.ListN.{length, length-append}
-use Rattle.octets.specs.Class.{hasClass, token}
-use Rattle.octets.specs.Text.{all, isLower, isEmpty, lowerOf}
+use Rattle.octets.specs.Text.{isEmpty}
 use Rattle.octets.specs.Limits.{linesMost, binaryMost}
 use Rattle.octets.specs.Refusals.{badSection}
 use Rattle.octets.proofs.Kit.{and-split}
-use Rattle.octets.proofs.Texts.{lower-same}
 use Rattle.numbers.specs.Integer.{intBytes}
 use Rattle.script.specs.Do.{piece, good}
 use Rattle.messages.specs.Message.{FieldRead}
-use Rattle.messages.specs.Control.{isLowerName, isTrimmedValue}
-use Rattle.messages.specs.Names.{kindOf, travels}
 use Rattle.messages.specs.declared.Kind.the-variants as kind
 use Rattle.messages.specs.Meaning.{Field}
-use Rattle.messages.specs.Valid.{validField, validFields, validSection}
+use Rattle.messages.specs.Valid.{validFields, validSection}
+use Rattle.messages.proofs.Valid.{FieldOk, first-ok}
 use Rattle.binary.specs.Reader.{Got, got}
 use Rattle.binary.specs.Read.{lineOf, knownLine, knownLines, onBody, bodyLines, knownSection, section}
 use Rattle.write_binary.specs.Write.{counted, fieldBytes, fieldsBytes, sectionBytes}
 use Rattle.binary_laws.specs.RoundTrip.{lineAt, linesAt, sectionAt}
 use Rattle.binary_laws.proofs.Judgement.{Reads, reads-none, reads-give, reads-here, reads-ended, reads-tell, reads-integer, reads-octets, reads-bind, before, behind, reads-as}
-use Rattle.binary_laws.proofs.Parts.{reads-part, holds, misses}
-
--- ---- valid fields
-
-pub record FieldOk (host : Bool) (f : Field) : Type 0 where
-  pub name : isLowerName (f .name) ≡ true
-  pub value : isTrimmedValue (f .value) ≡ true
-  pub some : eqb (length (f .name)) 0 ≡ false
-  pub lower : map lowerOf (f .name) ≡ f .name
-  pub travel : travels host (kindOf (f .name)) ≡ true
-
-name-ok : (n : List ℕ) → isLowerName n ≡ true → (eqb (length n) 0 ≡ false) × (all isLower n ≡ true)
-unfolding isLowerName isEmpty
-name-ok n e =
-    let a = misses (eqb (length n) 0) _ e in
-    (a .0, holds (all (hasClass token) n) _ (a .1) .1)
-
-pub field-ok : (host : Bool) (f : Field) → validField host f ≡ true → FieldOk host f
-unfolding validField
-field-ok host f v =
-    let v1 = and-split (isLowerName (f .name) && isTrimmedValue (f .value)) _ v in
-    let v2 = and-split (isLowerName (f .name)) _ (v1 .0) in
-    let n = name-ok (f .name) (v2 .0) in
-    record { name = v2 .0; value = v2 .1; some = n .0; lower = lower-same (f .name) (n .1); travel = v1 .1 }
-
-pub first-ok : (host : Bool) (f : Field) (fs : List Field) → validFields host (f ∷ fs) ≡ true → FieldOk host f × (validFields host fs ≡ true)
-unfolding validFields
-first-ok host f fs v = let p = and-split (validField host f) (validFields host fs) v in (field-ok host f (p .0), p .1)
+use Rattle.binary_laws.proofs.Parts.{reads-part}
 
 -- ---- a line
 

@@ -4,8 +4,8 @@ use mathlib.Core.Bool.{Bool, true, false, not, _||_}
 use mathlib.Core.List.{List, [], _∷_, _++_, append-assoc, append-nil}
 use Prim.Native.Nat.{ℕ, zero, suc, _+_, _≤_, _<_}
 use native.Mathlib.Omega.{arith}
-use borrow.Author.Tests.{lt-leb, ltb-false, ne-eqb}
-use lib.Dec.{ltb, leb, lit<}
+use borrow.Author.Tests.{lt-leb, ne-eqb}
+use lib.Dec.{leb, lit<}
 use lib.ListN.{length, length-append}
 use Rattle.octets.specs.Text.{isEmpty}
 use Rattle.octets.specs.Limits.{contentMost, binaryMost, informationalMost}
@@ -20,16 +20,19 @@ use Rattle.messages.specs.Names.{keptTrailers}
 use Rattle.messages.specs.Rules.{authorityFrom, authorityIn, binaryFramingOf, mayState, nothingStated}
 use Rattle.messages.specs.declared.Body.the-variants.{Sized}
 use Rattle.messages.specs.declared.Framing.the-variants.{Unstated}
-use Rattle.messages.specs.Meaning.{Field, Informational, request, Meaning, contentOf}
+use Rattle.messages.specs.Meaning.{Field, Informational, request, Meaning}
 use Rattle.messages.specs.Valid.{validControl, validSection, validFields, validHeads, validBody, noFields}
+use Rattle.messages.proofs.Verdicts.{status-rule}
+use Rattle.messages.proofs.Valid.{section-fields, head-ok, request-ok}
+use Rattle.messages.proofs.ValidLines.{content-back}
 use Rattle.binary.specs.Reader.{rule, integer}
 use Rattle.binary.specs.Read.{nonEmpty, knownContent, content, contentRule, trailerRule, trailers, padding, afterHeaders, requestMessage, finalResponse, responseMessage}
 use Rattle.write_binary.specs.Write.{counted, fieldsBytes, sectionBytes, schemeBytes, informationalBytes}
 use Rattle.binary_laws.specs.RoundTrip.{partAt, linesAt, sectionAt, headAt, headsAt, placedFrom}
 use Rattle.binary_laws.proofs.Judgement.{Reads, reads-none, reads-give, reads-here, reads-ended, reads-tell, reads-integer, reads-bind, before, behind, reads-as}
-use Rattle.binary_laws.proofs.Parts.{reads-within, fails, request-ok, reads-request}
+use Rattle.binary_laws.proofs.Parts.{reads-within, reads-request}
 use Rattle.binary_laws.proofs.Lines.{both-fit, counted-fits, reads-section}
-use Rattle.binary_laws.proofs.Keeping.{unstated, kept-all, no-hosts, are-trailers, as-many, section-fields, head-ok}
+use Rattle.binary_laws.proofs.Keeping.{unstated, kept-all, no-hosts, are-trailers, as-many}
 
 -- ---- content
 
@@ -48,11 +51,6 @@ unfolding content knownContent
 reads-content at c rest h =
     before _ (reads-ended at _ false (counted-some c rest (omega arith)))
     (behind _ (reads-within contentMost at c rest h (lit< tt)) (reads-give _ rest _))
-
-pub content-back : (p : ℕ) (c : List ℕ) → contentOf (nonEmpty (piece p c)) ≡ c
-unfolding contentOf isEmpty
-content-back p [] = refl
-content-back p (x ∷ c) = rw (ne-eqb (length (x ∷ c)) 0 (λ (q : length (x ∷ c) ≡ 0). omega arith)) (append-nil (x ∷ c))
 
 -- ---- behind the control data
 
@@ -144,14 +142,6 @@ reads-request-message w m a p s at v ok =
 
 -- ---- responses
 
-status-small : (n : ℕ) → statusVerdict n ≡ 0 → n < integerEnd
-unfolding statusVerdict
-status-small n e =
-    let a = fails (ltb n 100) (lit< tt) e in
-    let b = fails (ltb 599 n) (lit< tt) (a .1) in
-    let c = ltb-false 599 n (b .0) in
-    omega arith
-
 reads-final : (w : Meaning) (is : List InformationalRead) (n at : ℕ) (b : Bool) → isBodyless n ≡ b → TailOk true (not b) w
     → Reads (finalResponse true is n) at (tailBytes w) [] (placedFrom (responseStart is n) at w)
 unfolding finalResponse placedFrom
@@ -164,7 +154,7 @@ reads-final w is n at false e ok =
 
 -- a status that keeps its rule
 reads-status : (n at : ℕ) (rest : List ℕ) → statusVerdict n ≡ 0 → Reads (integer cutOff at) at (intBytes n) rest n
-reads-status n at rest e = reads-integer cutOff at at n rest (status-small n e)
+reads-status n at rest e = reads-integer cutOff at at n rest (omega (arith, status-rule n e))
 
 status-good : (n p : ℕ) → statusVerdict n ≡ 0 → rule (statusVerdict n) p n ≡ good n
 status-good n p e = rw e

@@ -1,7 +1,4 @@
 pub mod Front
-pub mod Each
-pub mod Valid
-pub mod Parts
 pub mod Rules
 pub mod Lines
 pub mod Sections

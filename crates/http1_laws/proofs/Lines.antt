@@ -1,13 +1,11 @@
 -- What a line that is judged good gives: its parts lie in the input, and obey their rules.
-use Prim.Native.Nat.{ℕ, _+_, _-_, _≤_}
-use mathlib.Core.Path.{_≡_, refl, sym, ap, subst, _∙_}
-use mathlib.Core.List.{List, [], _++_}
+use Prim.Native.Nat.{ℕ, _+_}
+use mathlib.Core.Path.{_≡_, refl, subst}
+use mathlib.Core.List.{List}
 use native.Mathlib.Omega.{arith}
-use lib.ListN.{length, take, drop, take-append-drop}
-use lib.Seq.{length-take-le}
-use Rattle.script.specs.Script.{Lies}
+use lib.ListN.{take, drop}
 use Rattle.script.specs.Do.{Piece, piece, good}
-use Rattle.script.proofs.Places.{lies-part}
+use Rattle.script.proofs.Places.{lies-front, lies-from}
 use Rattle.messages.specs.Message.{FieldRead}
 use Rattle.messages.specs.Control.{methodVerdict, pathVerdict, statusVerdict}
 use Rattle.http1.specs.Lines.{RequestRead, onRequest, requestOf, requestLens, onStatus, statusOf, statusLens, onField, fieldOf, fieldLens}
@@ -18,18 +16,8 @@ use Rattle.http1.specs.declared.StatusLine.the-variants as status
 use Rattle.http1.specs.declared.FieldLine.{FieldLine}
 use Rattle.http1.specs.declared.FieldLine.the-variants as field
 use Rattle.http1.proofs.Views.{field-view, request-view, status-view}
-use Rattle.http1_laws.specs.Placed.{Lying}
-use Rattle.http1_laws.proofs.Parts.{LineAt}
-
--- the front of what lies, and a part of it from b on
-pub lies-front : {s : List ℕ} {at : ℕ} {w : List ℕ} (n : ℕ) → Lies s at w → Lies s at (take n w)
-lies-front {at = at} {w} n y = lies-part [] (take n w) (drop n w) at (sym (take-append-drop n w)) (omega arith) y
-
-pub lies-from : {s : List ℕ} {at : ℕ} {w : List ℕ} (b e : ℕ) → b ≤ length w → Lies s at w → Lies s (at + b) (take e (drop b w))
-lies-from {at = at} {w} b e h y =
-    lies-part (take b w) (take e (drop b w)) (drop e (drop b w)) (at + b)
-    (sym (take-append-drop b w) ∙ ap (λ (l : List ℕ). take b w ++ l) (sym (take-append-drop e (drop b w))))
-    (omega (arith, length-take-le b w h)) y
+use Rattle.sound.specs.Placed.{Lying}
+use Rattle.sound.proofs.Parts.{LineAt}
 
 pub line-at : (s : List ℕ) (l : Piece) (f : FieldRead) → fieldOf l ≡ good f → Lying s l → LineAt s f
 unfolding fieldOf

@@ -2,8 +2,7 @@
 use Prim.Native.Nat.{ℕ, _≤_}
 use mathlib.Core.Path.{_≡_, refl, sym, subst}
 use mathlib.Core.Bool.{Bool, true, false, cond, not}
-use mathlib.Core.Option.{none, some}
-use mathlib.Core.List.{List, [], _∷_, map}
+use mathlib.Core.List.{List, [], map}
 use native.Mathlib.Omega.{arith}
 use borrow.Author.Tests.{eq-eqb, leb-true}
 use lib.Dec.{leb}
@@ -13,53 +12,25 @@ use Rattle.octets.specs.Refusals.{tooLarge}
 use Rattle.octets.specs.Text.{isEmpty}
 use Rattle.script.specs.Do.{Piece, piece, good, wrong}
 use Rattle.messages.specs.Message.{FieldRead}
-use Rattle.messages.specs.Control.{isHost, isBodyless}
-use Rattle.messages.specs.Names.{lineKind, sameKind, linesOf, kept, keptTrailers}
-use Rattle.messages.specs.Rules.{authorityFrom, orBadHost, authorityIn, requestBody, nothingStated, contentBody, responseBody, agrees}
+use Rattle.messages.specs.Control.{isBodyless}
+use Rattle.messages.specs.Names.{kept, keptTrailers}
+use Rattle.messages.specs.Rules.{authorityIn, requestBody, nothingStated, contentBody, responseBody, agrees}
 use Rattle.messages.specs.Meaning.{fieldMeans, contentOf}
 use Rattle.messages.specs.Valid.{validBody}
 use Rattle.messages.specs.declared.Body.{Body}
 use Rattle.messages.specs.declared.Body.the-variants.{Sized, InChunks}
 use Rattle.messages.specs.declared.Framing.{Framing}
 use Rattle.messages.specs.declared.Framing.the-variants.{Unstated, Stated, Chunked, Clashing}
-use Rattle.messages.specs.declared.Kind.{Kind}
 use Rattle.messages.specs.declared.Kind.the-variants as kind
 use Rattle.http1.specs.Read.{Content}
-use Rattle.http1_laws.specs.Placed.{Each}
+use Rattle.sound.proofs.Rules.{HostIs, authority-is, nothing-stated}
 
 -- ---- host
 
-pub each-of : (P : FieldRead → Type 0) (k : Kind) (fs : List FieldRead) → Each P fs → Each P (linesOf k fs)
-unfolding linesOf
-each-of P k [] h = tt
-each-of P k (f ∷ fs) h = go (sameKind (lineKind f) k) (each-of P k fs (h .1))
-  where
-    go : (b : Bool) → Each P (linesOf k fs) → Each P (cond b (f ∷ linesOf k fs) (linesOf k fs))
-    go true ih = (h .0, ih)
-    go false ih = ih
-
--- the one host line is the authority
-pub record HostIs (fs : List FieldRead) (a : Piece) : Type 0 where
-  pub line : FieldRead
-  pub one : linesOf kind.Host fs ≡ line ∷ []
-  pub same : a ≡ line .value
-  pub good : isHost (a .text) ≡ true
-
+-- in HTTP/1.1 control data have no authority
 pub host-is : (end : ℕ) (fs : List FieldRead) (a : Piece) → authorityIn end (piece 0 []) fs ≡ good a → HostIs fs a
-unfolding authorityIn authorityFrom isEmpty
-host-is end fs a e = go (linesOf kind.Host fs) refl e
-  where
-    pick : (f : FieldRead) → linesOf kind.Host fs ≡ f ∷ [] → (b : Bool) → isHost (f .value .text) ≡ b
-        → orBadHost end (cond b (some (f .value)) none) ≡ good a → HostIs fs a
-    pick f q true p g =
-        let z : f .value ≡ a = cc in
-        record { line = f; one = q; same = sym z; good = subst (λ (x : Piece). isHost (x .text) ≡ true) z p }
-    pick f q false p g = let z : _≡_ {A = ℕ} 0 1 = cc in absurd (omega arith)
-
-    go : (hs : List FieldRead) → linesOf kind.Host fs ≡ hs → orBadHost end (authorityFrom (piece 0 []) hs) ≡ good a → HostIs fs a
-    go [] q g = let z : _≡_ {A = ℕ} 0 1 = cc in absurd (omega arith)
-    go (f ∷ []) q g = pick f q (isHost (f .value .text)) refl g
-    go (f ∷ x ∷ hs) q g = let z : _≡_ {A = ℕ} 0 1 = cc in absurd (omega arith)
+unfolding isEmpty
+host-is end fs a e = authority-is end (piece 0 []) fs a e
 
 -- ---- lengths
 
@@ -107,14 +78,10 @@ content-framed end Clashing b e = request-framed end Clashing b e
 
 -- nothing is stated, and there is no content
 none-framed : (end : ℕ) (f : Framing) (b : Body) → nothingStated end f ≡ good b → Framed f b × (b ≡ Sized 0)
-unfolding nothingStated
-none-framed end Unstated b e =
-    let z : Sized 0 ≡ b = cc in
-    let x : Framed Unstated (Sized 0) = record { fits = omega arith; stated = λ c h. refl } in
-    (subst (Framed Unstated) z x, sym z)
-none-framed end (Stated n p) b e = let z : _≡_ {A = ℕ} 0 1 = cc in absurd (omega arith)
-none-framed end Chunked b e = let z : _≡_ {A = ℕ} 0 1 = cc in absurd (omega arith)
-none-framed end Clashing b e = let z : _≡_ {A = ℕ} 0 1 = cc in absurd (omega arith)
+none-framed end f b e =
+    let h = nothing-stated end f b e in
+    let x : Framed Unstated (Sized 0) = record { fits = omega arith; stated = λ c g. refl } in
+    (rw (h .0, h .1) x, h .1)
 
 -- content without octets and trailers is valid of any head
 empty-body : (t : Bool) (c : Content) → Fills (Sized 0) c → validBody t (contentOf (c .chunks)) (map fieldMeans (keptTrailers (c .trailers))) ≡ true

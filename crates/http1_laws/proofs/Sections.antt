@@ -1,12 +1,12 @@
 -- What sections and content give wherever they stand.
-use Prim.Native.Nat.{ℕ, zero, suc, _+_, _-_, _≤_}
-use mathlib.Core.Path.{_≡_, refl, sym, subst, _∙_}
+use Prim.Native.Nat.{ℕ, zero, suc, _+_, _-_}
+use mathlib.Core.Path.{_≡_, refl, subst}
 use mathlib.Core.Bool.{Bool, true, false, cond}
 use mathlib.Core.List.{List, [], _∷_, _++_}
 use native.Mathlib.Omega.{arith}
-use borrow.Author.Tests.{leb-false, ltb-false, eqb-true, eqb-false}
+use borrow.Author.Tests.{leb-false, ltb-false, eqb-false}
 use lib.Dec.{eqb, leb, ltb}
-use lib.ListN.{length, take, drop, length-append, take-append-drop}
+use lib.ListN.{length, take, drop}
 use lib.Seq.{length-take-le}
 use Rattle.octets.specs.Limits.{trailerMost, chunkLineMost, linesMost, chunksMost, contentMost}
 use Rattle.octets.specs.Refusals.{badLength, tooLarge, badSyntax}
@@ -14,17 +14,17 @@ use Rattle.octets.specs.Text.{isEmpty, sameText}
 use Rattle.script.specs.Script.{done, stop, someOctets, Lies, Every}
 use Rattle.script.specs.Do.{_>>=_, Piece, piece, word, tell, good, wrong}
 use Rattle.script.proofs.Do.{every-bind, every-map, every-tell, every-then}
-use Rattle.script.proofs.Places.{lies-part}
+use Rattle.script.proofs.Places.{lies-front}
 use Rattle.messages.specs.Message.{FieldRead}
 use Rattle.messages.specs.Names.{areTrailers}
 use Rattle.messages.specs.Meaning.{contentOf}
 use Rattle.messages.specs.declared.Body.{Body}
 use Rattle.messages.specs.declared.Body.the-variants.{Sized, InChunks}
 use Rattle.http1.specs.Lines.{fieldOf, chunkOf}
-use Rattle.http1.specs.Read.{lineWithin, less, Lines, fieldLines, section, Content, nonEmpty, trailerSection, chunkData, chunksFrom, content}
-use Rattle.http1_laws.specs.Placed.{Lying}
-use Rattle.http1_laws.proofs.Each.{content-snoc}
-use Rattle.http1_laws.proofs.Parts.{SectionAt, section-none, section-snoc, ChunksAt, chunks-none, chunks-snoc}
+use Rattle.http1.specs.Read.{lineWithin, less, Lines, fieldLines, section, Content, trailerSection, chunkData, chunksFrom, content}
+use Rattle.sound.specs.Placed.{Lying}
+use Rattle.sound.proofs.Each.{content-snoc}
+use Rattle.sound.proofs.Parts.{SectionAt, section-none, section-snoc, ChunksAt, chunks-none, chunks-snoc, chunks-one}
 use Rattle.http1_laws.proofs.Rules.{Fits, Fills}
 use Rattle.http1_laws.proofs.Lines.{line-at}
 
@@ -82,7 +82,7 @@ chunk-data s n at w c e l y = go (sameText (drop n w) (13 ∷ 10 ∷ [])) e
     go true g =
         let z : piece at (take n w) ≡ c = cc in
         let x : Lying s (piece at (take n w)) × (length (take n w) ≡ n) =
-        (lies-part [] (take n w) (drop n w) at (sym (take-append-drop n w)) (omega arith) y, length-take-le n w (omega arith)) in
+        (lies-front n y, length-take-le n w (omega arith)) in
         subst (λ (p : Piece). Lying s p × (length (p .text) ≡ n)) z x
     go false g = let z : _≡_ {A = ℕ} 0 1 = cc in absurd (omega arith)
 
@@ -114,18 +114,6 @@ every-chunks s (suc f) at cs total h t =
         ih _ c
         (chunks-snoc s cs c n h (d .0) (d .1) (eqb-false n 0 p) (leb-false chunksMost (length cs) q) (omega (arith, ltb-false contentMost (total + n) r)))
         (omega (arith, content-snoc cs c, d .1)))
-
--- octets of a stated length are one chunk, or none where there are none
-chunks-one : (s : List ℕ) (at : ℕ) (w : List ℕ) → Lies s at w → length w ≤ contentMost
-    → ChunksAt s (nonEmpty (piece at w)) × (length (contentOf (nonEmpty (piece at w))) ≡ length w)
-unfolding contentOf isEmpty
-chunks-one s at w y l = go (eqb (length w) 0) refl
-  where
-    go : (b : Bool) → eqb (length w) 0 ≡ b → ChunksAt s (cond b [] (piece at w ∷ [])) × (length (contentOf (cond b [] (piece at w ∷ []))) ≡ length w)
-    go true e = (chunks-none s, omega (arith, eqb-true (length w) 0 e))
-    go false e =
-        let z : length (w ++ []) ≡ length w = length-append w [] ∙ omega arith in
-        (record { each = (record { lies = y; some = omega (arith, eqb-false (length w) 0 e) }, tt); few = omega arith; small = omega arith }, z)
 
 pub every-content : (s : List ℕ) (b : Body) (at : ℕ) → Fits b → Every s (λ n c. ContentAt s c × Fills b c) at (content b)
 unfolding content contentOf areTrailers

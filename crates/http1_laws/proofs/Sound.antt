@@ -1,12 +1,12 @@
 -- What the two readers of HTTP/1.1 accept is sound.
-use Prim.Native.Nat.{ℕ, zero, suc, _+_, _<_, _≤_}
-use mathlib.Core.Path.{_≡_, refl, sym, subst}
+use Prim.Native.Nat.{ℕ, zero, suc, _≤_}
+use mathlib.Core.Path.{_≡_, refl}
 use mathlib.Core.Bool.{Bool, true, false, cond}
 use mathlib.Core.List.{List, [], _∷_, _++_}
 use native.Mathlib.Omega.{arith}
-use borrow.Author.Tests.{le-leb, leb-false}
+use borrow.Author.Tests.{leb-false}
 use lib.Dec.{leb}
-use lib.ListN.{length, length-append, length-map}
+use lib.ListN.{length}
 use Rattle.octets.specs.Limits.{headMost, informationalMost}
 use Rattle.octets.specs.Refusals.{notSupported, tooLarge}
 use Rattle.script.specs.Script.{accepted, refused, Script, stop, run, Every}
@@ -14,42 +14,33 @@ use Rattle.script.specs.Do.{_>>=_, Piece, piece, word, tell, good}
 use Rattle.script.proofs.Do.{every-bind, every-tell, every-then}
 use Rattle.script.proofs.Sound.{says, sound-all}
 use Rattle.messages.specs.Told.{Told}
-use Rattle.messages.specs.Message.{FieldRead, InformationalRead, requestStart, responseStart, Message}
+use Rattle.messages.specs.Message.{InformationalRead, requestStart, responseStart, Message}
 use Rattle.messages.specs.Control.{statusVerdict, isInformational}
 use Rattle.messages.specs.Rules.{authorityIn, framingOf, requestBody, nothingStated, responseBody}
-use Rattle.messages.specs.Meaning.{informationalMeans}
-use Rattle.messages.specs.Valid.{isScheme, validControl, validBody}
+use Rattle.messages.specs.Valid.{isScheme, validBody}
 use Rattle.messages.specs.declared.Body.{Body}
 use Rattle.messages.specs.declared.Kind.the-variants as kind
 use Rattle.http1.specs.Lines.{RequestRead, requestOf, statusOf}
 use Rattle.http1.specs.Read.{lineWithin, less, Lines, section, Content, content, afterHead, request, readRequest, afterFinal, heads, readResponse}
-use Rattle.http1_laws.specs.Placed.{Each, OfLine, Lying}
-use Rattle.http1_laws.specs.Sound.{GoodSection, Sound}
+use Rattle.sound.specs.Sound.{Sound}
 use Rattle.http1_laws.specs.Read.{IsRequest, IsResponse, Stated, SoundRequest, RequestsSound, ResponsesSound, Http1Reads}
-use Rattle.http1_laws.proofs.Each.{each-snoc, each-map}
-use Rattle.http1_laws.proofs.Valid.{GoodHead, heads-valid}
-use Rattle.http1_laws.proofs.Parts.{LineAt, SectionAt, section-good, section-lies, PartsAt, parts-sound}
-use Rattle.http1_laws.proofs.Rules.{each-of, HostIs, host-is, Fills, request-framed, ResponseFramed, response-framed}
+use Rattle.sound.proofs.Parts.{SectionAt, request-valid, HeadsAt, head-at, heads-none, heads-snoc, heads-lie, heads-good, response-valid, PartsAt, parts-sound}
+use Rattle.sound.proofs.Rules.{HostIs, host-lies}
+use Rattle.http1_laws.proofs.Rules.{host-is, Fills, request-framed, ResponseFramed, response-framed}
 use Rattle.http1_laws.proofs.Lines.{RequestAt, request-at, status-good}
 use Rattle.http1_laws.proofs.Sections.{every-section, ContentAt, every-content}
 use Rattle.http1_laws.proofs.Front.{request-within, response-within, request-front, response-front}
 
 -- ---- requests
 
--- the authority lies in the input, as the host line does
-host-lies : (s : List ℕ) (fs : List FieldRead) (a : Piece) → SectionAt s fs → HostIs fs a → Lying s a
-host-lies s fs a h k =
-    let x : Each (LineAt s) (k .line ∷ []) = rw (k .one) at (each-of (LineAt s) kind.Host fs (h .lines)) in
-    subst (Lying s) (sym (k .same)) (x .0 .lies .value)
-
 abbrev requestMessage : Told → RequestRead → Piece → Lines → Content → Message
 requestMessage t q a h c = record { start = requestStart (q .method) (t .scheme) a (q .path); lines = h .lines; chunks = c .chunks; trailers = c .trailers }
 
 request-parts : (s : List ℕ) (t : Told) (q : RequestRead) (a : Piece) (h : Lines) (c : Content) → isScheme (t .scheme) ≡ true → RequestAt s q
     → SectionAt s (h .lines) → HostIs (h .lines) a → ContentAt s c → PartsAt s (requestMessage t q a h c)
-unfolding validControl validBody
+unfolding validBody
 request-parts s t q a h c e r k p x = record {
-  control = rw (r .methodGood, e, p .good, r .pathGood);
+  control = request-valid (q .method .text) (a .text) (q .path .text) (t .scheme) (r .methodGood) e (p .good) (r .pathGood);
   body = refl;
   start = (r .method, host-lies s (h .lines) a k p, r .path);
   heads = tt;
@@ -95,40 +86,17 @@ request-sound t s n m e = go (isScheme (t .scheme)) refl e
 
 -- ---- responses
 
--- an informational head, and its lines lie in the input
-record HeadAt (s : List ℕ) (h : InformationalRead) : Type 0 where
-  good : GoodHead h
-  lies : Each (OfLine (Lying s)) (h .lines)
-
-record HeadsAt (s : List ℕ) (hs : List InformationalRead) : Type 0 where
-  each : Each (HeadAt s) hs
-  few : length hs ≤ informationalMost
-
-head-at : (s : List ℕ) (n : ℕ) (fs : List FieldRead) → statusVerdict n ≡ 0 → isInformational n ≡ true → SectionAt s fs → HeadAt s (record { status = n; lines = fs })
-head-at s n fs v i h = record { good = record { verdict = v; early = i; section = section-good s fs h }; lies = section-lies s fs h }
-
-heads-snoc : (s : List ℕ) (hs : List InformationalRead) (h : InformationalRead) → HeadsAt s hs → HeadAt s h → length hs < informationalMost → HeadsAt s (hs ++ h ∷ [])
-heads-snoc s hs h a b l = record { each = each-snoc (HeadAt s) hs h (a .each) b; few = rw (length-append hs (h ∷ [])) (omega arith) }
-
 abbrev responseMessage : List InformationalRead → ℕ → Lines → Content → Message
 responseMessage hs n h c = record { start = responseStart hs n; lines = h .lines; chunks = c .chunks; trailers = c .trailers }
 
 response-parts : (s : List ℕ) (hs : List InformationalRead) (n : ℕ) (h : Lines) (b : Body) (c : Content) → HeadsAt s hs → statusVerdict n ≡ 0
     → isInformational n ≡ false → SectionAt s (h .lines) → ResponseFramed n (framingOf (h .lines)) b → ContentAt s c → Fills b c
     → PartsAt s (responseMessage hs n h c)
-unfolding validControl
 response-parts s hs n h b c a v i k f x y = record {
-  control =
-      rw (
-        heads-valid hs (each-map (HeadAt s) GoodHead (λ z g. g .good) hs (a .each)),
-        length-map hs informationalMeans,
-        le-leb (length hs) informationalMost (a .few),
-        v,
-        i,
-      );
+  control = response-valid s hs n a v i;
   body = f .body c y;
-  start = each-map (HeadAt s) (λ z. Each (OfLine (Lying s)) (z .lines)) (λ z g. g .lies) hs (a .each);
-  heads = (each-map (HeadAt s) (λ z. GoodSection (z .lines)) (λ z g. g .good .section) hs (a .each), a .few);
+  start = heads-lie s hs a;
+  heads = heads-good s hs a;
   lines = k;
   chunks = x .chunks;
   trailers = x .trailers;
@@ -183,8 +151,7 @@ pub response-sound : ResponsesSound
 unfolding readResponse
 response-sound s n m e =
     let sc : Script Message = heads (suc informationalMost) [] headMost in
-    let a : HeadsAt s [] = record { each = tt; few = omega arith } in
-    let h = says (λ i x. ResponseEnd s x × (i ≤ length s)) (sound-all (λ i x. ResponseEnd s x) sc s (every-heads s (suc informationalMost) 0 [] headMost a)) e in
+    let h = says (λ i x. ResponseEnd s x × (i ≤ length s)) (sound-all (λ i x. ResponseEnd s x) sc s (every-heads s (suc informationalMost) 0 [] headMost (heads-none s))) e in
     let w = response-within s n m e in
     record { sound = h .0 .sound; response = h .0 .response; stated = h .0 .stated; some = w .0; within = w .1 }
 

@@ -1,4 +1,2 @@
 pub mod Front
-pub mod Placed
-pub mod Sound
 pub mod Read

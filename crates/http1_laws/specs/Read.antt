@@ -14,7 +14,7 @@ use Rattle.messages.specs.Meaning.{contentOf}
 use Rattle.messages.specs.declared.Kind.the-variants as kind
 use Rattle.http1.specs.Read.{readRequest, readResponse}
 use Rattle.http1_laws.specs.Front.{Front}
-use Rattle.http1_laws.specs.Sound.{Sound}
+use Rattle.sound.specs.Sound.{Sound}
 
 -- a request of the scheme that was told; host stands exactly once, and it is the authority
 abbrev pub IsRequest : Told → List FieldRead → Start → Type 0

@@ -1,5 +1,9 @@
 pub mod Picks
 pub mod Values
+pub mod Verdicts
+pub mod Valid
+pub mod ValidLines
+pub mod Samples
 pub mod Noting
 pub mod Hosting
 pub mod Lengths

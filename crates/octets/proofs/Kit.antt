@@ -1,8 +1,9 @@
 -- What `search` is handed at the needs of functions: the tests of the definitions from the facts of the code; and choices of cases.
 use mathlib.Core.Path.{_≡_, refl}
-use mathlib.Core.Bool.{Bool, true, false, _&&_}
+use mathlib.Core.Bool.{Bool, true, false, cond, _&&_}
 use mathlib.Core.Logic.{_⊎_, inl, inr}
 use Prim.Native.Nat.{ℕ, _<_, _≤_}
+use native.Mathlib.Omega.{arith}
 use lib.Dec.{ltb}
 use borrow.Author.Needs.{needs}
 use borrow.Author.Tests.{lt-ltb, le-ltb, le-leb, lt-leb, eq-eqb, ne-eqb, ltb-true, ltb-false}
@@ -27,3 +28,20 @@ and-split false b e = (e, cc)
 pub and-false : (t : Bool) → (t && false) ≡ false
 and-false true = refl
 and-false false = refl
+
+-- ---- tests taken apart: a `cond` that is good has passed or failed its test, where its other side is not good
+
+module _ {X : Type 0} {g b : X} (no : b ≡ g → ⊥) where
+  pub past : (t : Bool) (x : X) → cond t b x ≡ g → (t ≡ false) × (x ≡ g)
+  past true x e = absurd (no e)
+  past false x e = (refl, e)
+
+  pub into : (t : Bool) (x : X) → cond t x b ≡ g → (t ≡ true) × (x ≡ g)
+  into true x e = (refl, e)
+  into false x e = absurd (no e)
+
+pub no-true : false ≡ true → ⊥
+no-true e = let z : _≡_ {A = ℕ} 0 1 = cc in omega arith
+
+pub no-zero : (n : ℕ) → 0 < n → n ≡ 0 → ⊥
+no-zero n h e = omega arith

@@ -7,14 +7,23 @@ use native.Mathlib.Omega.{arith}
 use native.Mathlib.Nat.{add-zero}
 use native.Mathlib.Numerals.{add-one}
 use borrow.Author.Needs.{needs}
-use borrow.Author.Tests.{eq-eqb, ne-eqb, eqb-true}
+use borrow.Author.Tests.{eq-eqb, ne-eqb, eqb-true, eqb-false}
 use lib.Dec.{eqb}
 use lib.ListN.{length, getD, take, drop, drop-of-length-le, length-drop}
 use lib.Seq.{drop-cons, take-all, take-length, getD-take, length-take-le, drop-append-seam}
 use Rattle.octets.specs.Class.{hasClass}
-use Rattle.octets.specs.Text.{spanLen, all, lowerOf, isLower, sameText, trimBack}
+use Rattle.octets.specs.Text.{spanLen, all, lowerOf, isLower, sameText, trimBack, isEmpty}
 use Rattle.octets.proofs.Kit.{and-split, and-false}
 use Rattle.octets.proofs.Classes.{lower-lower, lower-class}
+
+-- whether there are octets at all
+pub some : (s : List ℕ) → isEmpty s ≡ false → 1 ≤ length s
+unfolding isEmpty
+some s e = let h : (length s ≡ 0 → ⊥) = eqb-false (length s) 0 e in omega arith
+
+pub not-empty : (s : List ℕ) → 1 ≤ length s → isEmpty s ≡ false
+unfolding isEmpty
+not-empty s h = ne-eqb (length s) 0 (λ e. omega arith)
 
 -- what a callee that is lent `&s[a..]` says of its list, said of the whole
 pub part-all : (s : List ℕ) (a : ℕ) → take (length s - a) (drop a s) ≡ drop a s

@@ -2,3 +2,6 @@ pub mod Parts
 pub mod Line
 pub mod Stored
 pub mod Turns
+pub mod ChunkTurns
+pub mod Outcomes
+pub mod Contents

@@ -1,4 +1,5 @@
 // Reading HTTP/1.1 from a stream: sections, chunks, requests and responses.
+pub mod content;
 pub mod lines;
 
 use messages::Notes;
@@ -24,6 +25,14 @@ pub struct LineRead {
     pub good: bool,
     pub kept: usize,
     pub notes: Notes,
+}
+
+// A chunk that was read: where its data start and how many octets they are; or the end of the last chunk line, which has size zero.
+pub enum ChunkRead {
+    Next { start: usize, len: usize },
+    Last { end: usize },
+    Refused { number: u32, place: usize },
+    More,
 }
 
 // Content that was read: the place behind it, how many non-empty chunks it has, how many octets they are, and how many kept trailers.

@@ -1,5 +1,4 @@
 -- What is kept of judged sections is valid.
-use Prim.Native.Nat.{ℕ, suc, _≤_}
 use mathlib.Core.Path.{_≡_, refl}
 use mathlib.Core.Bool.{Bool, true, false, cond}
 use mathlib.Core.List.{List, [], _∷_, map}
@@ -10,10 +9,11 @@ use Rattle.octets.specs.Limits.{linesMost}
 use Rattle.messages.specs.Message.{FieldRead, InformationalRead}
 use Rattle.messages.specs.Control.{statusVerdict, isInformational}
 use Rattle.messages.specs.Names.{lineKind, travels, kept}
+use Rattle.messages.proofs.Noting.{kept-few}
 use Rattle.messages.specs.Meaning.{fieldMeans, informationalMeans}
 use Rattle.messages.specs.Valid.{validField, validFields, validSection, validInformational, validHeads}
-use Rattle.http1_laws.specs.Placed.{Each}
-use Rattle.http1_laws.specs.Sound.{GoodLine, GoodSection}
+use Rattle.sound.specs.Placed.{Each}
+use Rattle.sound.specs.Sound.{GoodLine, GoodSection}
 
 -- a line that travels means a field that is valid
 pub field-valid : (host : Bool) (f : FieldRead) → GoodLine f → travels host (lineKind f) ≡ true → validField host (fieldMeans f) ≡ true
@@ -29,15 +29,6 @@ fields-valid host (f ∷ fs) h = go (travels host (lineKind f)) refl (fields-val
         → validFields host (map fieldMeans (cond b (f ∷ kept host fs) (kept host fs))) ≡ true
     go true e ih = rw (field-valid host f (h .0) e, ih)
     go false e ih = ih
-
-pub kept-few : (host : Bool) (fs : List FieldRead) → length (kept host fs) ≤ length fs
-unfolding kept
-kept-few host [] = omega arith
-kept-few host (f ∷ fs) = go (travels host (lineKind f)) (kept-few host fs)
-  where
-    go : (b : Bool) → length (kept host fs) ≤ length fs → length (cond b (f ∷ kept host fs) (kept host fs)) ≤ suc (length fs)
-    go true ih = omega arith
-    go false ih = omega arith
 
 pub section-valid : (host : Bool) (fs : List FieldRead) → GoodSection fs → validSection host (map fieldMeans (kept host fs)) ≡ true
 unfolding validSection

@@ -1,21 +1,25 @@
 -- The parts of a message as a reader has them, and that a message of such parts is sound. Of messages from either form.
 use Prim.Native.Nat.{ℕ, _+_, _<_, _≤_}
-use mathlib.Core.Path.{_≡_, refl}
-use mathlib.Core.Bool.{true, false}
+use mathlib.Core.Path.{_≡_, refl, _∙_}
+use mathlib.Core.Bool.{Bool, true, false, cond}
 use mathlib.Core.List.{List, [], _∷_, _++_, map}
 use native.Mathlib.Omega.{arith}
-use borrow.Author.Tests.{le-leb}
-use lib.ListN.{length, length-append}
-use Rattle.octets.specs.Limits.{linesMost, chunksMost, contentMost}
-use Rattle.script.specs.Do.{Piece}
-use Rattle.messages.specs.Message.{FieldRead, Start, requestStart, responseStart, isResponse, Message}
+use borrow.Author.Tests.{le-leb, eqb-true, eqb-false}
+use lib.Dec.{eqb}
+use lib.ListN.{length, length-append, length-map}
+use Rattle.octets.specs.Text.{isEmpty}
+use Rattle.octets.specs.Limits.{linesMost, chunksMost, contentMost, informationalMost}
+use Rattle.script.specs.Script.{Lies}
+use Rattle.script.specs.Do.{Piece, piece}
+use Rattle.messages.specs.Control.{methodVerdict, pathVerdict, isHost, statusVerdict, isInformational}
+use Rattle.messages.specs.Message.{FieldRead, InformationalRead, Start, requestStart, responseStart, isResponse, Message}
 use Rattle.messages.specs.Names.{keptTrailers, areTrailers}
-use Rattle.messages.specs.Meaning.{fieldMeans, controlMeans, contentOf, meaning}
-use Rattle.messages.specs.Valid.{validControl, validBody, ofResponse, hasBody, valid}
-use Rattle.http1_laws.specs.Placed.{Each, OfLine, OfStart, Lying, Placed}
-use Rattle.http1_laws.specs.Sound.{GoodLine, GoodSection, GoodHeads, Sound}
-use Rattle.http1_laws.proofs.Each.{each-snoc, each-map, placed-inside, content-snoc, lengths-content}
-use Rattle.http1_laws.proofs.Valid.{section-valid}
+use Rattle.messages.specs.Meaning.{fieldMeans, informationalMeans, request, response, controlMeans, contentOf, meaning}
+use Rattle.messages.specs.Valid.{isScheme, validControl, validBody, ofResponse, hasBody, valid}
+use Rattle.sound.specs.Placed.{Each, OfLine, OfStart, Lying, Placed}
+use Rattle.sound.specs.Sound.{GoodLine, GoodSection, GoodHeads, Sound}
+use Rattle.sound.proofs.Each.{each-snoc, each-map, placed-inside, content-snoc, lengths-content}
+use Rattle.sound.proofs.Valid.{section-valid, GoodHead, heads-valid}
 
 -- ---- sections
 
@@ -67,6 +71,60 @@ chunks-snoc s cs c n h y l p q r = record {
   few = rw (length-append cs (c ∷ [])) (omega arith);
   small = omega (arith, content-snoc cs c);
 }
+
+-- octets that lie together are one chunk, or none where there are none
+pub chunks-one : (s : List ℕ) (at : ℕ) (w : List ℕ) → Lies s at w → length w ≤ contentMost
+    → ChunksAt s (cond (isEmpty w) [] (piece at w ∷ [])) × (length (contentOf (cond (isEmpty w) [] (piece at w ∷ []))) ≡ length w)
+unfolding contentOf isEmpty
+chunks-one s at w y l = go (eqb (length w) 0) refl
+  where
+    go : (b : Bool) → eqb (length w) 0 ≡ b → ChunksAt s (cond b [] (piece at w ∷ [])) × (length (contentOf (cond b [] (piece at w ∷ []))) ≡ length w)
+    go true e = (chunks-none s, omega (arith, eqb-true (length w) 0 e))
+    go false e =
+        let z : length (w ++ []) ≡ length w = length-append w [] ∙ omega arith in
+        (record { each = (record { lies = y; some = omega (arith, eqb-false (length w) 0 e) }, tt); few = omega arith; small = omega arith }, z)
+
+-- ---- control data
+
+pub request-valid : (m a p : List ℕ) (s : ℕ) → methodVerdict m ≡ 0 → isScheme s ≡ true → isHost a ≡ true → pathVerdict p ≡ 0 → validControl (request m s a p) ≡ true
+unfolding validControl
+request-valid m a p s e f g h = rw (e, f, g, h)
+
+-- an informational head, and its lines lie in the input
+pub record HeadAt (s : List ℕ) (h : InformationalRead) : Type 0 where
+  pub good : GoodHead h
+  pub lies : Each (OfLine (Lying s)) (h .lines)
+
+pub record HeadsAt (s : List ℕ) (hs : List InformationalRead) : Type 0 where
+  pub each : Each (HeadAt s) hs
+  pub few : length hs ≤ informationalMost
+
+pub head-at : (s : List ℕ) (n : ℕ) (fs : List FieldRead) → statusVerdict n ≡ 0 → isInformational n ≡ true → SectionAt s fs → HeadAt s (record { status = n; lines = fs })
+head-at s n fs v i h = record { good = record { verdict = v; early = i; section = section-good s fs h }; lies = section-lies s fs h }
+
+pub heads-snoc : (s : List ℕ) (hs : List InformationalRead) (h : InformationalRead) → HeadsAt s hs → HeadAt s h → length hs < informationalMost → HeadsAt s (hs ++ h ∷ [])
+heads-snoc s hs h a b l = record { each = each-snoc (HeadAt s) hs h (a .each) b; few = rw (length-append hs (h ∷ [])) (omega arith) }
+
+pub heads-none : (s : List ℕ) → HeadsAt s []
+heads-none s = record { each = tt; few = omega arith }
+
+pub heads-lie : (s : List ℕ) (hs : List InformationalRead) → HeadsAt s hs → Each (λ h. Each (OfLine (Lying s)) (h .lines)) hs
+heads-lie s hs a = each-map (HeadAt s) (λ h. Each (OfLine (Lying s)) (h .lines)) (λ h g. g .lies) hs (a .each)
+
+pub heads-good : (s : List ℕ) (hs : List InformationalRead) → HeadsAt s hs → Each (λ h. GoodSection (h .lines)) hs × (length hs ≤ informationalMost)
+heads-good s hs a = (each-map (HeadAt s) (λ h. GoodSection (h .lines)) (λ h g. g .good .section) hs (a .each), a .few)
+
+pub response-valid : (s : List ℕ) (hs : List InformationalRead) (n : ℕ) → HeadsAt s hs → statusVerdict n ≡ 0 → isInformational n ≡ false
+    → validControl (response (map informationalMeans hs) n) ≡ true
+unfolding validControl
+response-valid s hs n a v i =
+    rw (
+      heads-valid hs (each-map (HeadAt s) GoodHead (λ h g. g .good) hs (a .each)),
+      length-map hs informationalMeans,
+      le-leb (length hs) informationalMost (a .few),
+      v,
+      i,
+    )
 
 -- ---- messages
 

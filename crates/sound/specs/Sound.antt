@@ -13,7 +13,7 @@ use Rattle.messages.specs.Control.{isLowerName, isTrimmedValue}
 use Rattle.messages.specs.Names.{areTrailers}
 use Rattle.messages.specs.Meaning.{contentOf, meaning}
 use Rattle.messages.specs.Valid.{valid}
-use Rattle.http1_laws.specs.Placed.{Each, OfParts, Inside, Placed}
+use Rattle.sound.specs.Placed.{Each, OfParts, Inside, Placed}
 
 -- a field line: its name in lower case obeys the rule of names, and its value has no blank at an end
 pub record GoodLine (f : FieldRead) : Type 0 where

@@ -8,10 +8,11 @@ use lib.ListN.{length, length-append}
 use Rattle.script.specs.Do.{Piece}
 use Rattle.script.proofs.Places.{lies-in}
 use Rattle.messages.specs.Message.{FieldRead, InformationalRead, Start, requestStart, responseStart, Message}
-use Rattle.messages.specs.Names.{lineKind, travels, kept}
+use Rattle.messages.specs.Names.{lineKind, sameKind, linesOf}
+use Rattle.messages.specs.declared.Kind.{Kind}
 use Rattle.messages.specs.Meaning.{contentOf}
-use Rattle.http1_laws.specs.Placed.{Each, OfLine, OfStart, OfParts, Lying, Inside, Placed}
-use Rattle.http1_laws.specs.Sound.{lengths}
+use Rattle.sound.specs.Placed.{Each, OfLine, OfStart, OfParts, Lying, Inside, Placed}
+use Rattle.sound.specs.Sound.{lengths}
 
 module _ {A : Type 0} (P : A → Type 0) where
   pub each-snoc : (xs : List A) (x : A) → Each P xs → P x → Each P (xs ++ x ∷ [])
@@ -22,13 +23,13 @@ module _ {A : Type 0} (P : A → Type 0) where
   each-map Q f [] h = tt
   each-map Q f (x ∷ xs) h = (f x (h .0), each-map Q f xs (h .1))
 
--- what holds of each line holds of each line that travels
-pub each-kept : (P : FieldRead → Type 0) (host : Bool) (fs : List FieldRead) → Each P fs → Each P (kept host fs)
-unfolding kept
-each-kept P host [] h = tt
-each-kept P host (f ∷ fs) h = go (travels host (lineKind f)) (each-kept P host fs (h .1))
+-- what holds of each line holds of each line of a kind
+pub each-of : (P : FieldRead → Type 0) (k : Kind) (fs : List FieldRead) → Each P fs → Each P (linesOf k fs)
+unfolding linesOf
+each-of P k [] h = tt
+each-of P k (f ∷ fs) h = go (sameKind (lineKind f) k) (each-of P k fs (h .1))
   where
-    go : (b : Bool) → Each P (kept host fs) → Each P (cond b (f ∷ kept host fs) (kept host fs))
+    go : (b : Bool) → Each P (linesOf k fs) → Each P (cond b (f ∷ linesOf k fs) (linesOf k fs))
     go true ih = (h .0, ih)
     go false ih = ih
 

@@ -1,0 +1,141 @@
+-- What content, trailers and padding give wherever they stand.
+use Prim.Native.Nat.{ℕ, zero, suc, _+_}
+use mathlib.Core.Path.{_≡_, refl, subst}
+use mathlib.Core.Bool.{Bool, true, false, cond, _||_}
+use mathlib.Core.List.{List, [], _∷_, _++_, map}
+use native.Mathlib.Omega.{arith}
+use borrow.Author.Tests.{eqb-false, leb-false, ltb-false}
+use lib.Dec.{ltb, leb, eqb}
+use lib.ListN.{length}
+use Rattle.octets.specs.Limits.{chunksMost, contentMost}
+use Rattle.octets.specs.Refusals.{badPadding}
+use Rattle.octets.specs.Text.{isEmpty}
+use Rattle.octets.proofs.Kit.{into}
+use Rattle.script.specs.Do.{Piece, piece, good}
+use Rattle.messages.specs.Message.{FieldRead, Section, Start, Message}
+use Rattle.messages.specs.Names.{areTrailers, kept, keptTrailers}
+use Rattle.messages.specs.Rules.{agrees}
+use Rattle.messages.specs.Meaning.{fieldMeans, contentOf}
+use Rattle.messages.specs.Valid.{noFields, validBody}
+use Rattle.messages.specs.declared.Framing.{Framing}
+use Rattle.binary.specs.Reader.{no}
+use Rattle.binary.specs.Read.{knownContent, openChunks, content, contentRule, noLines, trailerRule, trailers, padding, afterHeaders}
+use Rattle.sound.proofs.Each.{content-snoc}
+use Rattle.sound.proofs.Parts.{ChunksAt, chunks-none, chunks-snoc, chunks-one}
+use Rattle.binary_sound.proofs.Judgement.{Stands, stands-on, Gets, Every, every-give, every-refuse, every-here, every-ended, every-tell, every-if, every-integer, every-octets, every-bind, every-then}
+use Rattle.binary_sound.proofs.Parts.{every-within}
+use Rattle.binary_sound.proofs.Lines.{no-wrong, LinesAt, lines-none, every-section}
+
+-- ---- the rules
+
+-- a message that may have no content has none, and its head's length is the content's
+pub record Filled (body : Bool) (f : Framing) (cs : List Piece) : Type 0 where
+  pub agreed : agrees f (length (contentOf cs)) ≡ true
+  pub empty : (body || isEmpty (contentOf cs)) ≡ true
+
+content-is : (body : Bool) (f : Framing) (end : ℕ) (cs c : List Piece) → contentRule body f end cs ≡ good c → (cs ≡ c) × Filled body f cs
+unfolding contentRule
+content-is body f end cs c e =
+    let a = into no-wrong (agrees f (length (contentOf cs))) _ e in
+    let b = into no-wrong (body || isEmpty (contentOf cs)) _ (a .1) in
+    (cc, record { agreed = a .0; empty = b .0 })
+
+pub record Named (body : Bool) (ts : List FieldRead) : Type 0 where
+  pub names : areTrailers ts ≡ true
+  pub none : (body || noLines (keptTrailers ts)) ≡ true
+
+trailers-are : (body : Bool) (h : Section) (ts : List FieldRead) → trailerRule body h ≡ good ts → (h .lines ≡ ts) × Named body (h .lines)
+unfolding trailerRule
+trailers-are body h ts e =
+    let a = into no-wrong (areTrailers (h .lines)) _ e in
+    let b = into no-wrong (body || noLines (keptTrailers (h .lines))) _ (a .1) in
+    (cc, record { names = a .0; none = b .0 })
+
+or-true : (b : Bool) → (b || true) ≡ true
+or-true true = refl
+or-true false = refl
+
+named-none : (body : Bool) → Named body []
+unfolding areTrailers keptTrailers kept
+named-none body = record { names = refl; none = or-true body }
+
+-- what the rules say is what a valid meaning has
+as-many : (ts : List FieldRead) → noFields (map fieldMeans ts) ≡ noLines ts
+as-many [] = refl
+as-many (t ∷ ts) = refl
+
+pub body-valid : (body : Bool) (cs : List Piece) (ts : List FieldRead) → (body || isEmpty (contentOf cs)) ≡ true → (body || noLines (keptTrailers ts)) ≡ true
+    → validBody body (contentOf cs) (map fieldMeans (keptTrailers ts)) ≡ true
+unfolding validBody
+body-valid true cs ts h g = refl
+body-valid false cs ts h g = rw (h, as-many (keptTrailers ts), g)
+
+-- ---- the readers
+
+module _ {s : List ℕ} {e : ℕ} where
+  every-known-content : {at : ℕ} → Every s e (λ n cs. ChunksAt s cs) at knownContent
+  unfolding knownContent
+  every-known-content = every-then _ (every-within contentMost) λ i c g. every-give (chunks-one s (c .place) (c .text) (g .0) (g .1) .0)
+
+  every-chunks : (f : ℕ) {at : ℕ} (cs : List Piece) (total : ℕ) → ChunksAt s cs → length (contentOf cs) ≡ total
+      → Every s e (λ n c. ChunksAt s c) at (openChunks f cs total)
+  unfolding openChunks
+  every-chunks zero cs total h t = every-refuse
+  every-chunks (suc f) cs total h t =
+      every-bind _ (every-here (every-bind _ (every-integer _ _ λ i n.
+      every-if (eqb n 0) (λ a. every-give h) λ a.
+      every-if (leb chunksMost (length cs)) (λ b. every-refuse) λ b.
+      every-if (ltb contentMost (total + n)) (λ c. every-refuse) λ c.
+      every-bind _ (every-octets n _ _ λ w l y.
+      every-chunks f (cs ++ piece i w ∷ []) (total + n)
+      (chunks-snoc s cs (piece i w) n h y l (eqb-false n 0 a) (leb-false chunksMost (length cs) b) (omega (arith, ltb-false contentMost (total + n) c)))
+      (omega (arith, content-snoc cs (piece i w)))))))
+
+  every-content : {at : ℕ} (known : Bool) → Every s e (λ n cs. ChunksAt s cs) at (content known)
+  unfolding content contentOf
+  every-content known =
+      every-bind _ (every-ended λ b.
+      every-if b (λ t. every-give (chunks-none s)) λ t.
+      every-if known (λ u. every-known-content) (λ u. every-chunks (suc chunksMost) [] 0 (chunks-none s) refl))
+
+  every-trailers : {at : ℕ} (known body : Bool) → Every s e (λ n ts. LinesAt s ts × Named body ts) at (trailers known body)
+  unfolding trailers
+  every-trailers known body =
+      every-bind _ (every-ended λ b.
+      every-if b (λ t. every-give (lines-none s, named-none body)) λ t.
+      every-then _ (every-section known) λ i h g.
+      every-tell (trailerRule body h) λ ts q. let r = trailers-are body h ts q in (subst (LinesAt s) (r .0) g, subst (Named body) (r .0) (r .1)))
+
+  -- to the end of the input
+  padded : (at : ℕ) (l : List ℕ) → Stands s e at l → Gets (λ n i z. Stands s e n i × (n ≡ e)) (padding at l)
+  unfolding padding
+  padded at [] y = (y, omega (arith, y .ends))
+  padded at (b ∷ l) y = on (eqb b 0) (padded (at + 1) l (stands-on 1 (omega arith) y))
+    where
+      on : (t : Bool) → Gets (λ n i z. Stands s e n i × (n ≡ e)) (padding (at + 1) l)
+          → Gets (λ n i z. Stands s e n i × (n ≡ e)) (cond t (padding (at + 1) l) (no badPadding at))
+      on true ih = ih
+      on false ih = tt
+
+  every-padding : {at : ℕ} → Every s e (λ n z. n ≡ e) at padding
+  every-padding {at} = record { go = λ l y. padded at l y }
+
+-- ---- behind the header section
+
+pub record TailAt (s : List ℕ) (body : Bool) (f : Framing) (cs : List Piece) (ts : List FieldRead) : Type 0 where
+  pub chunks : ChunksAt s cs
+  pub filled : Filled body f cs
+  pub trailers : LinesAt s ts
+  pub named : Named body ts
+
+pub every-after : {s : List ℕ} {e : ℕ} {P : ℕ → Message → Type 0} {at : ℕ} (known body : Bool) (start : Start) (h : Section) (f : Framing)
+    → ((cs : List Piece) (ts : List FieldRead) → TailAt s body f cs ts → P e (record { start = start; lines = h .lines; chunks = cs; trailers = ts }))
+    → Every s e P at (afterHeaders known body start h f)
+unfolding afterHeaders
+every-after {s} {e} {P} known body start h f k =
+    every-then _ (every-content known) λ i cs a.
+    every-bind _ (every-here (every-bind _ (every-tell (contentRule body f _ cs) λ c q.
+    let r = content-is body f _ cs c q in
+    every-then _ (every-trailers known body) λ j ts b.
+    every-then _ every-padding λ n z p.
+    every-give (rw (← p, r .0) at (k cs ts (record { chunks = a; filled = r .1; trailers = b .0; named = b .1 }))))))

@@ -1,0 +1,5 @@
+pub mod Judgement
+pub mod Parts
+pub mod Lines
+pub mod Content
+pub mod Sound

@@ -1,0 +1,235 @@
+-- What the reader of Binary HTTP accepts is sound.
+use Prim.Native.Nat.{ℕ, zero, suc, _<_, _≤_}
+use mathlib.Core.Path.{_≡_, refl, sym, subst}
+use mathlib.Core.Bool.{Bool, true, false, cond, not}
+use mathlib.Core.Logic.{_⊎_, inl, inr}
+use mathlib.Core.List.{List, [], _∷_, _++_}
+use native.Mathlib.Omega.{arith}
+use borrow.Author.Tests.{leb-true, leb-false, ltb-true}
+use lib.Dec.{leb, eqb}
+use lib.ListN.{length}
+use Rattle.octets.specs.Limits.{binaryMost, informationalMost}
+use Rattle.octets.specs.Refusals.{tooLarge}
+use Rattle.octets.specs.Text.{isEmpty}
+use Rattle.octets.proofs.Texts.{some}
+use Rattle.script.specs.Script.{accepted, refused}
+use Rattle.script.specs.Do.{Piece, good}
+use Rattle.script.proofs.Places.{lies-all}
+use Rattle.messages.specs.Message.{FieldRead, Section, InformationalRead, requestStart, responseStart, Message}
+use Rattle.messages.specs.Control.{isHost, statusVerdict, isInformational, isBodyless}
+use Rattle.messages.specs.Names.{linesOf}
+use Rattle.messages.specs.Rules.{authorityIn, binaryFramingOf, nothingStated, mayState}
+use Rattle.messages.specs.Valid.{isScheme}
+use Rattle.messages.specs.declared.Framing.{Framing}
+use Rattle.messages.specs.declared.Framing.the-variants.{Unstated, Stated, Chunked, Clashing}
+use Rattle.messages.specs.declared.Kind.the-variants as kind
+use Rattle.messages.proofs.Verdicts.{host-made}
+use Rattle.messages.proofs.Valid.{host-ok}
+use Rattle.numbers.specs.Integer.{readInt}
+use Rattle.binary.specs.Reader.{Got, got, no, _>>=_, integer}
+use Rattle.binary.specs.Read.{RequestControl, requestMessage, finalResponse, responseMessage, message, answerOf, readBinary}
+use Rattle.sound.specs.Placed.{Each, Lying}
+use Rattle.sound.proofs.Each.{each-snoc}
+use Rattle.sound.proofs.Parts.{SectionAt, request-valid, HeadsAt, head-at, heads-none, heads-snoc, heads-lie, heads-good, response-valid, PartsAt, parts-sound}
+use Rattle.sound.proofs.Rules.{AuthorityIs, authority-is, host-lies, nothing-stated}
+use Rattle.binary_sound.specs.Sound.{GoodStart, Stated as IsStated, LowerName, LowerNames, SoundBinary, BinarySound}
+use Rattle.binary_sound.proofs.Judgement.{Stands, Gets, Every, every-refuse, every-here, every-tell, every-rule, every-if, every-integer, every-bind, every-then}
+use Rattle.binary_sound.proofs.Parts.{ControlAt, every-control}
+use Rattle.binary_sound.proofs.Lines.{LinesAt, every-section}
+use Rattle.binary_sound.proofs.Content.{body-valid, TailAt, every-after}
+
+-- what is known of each message at its end
+pub record MessageAt (s : List ℕ) (m : Message) : Type 0 where
+  pub parts : PartsAt s m
+  pub start : GoodStart (m .start) (m .lines)
+  pub stated : IsStated m
+  pub names : LowerNames m
+
+may-state : (end : ℕ) (f g : Framing) → mayState end f ≡ good g → f ≡ g
+unfolding mayState
+may-state end Unstated g e = cc
+may-state end (Stated n p) g e = cc
+may-state end Chunked g e = cc
+may-state end Clashing g e = cc
+
+-- ---- requests
+
+record AuthorityAt (s : List ℕ) (fs : List FieldRead) (a : Piece) : Type 0 where
+  lies : Lying s a
+  host : isHost (a .text) ≡ true
+  equal : Each (λ f. f .value .text ≡ a .text) (linesOf kind.Host fs)
+  once : length (linesOf kind.Host fs) ≤ 1
+
+authority-at : (s : List ℕ) (q : RequestControl) (fs : List FieldRead) (a : Piece) → ControlAt s q → SectionAt s fs → (b : Bool)
+    → isEmpty (q .authority .text) ≡ b → AuthorityIs b (q .authority) fs a → AuthorityAt s fs a
+authority-at s q fs a c h true e k = record {
+  lies = host-lies s fs a h k;
+  host = k .good;
+  equal = rw (k .one, k .same) (refl, tt);
+  once = rw (k .one) (omega arith);
+}
+authority-at s q fs a c h false e k =
+    let p = c .authority in
+    let made : AuthorityAt s fs (q .authority) = record {
+      lies = p .lies;
+      host = host-made (q .authority .text) e (p .short) (p .keeps);
+      equal = k .equal;
+      once = k .few;
+    } in
+    subst (AuthorityAt s fs) (sym (k .same)) made
+
+scheme-number : (v : ℕ) → isScheme v ≡ true → (v ≡ 0) ⊎ (v ≡ 1)
+unfolding isScheme
+scheme-number zero h = inl refl
+scheme-number (suc zero) h = inr refl
+scheme-number (suc (suc v)) h = let z = ltb-true (suc (suc v)) 2 h in absurd (omega arith)
+
+request-at : (s : List ℕ) (q : RequestControl) (h : Section) (a : Piece) (f : Framing) (cs : List Piece) (ts : List FieldRead) → ControlAt s q
+    → LinesAt s (h .lines) → AuthorityAt s (h .lines) a → binaryFramingOf (h .lines) ≡ f → TailAt s true f cs ts
+    → MessageAt s (record { start = requestStart (q .method) (q .scheme) a (q .path); lines = h .lines; chunks = cs; trailers = ts })
+request-at s q h a f cs ts c l o g t = record {
+  parts = record {
+    control = request-valid (q .method .text) (a .text) (q .path .text) (q .scheme) (c .method .keeps) (c .scheme) (o .host) (c .path .keeps);
+    body = body-valid true cs ts (t .filled .empty) (t .named .none);
+    start = (c .method .lies, o .lies, c .path .lies);
+    heads = tt;
+    lines = l .section;
+    chunks = t .chunks;
+    trailers = t .trailers .section;
+    names = t .named .names;
+  };
+  start = record {
+    scheme = scheme-number (q .scheme) (c .scheme);
+    some = some (a .text) (host-ok (a .text) (o .host) .some);
+    host = o .host;
+    equal = o .equal;
+    once = o .once;
+  };
+  stated = rw g (t .filled .agreed);
+  names = record { heads = tt; lines = l .lower; trailers = t .trailers .lower };
+}
+
+-- ---- responses
+
+record HeadsIn (s : List ℕ) (hs : List InformationalRead) : Type 0 where
+  heads : HeadsAt s hs
+  lower : Each (λ h. Each LowerName (h .lines)) hs
+  unstated : Each (λ h. binaryFramingOf (h .lines) ≡ Unstated) hs
+
+one-more : (s : List ℕ) (hs : List InformationalRead) (n : ℕ) (fs : List FieldRead) → HeadsIn s hs → statusVerdict n ≡ 0 → isInformational n ≡ true
+    → LinesAt s fs → binaryFramingOf fs ≡ Unstated → length hs < informationalMost → HeadsIn s (hs ++ record { status = n; lines = fs } ∷ [])
+one-more s hs n fs a v i l u k = record {
+  heads = heads-snoc s hs _ (a .heads) (head-at s n fs v i (l .section)) k;
+  lower = each-snoc (λ (h : InformationalRead). Each LowerName (h .lines)) hs _ (a .lower) (l .lower);
+  unstated = each-snoc (λ (h : InformationalRead). binaryFramingOf (h .lines) ≡ Unstated) hs _ (a .unstated) u;
+}
+
+response-at : (s : List ℕ) (hs : List InformationalRead) (n : ℕ) (h : Section) (body : Bool) (f : Framing) (cs : List Piece) (ts : List FieldRead) → HeadsIn s hs
+    → statusVerdict n ≡ 0 → isInformational n ≡ false → LinesAt s (h .lines) → not (isBodyless n) ≡ body → binaryFramingOf (h .lines) ≡ f
+    → (isBodyless n ≡ true → binaryFramingOf (h .lines) ≡ Unstated) → TailAt s body f cs ts
+    → MessageAt s (record { start = responseStart hs n; lines = h .lines; chunks = cs; trailers = ts })
+response-at s hs n h body f cs ts a v i l b g u t = record {
+  parts = record {
+    control = response-valid s hs n (a .heads) v i;
+    body = rw b (body-valid body cs ts (t .filled .empty) (t .named .none));
+    start = heads-lie s hs (a .heads);
+    heads = heads-good s hs (a .heads);
+    lines = l .section;
+    chunks = t .chunks;
+    trailers = t .trailers .section;
+    names = t .named .names;
+  };
+  start = record { early = a .unstated; bodyless = u };
+  stated = rw g (t .filled .agreed);
+  names = record { heads = a .lower; lines = l .lower; trailers = t .trailers .lower };
+}
+
+module _ {s : List ℕ} {e : ℕ} where
+  every-request : {at : ℕ} (known : Bool) → Every s e (λ n m. MessageAt s m × (n ≡ e)) at (requestMessage known)
+  unfolding requestMessage
+  every-request known =
+      every-then _ every-control λ i q c.
+      every-then _ (every-section known) λ j h l.
+      every-bind _ (every-tell (authorityIn (h .end) (q .authority) (h .lines)) λ a p.
+      every-bind _ (every-tell (mayState (h .end) (binaryFramingOf (h .lines))) λ f g.
+      let o = authority-at s q (h .lines) a c (l .section) (isEmpty (q .authority .text)) refl (authority-is (h .end) (q .authority) (h .lines) a p) in
+      every-after known true _ h f λ cs ts t. (request-at s q h a f cs ts c l o (may-state (h .end) _ f g) t, refl)))
+
+  every-final : {at : ℕ} (known : Bool) (hs : List InformationalRead) (n : ℕ) → HeadsIn s hs → statusVerdict n ≡ 0 → isInformational n ≡ false
+      → Every s e (λ i m. MessageAt s m × (i ≡ e)) at (finalResponse known hs n)
+  unfolding finalResponse
+  every-final known hs n a v i =
+      every-then _ (every-section known) λ j h l.
+      every-if (isBodyless n)
+      (λ b.
+      every-bind _ (every-tell (nothingStated (h .end) (binaryFramingOf (h .lines))) λ u g.
+      let f = nothing-stated (h .end) _ u g .0 in
+      every-after known false _ h Unstated λ cs ts t. (response-at s hs n h false Unstated cs ts a v i l (rw b) f (λ z. f) t, refl)))
+      (λ b.
+      every-bind _ (every-tell (mayState (h .end) (binaryFramingOf (h .lines))) λ f g.
+      every-after known true _ h f λ cs ts t. (response-at s hs n h true f cs ts a v i l (rw b) (may-state (h .end) _ f g) (λ z. cc) t, refl)))
+
+  every-response : (f : ℕ) {at : ℕ} (known : Bool) (hs : List InformationalRead) → HeadsIn s hs
+      → Every s e (λ i m. MessageAt s m × (i ≡ e)) at (responseMessage known f hs)
+  unfolding responseMessage
+  every-response zero known hs a = every-refuse
+  every-response (suc f) known hs a =
+      every-bind _ (every-here (every-bind _ (every-integer _ _ λ i n.
+      every-bind _ (every-rule (statusVerdict n) _ n λ v.
+      every-if (isInformational n)
+      (λ b.
+      every-if (leb informationalMost (length hs)) (λ c. every-refuse) λ c.
+      every-then _ (every-section known) λ j h l.
+      every-bind _ (every-tell (nothingStated (h .end) (binaryFramingOf (h .lines))) λ u g.
+      every-response f known _ (one-more s hs n (h .lines) a v b l (nothing-stated (h .end) _ u g .0) (leb-false informationalMost (length hs) c))))
+      (λ b. every-final known hs n a v b)))))
+
+  every-message : {at : ℕ} → Every s e (λ n m. MessageAt s m × (n ≡ e)) at message
+  unfolding message
+  every-message =
+      let a : HeadsIn s [] = record { heads = heads-none s; lower = tt; unstated = tt } in
+      every-bind _ (every-integer _ _ λ i f.
+      every-if (leb f 3)
+      (λ t.
+      every-if (eqb f 0) (λ u. every-request true) λ u.
+      every-if (eqb f 1) (λ v. every-response (suc informationalMost) true [] a) λ v.
+      every-if (eqb f 2) (λ w. every-request false) (λ w. every-response (suc informationalMost) false [] a))
+      (λ t. every-refuse))
+
+-- the framing is an integer: an input without octets is cut off
+not-none : (n : ℕ) (m : Message) → readBinary [] ≡ accepted n m → ⊥
+unfolding readBinary message integer readInt _>>=_
+not-none n m q = let z : _≡_ {A = ℕ} 0 1 = cc in omega arith
+
+some-octets : (s : List ℕ) (n : ℕ) (m : Message) → readBinary s ≡ accepted n m → 0 < length s
+some-octets [] n m q = absurd (not-none n m q)
+some-octets (b ∷ s) n m q = omega arith
+
+pub binary-sound : BinarySound
+unfolding readBinary
+binary-sound s n m q = on (leb (length s) binaryMost) refl q
+  where
+    pick : length s ≤ binaryMost → (x : Got Message) → Gets (λ k l y. Stands s (length s) k l × (MessageAt s y × (k ≡ length s))) x
+        → answerOf x ≡ accepted n m → SoundBinary s n m
+    pick h (got y k l) g z =
+        let a : k ≡ n = cc in
+        let b : y ≡ m = cc in
+        let r : MessageAt s m = subst (MessageAt s) b (g .1 .0) in
+        let w : k ≡ length s = g .1 .1 in
+        let i = some-octets s n m q in
+        record {
+          sound = parts-sound s m (r .parts);
+          some = omega arith;
+          whole = omega arith;
+          small = omega arith;
+          start = r .start;
+          stated = r .stated;
+          names = r .names;
+        }
+    pick h (no k p) g z = let w : _≡_ {A = ℕ} 0 1 = cc in absurd (omega arith)
+
+    on : (b : Bool) → leb (length s) binaryMost ≡ b → cond b (answerOf (message 0 s)) (refused tooLarge 0) ≡ accepted n m → SoundBinary s n m
+    on true h z =
+        pick (leb-true (length s) binaryMost h) (message 0 s)
+        (every-message {s = s} {e = length s} {at = 0} .go s (record { lies = lies-all s; ends = omega arith })) z
+    on false h z = let w : _≡_ {A = ℕ} 0 1 = cc in absurd (omega arith)

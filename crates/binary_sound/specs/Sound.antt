@@ -1,0 +1,70 @@
+-- What holds of every message that is accepted from Binary HTTP (00, demand 2: "What is accepted, and what it means, is exactly what RFC 9112 and
+-- RFC 9292 say, as changed by the rules of our own in document 01"; 01, "Binary HTTP as we take it", "Sizes").
+use Prim.Native.Nat.{ℕ, _<_, _≤_}
+use mathlib.Core.Path.{_≡_}
+use mathlib.Core.Bool.{true}
+use mathlib.Core.Logic.{_⊎_}
+use mathlib.Core.List.{List}
+use lib.ListN.{length}
+use Rattle.octets.specs.Limits.{binaryMost}
+use Rattle.script.specs.Script.{accepted}
+use Rattle.script.specs.Do.{Piece}
+use Rattle.messages.specs.Message.{FieldRead, InformationalRead, Start, requestStart, responseStart, Message}
+use Rattle.messages.specs.Control.{isHost, isBodyless, isLowerName}
+use Rattle.messages.specs.Names.{linesOf}
+use Rattle.messages.specs.Rules.{binaryFramingOf, agrees}
+use Rattle.messages.specs.Meaning.{contentOf}
+use Rattle.messages.specs.declared.Framing.the-variants.{Unstated}
+use Rattle.messages.specs.declared.Kind.the-variants as kind
+use Rattle.binary.specs.Read.{readBinary}
+use Rattle.sound.specs.Placed.{Each}
+use Rattle.sound.specs.Sound.{Sound}
+
+-- "scheme is `http` or `https` (H). Authority may be empty if one `host` field gives it; with both, the bytes are equal": there is an authority, and the
+-- host line, where there is one, has its octets
+pub record GoodRequest (s : ℕ) (a : Piece) (lines : List FieldRead) : Type 0 where
+  pub scheme : (s ≡ 0) ⊎ (s ≡ 1)
+  pub some : 0 < length (a .text)
+  pub host : isHost (a .text) ≡ true
+  pub equal : Each (λ f. f .value .text ≡ a .text) (linesOf kind.Host lines)
+  pub once : length (linesOf kind.Host lines) ≤ 1
+
+-- "`content-length` stands .. not in 204, 304 or informational heads"
+pub record GoodResponse (hs : List InformationalRead) (n : ℕ) (lines : List FieldRead) : Type 0 where
+  pub early : Each (λ h. binaryFramingOf (h .lines) ≡ Unstated) hs
+  pub bodyless : isBodyless n ≡ true → binaryFramingOf lines ≡ Unstated
+
+abbrev pub GoodStart : Start → List FieldRead → Type 0
+GoodStart (requestStart method s authority path) lines = GoodRequest s authority lines
+GoodStart (responseStart hs n) lines = GoodResponse hs n lines
+
+-- "`content-length` stands at most once, one or more digits, equal to the content's length"
+abbrev pub Stated : Message → Type 0
+Stated m = agrees (binaryFramingOf (m .lines)) (length (contentOf (m .chunks))) ≡ true
+
+-- "Names are lower-case tokens": as they stand, before any is made lower case
+abbrev pub LowerName : FieldRead → Type 0
+LowerName f = isLowerName (f .name .text) ≡ true
+
+abbrev pub LowerHeads : Start → Type 0
+LowerHeads (requestStart method s authority path) = Unit {0}
+LowerHeads (responseStart hs n) = Each (λ h. Each LowerName (h .lines)) hs
+
+pub record LowerNames (m : Message) : Type 0 where
+  pub heads : LowerHeads (m .start)
+  pub lines : Each LowerName (m .lines)
+  pub trailers : Each LowerName (m .trailers)
+
+-- a message m of length n that is accepted from the input s: "a reader of Binary HTTP, whose whole input is one message"; "Zero bytes may follow", and
+-- they belong to it
+pub record SoundBinary (s : List ℕ) (n : ℕ) (m : Message) : Type 0 where
+  pub sound : Sound s m
+  pub some : 0 < n
+  pub whole : n ≡ length s
+  pub small : n ≤ binaryMost
+  pub start : GoodStart (m .start) (m .lines)
+  pub stated : Stated m
+  pub names : LowerNames m
+
+abbrev pub BinarySound : Type 0
+BinarySound = (s : List ℕ) (n : ℕ) (m : Message) → readBinary s ≡ accepted n m → SoundBinary s n m

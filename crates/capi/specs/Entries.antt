@@ -1,0 +1,80 @@
+-- What the entries for C leave and answer (01, "calls readers and writers with numbers and byte slices"; include/ospirnar.h has the layout).
+use Prim.Native.Nat.{ℕ, _+_, _*_, _≤_}
+use mathlib.Core.Path.{_≡_}
+use mathlib.Core.Bool.{Bool, true, false, cond}
+use mathlib.Core.List.{List, [], _∷_, _++_}
+use lib.Dec.{leb}
+use lib.ListN.{length}
+use Rattle.octets.specs.Limits.{linesMost, chunksMost, contentMost, informationalMost}
+use Rattle.octets.specs.Refusals.{moreNeeded, noRoom}
+use Rattle.script.specs.Script.{Answer, accepted, refused, more}
+use Rattle.output.specs.Splice.{splice}
+use Rattle.messages.specs.Message.{isResponse, Message}
+use Rattle.messages.specs.Names.{kept, keptTrailers}
+use Rattle.messages.specs.Answers.{fieldsNumbers, chunksNumbers, informationalNumbers, informationalLines, informationalIn, padded, recordOf}
+use Rattle.messages.specs.declared.Part.{Part}
+use Rattle.messages.specs.declared.Record.{Record}
+
+abbrev pub partNumbers : Part → List ℕ
+partNumbers p = p .start ∷ p .len ∷ []
+
+-- kind, scheme and the three parts of control data
+abbrev pub controlNumbers : Record → List ℕ
+controlNumbers r = (cond (r .response) 1 0 ∷ r .scheme ∷ []) ++ partNumbers (r .method) ++ partNumbers (r .authority) ++ partNumbers (r .path)
+
+-- status and counts
+abbrev pub countNumbers : Record → List ℕ
+countNumbers r = (r .status ∷ r .informational ∷ []) ++ (r .headers ∷ r .chunks ∷ []) ++ (r .content ∷ r .trailers ∷ [])
+
+-- the numbers of a record, but for the message's length
+unfoldable pub recordNumbers : Record → List ℕ
+recordNumbers r = controlNumbers r ++ countNumbers r
+
+-- the counts of a record are within the sizes
+pub record SmallRecord (r : Record) : Type 0 where
+  pub heads : r .informational ≤ informationalMost
+  pub headers : r .headers ≤ linesMost
+  pub chunks : r .chunks ≤ chunksMost
+  pub content : r .content ≤ contentMost
+  pub trailers : r .trailers ≤ linesMost
+
+-- the numbers that describe an accepted message of length n, one behind the other
+unfoldable pub entryNumbers : ℕ → Message → List ℕ
+entryNumbers n m =
+    (recordNumbers (recordOf n m) ++ padded 8 (informationalNumbers (informationalIn (m .start))))
+    ++ (fieldsNumbers (informationalLines (informationalIn (m .start)) ++ kept (isResponse (m .start)) (m .lines)) ++ chunksNumbers (m .chunks)
+    ++ fieldsNumbers (keptTrailers (m .trailers)))
+
+-- ---- the answer of a reading entry that was lent ranges o, on an input of so many octets
+
+-- 13 at 0 where the numbers do not fit, behind the reader's own refusal
+abbrev pub entryNumber : List ℕ → Answer Message → ℕ
+entryNumber o (accepted n m) = cond (leb (length (entryNumbers n m)) (length o)) 0 noRoom
+entryNumber o (refused k p) = k
+entryNumber o more = moreNeeded
+
+-- the message's length, or the refusal's place
+abbrev pub entryPlace : List ℕ → ℕ → Answer Message → ℕ
+entryPlace o input (accepted n m) = cond (leb (length (entryNumbers n m)) (length o)) n 0
+entryPlace o input (refused k p) = p
+entryPlace o input more = input
+
+-- the ranges afterwards: a refusal and a call for more alter none
+abbrev pub entryAfter : List ℕ → Answer Message → List ℕ
+entryAfter o (accepted n m) = cond (leb (length (entryNumbers n m)) (length o)) (splice o 0 (entryNumbers n m)) o
+entryAfter o (refused k p) = o
+entryAfter o more = o
+
+-- the three together
+pub record Entered (x : Answer Message) (input : ℕ) (o o′ : List ℕ) (place number : ℕ) : Type 0 where
+  pub answers : number ≡ entryNumber o x
+  pub places : place ≡ entryPlace o input x
+  pub after : o′ ≡ entryAfter o x
+
+-- ---- what the code answers with, by numbers
+
+-- numbers bs of a message of length n, in lent ranges o
+pub record Numbered (bs : List ℕ) (n : ℕ) (o o′ : List ℕ) (place number : ℕ) : Type 0 where
+  pub answers : number ≡ cond (leb (length bs) (length o)) 0 noRoom
+  pub places : place ≡ cond (leb (length bs) (length o)) n 0
+  pub after : o′ ≡ cond (leb (length bs) (length o)) (splice o 0 bs) o

@@ -1,0 +1,2 @@
+// The entries for C: numbers and slices in, a number out. include/ospirnar.h says what each takes and answers.
+pub mod numbers_out;

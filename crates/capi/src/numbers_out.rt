@@ -1,0 +1,130 @@
+// Numbers put into lent ranges.
+use messages::{Part, Record};
+use octets::Refusals;
+ghost use mathlib.Core.Path.{_≡_};
+ghost use mathlib.Core.List.{[], _∷_, _++_};
+ghost use mathlib.Core.Bool.{cond};
+ghost use Prim.Native.Nat.{_+_, _*_, _≤_};
+ghost use lib.ListN.{length};
+ghost use Rattle.output.specs.Splice.{part, Put};
+ghost use Rattle.capi.specs.Entries.{partNumbers, controlNumbers, recordNumbers, SmallRecord, Numbered};
+
+// The first `len` numbers of src, from `at` on in out.
+pub fn put_numbers(out: &mut [u32], at: usize, src: &[u32], len: usize) -> usize
+    requires { ⌜ at + len ≤ length (now out) ⌝ }
+    requires { ⌜ len ≤ length (now src) ⌝ }
+    ensures { λ r. ⌜ Put (now (out .entry)) at (part (now (src .entry)) 0 len) len (now (out .exit)) r ⌝ }
+{
+    let mut i = 0;
+    while i < len {
+        out[at + i] = src[i];
+        i += 1;
+    }
+    at + len
+}
+
+fn put_two(out: &mut [u32], at: usize, a: u32, b: u32) -> usize
+    requires { ⌜ at + 2 ≤ length (now out) ⌝ }
+    ensures { λ r. ⌜ Put (now (out .entry)) at (a ∷ b ∷ []) 2 (now (out .exit)) r ⌝ }
+{
+    out[at] = a;
+    out[at + 1] = b;
+    at + 2
+}
+
+fn put_part_numbers(out: &mut [u32], at: usize, p: Part) -> usize
+    requires { ⌜ at + 2 ≤ length (now out) ⌝ }
+    ensures { λ r. ⌜ Put (now (out .entry)) at (partNumbers p) 2 (now (out .exit)) r ⌝ }
+{
+    put_two(out, at, p.start, p.len)
+}
+
+// Kind, scheme and the three parts of control data.
+fn put_control(out: &mut [u32], r: Record) -> usize
+    requires { ⌜ 8 ≤ length (now out) ⌝ }
+    ensures { λ z. ⌜ Put (now (out .entry)) 0 (controlNumbers r) 8 (now (out .exit)) z ⌝ }
+{
+    let kind = kind_number(r.response);
+    let a = put_two(out, 0, kind, r.scheme);
+    let method = r.method;
+    let b = put_part_numbers(out, a, method);
+    let authority = r.authority;
+    let c = put_part_numbers(out, b, authority);
+    let path = r.path;
+    put_part_numbers(out, c, path)
+}
+
+fn kind_number(response: bool) -> u32
+    ensures { λ r. ⌜ r ≡ cond response 1 0 ⌝ }
+{
+    if response {
+        return 1;
+    }
+    0
+}
+
+// Status and counts, behind the control data.
+fn put_counts(out: &mut [u32], at: usize, status: u32, heads: u32, headers: u32, chunks: u32, content: u32, trailers: u32) -> usize
+    requires { ⌜ at + 6 ≤ length (now out) ⌝ }
+    ensures { λ z. ⌜ Put (now (out .entry)) at ((status ∷ heads ∷ []) ++ (headers ∷ chunks ∷ []) ++ (content ∷ trailers ∷ [])) 6 (now (out .exit)) z ⌝ }
+{
+    let a = put_two(out, at, status, heads);
+    let b = put_two(out, a, headers, chunks);
+    put_two(out, b, content, trailers)
+}
+
+// The fourteen numbers of a record.
+fn put_record(out: &mut [u32], r: Record) -> usize
+    requires { ⌜ (14 ≤ length (now out)) × SmallRecord r ⌝ }
+    ensures { λ z. ⌜ Put (now (out .entry)) 0 (recordNumbers r) 14 (now (out .exit)) z ⌝ }
+{
+    let a = put_control(out, r);
+    put_counts(out, a, r.status, r.informational as u32, r.headers as u32, r.chunks as u32, r.content as u32, r.trailers as u32)
+}
+
+// The numbers of a record, and of its informational heads.
+fn put_start(out: &mut [u32], r: Record, heads: &[u32]) -> usize
+    requires { ⌜ (22 ≤ length (now out)) × SmallRecord r × (8 ≤ length (now heads)) ⌝ }
+    ensures { λ z. ⌜ Put (now (out .entry)) 0 (recordNumbers r ++ part (now (heads .entry)) 0 8) 22 (now (out .exit)) z ⌝ }
+{
+    let a = put_record(out, r);
+    put_numbers(out, a, heads, 8)
+}
+
+// The numbers of fields, chunks and trailers.
+fn put_lists(out: &mut [u32], at: usize, headers: &[u32], h: usize, chunks: &[u32], c: usize, trailers: &[u32], k: usize) -> usize
+    requires { ⌜ (at + h + c + k ≤ length (now out)) × (h ≤ length (now headers)) × (c ≤ length (now chunks)) × (k ≤ length (now trailers)) ⌝ }
+    ensures { λ z. ⌜ Put (now (out .entry)) at (part (now (headers .entry)) 0 h ++ part (now (chunks .entry)) 0 c ++ part (now (trailers .entry)) 0 k) (h + c + k) (now (out .exit)) z ⌝ }
+{
+    let a = put_numbers(out, at, headers, h);
+    let b = put_numbers(out, a, chunks, c);
+    put_numbers(out, b, trailers, k)
+}
+
+// All numbers of a message of which `fields` kept fields stand in `headers`: 0, or 13 where they do not fit.
+pub fn give_message(
+    ranges: &mut [u32],
+    place: &mut usize,
+    r: Record,
+    fields: usize,
+    heads: &[u32],
+    headers: &[u32],
+    chunks: &[u32],
+    trailers: &[u32],
+) -> u32
+    requires { ⌜ SmallRecord r × (fields ≤ 320) × (8 ≤ length (now heads)) × (fields * 4 ≤ length (now headers)) × (r .chunks * 2 ≤ length (now chunks)) × (r .trailers * 4 ≤ length (now trailers)) ⌝ }
+    ensures { λ z. ⌜ Numbered ((recordNumbers r ++ part (now (heads .entry)) 0 8) ++ (part (now (headers .entry)) 0 (fields * 4) ++ part (now (chunks .entry)) 0 (r .chunks * 2) ++ part (now (trailers .entry)) 0 (r .trailers * 4))) (r .length) (now (ranges .entry)) (now (ranges .exit)) (now (place .exit)) z ⌝ }
+{
+    let h = fields * 4;
+    let c = r.chunks * 2;
+    let k = r.trailers * 4;
+    let n = 22 + h + c + k;
+    if ranges.len() < n {
+        *place = 0;
+        return Refusals::NO_ROOM;
+    }
+    let a = put_start(ranges, r, heads);
+    put_lists(ranges, a, headers, h, chunks, c, trailers, k);
+    *place = r.length;
+    0
+}

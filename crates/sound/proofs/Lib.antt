@@ -1,0 +1,4 @@
+pub mod Each
+pub mod Valid
+pub mod Parts
+pub mod Rules

@@ -1,0 +1,1 @@
+// What holds of every message that is accepted, in either form: definitions and laws, no code.

@@ -1,0 +1,1 @@
+// What turning a message into Binary HTTP keeps: definitions and laws, no code.
