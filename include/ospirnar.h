@@ -44,13 +44,6 @@ extern "C" {
 /* The first HTTP/1.1 request of a stream, under the scheme told (0 http, 1 https; another number is 4 at 0). */
 uint32_t ospirnar_read_request(const uint8_t *input, size_t input_len, uint32_t scheme, uint32_t *ranges, size_t ranges_len, size_t *place);
 
-/* The first HTTP/1.1 response of a stream. */
-uint32_t ospirnar_read_response(const uint8_t *input, size_t input_len, uint32_t *ranges, size_t ranges_len, size_t *place);
-
-/* The listing of an HTTP/1.1 request stream under http, as the listing program prints it, into `output`; *place is its length. 13 at 0 where it
- * does not fit; nothing else is refused. */
-uint32_t ospirnar_listing(const uint8_t *input, size_t input_len, uint8_t *output, size_t output_len, size_t *place);
-
 #ifdef __cplusplus
 }
 #endif

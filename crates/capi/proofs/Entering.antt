@@ -141,7 +141,7 @@ sound-small s n m h = go (m .start) (h .heads)
 -- ---- an accepted message, given by its numbers
 
 module _ {x : Answer Message} {hs hs′ cs cs′ ts ts′ : List ℕ} {r : Record} (g : Given x hs hs′ cs cs′ ts ts′ r) where
-  pub all-fields : List FieldRead
+  unfoldable pub all-fields : List FieldRead
   all-fields = informationalLines (informationalIn (g .message .start)) ++ kept (isResponse (g .message .start)) (g .message .lines)
 
   pub entered : (heads o o′ : List ℕ) (f input place number : ℕ) → f ≡ length all-fields → f * 4 ≤ length hs → r .chunks * 2 ≤ length cs → r .trailers * 4 ≤ length ts
