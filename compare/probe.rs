@@ -21,6 +21,7 @@ mod entries {
     #[link(name = "capi", kind = "static")]
     extern "C" {
         pub fn ospirnar_read_request(input: *const u8, input_len: usize, scheme: u32, ranges: *mut u32, ranges_len: usize, place: *mut usize) -> u32;
+        pub fn ospirnar_read_response(input: *const u8, input_len: usize, ranges: *mut u32, ranges_len: usize, place: *mut usize) -> u32;
     }
 }
 
@@ -44,6 +45,11 @@ fn ask(call: impl FnOnce(*mut usize) -> u32) -> Answer {
 fn read_request(input: &[u8], scheme: u32, ranges: &mut Lent<u32>) -> Answer {
     let (pointer, room) = ranges.lend();
     ask(|place| unsafe { entries::ospirnar_read_request(input.as_ptr(), input.len(), scheme, pointer, room, place) })
+}
+
+fn read_response(input: &[u8], ranges: &mut Lent<u32>) -> Answer {
+    let (pointer, room) = ranges.lend();
+    ask(|place| unsafe { entries::ospirnar_read_response(input.as_ptr(), input.len(), pointer, room, place) })
 }
 
 // ---------------------------------------------------------------------------------------- lent space
@@ -430,8 +436,8 @@ fn command(line: &[u8]) -> Option<Result<String, &'static str>> {
             read(&input, |ranges| read_request(&input, told, ranges))
         }
         (b"h1resp", [input]) => {
-            octets(input)?;
-            NOT_BUILT
+            let input = octets(input)?;
+            read(&input, |ranges| read_response(&input, ranges))
         }
         (b"listing", [input]) => {
             octets(input)?;

@@ -44,6 +44,9 @@ extern "C" {
 /* The first HTTP/1.1 request of a stream, under the scheme told (0 http, 1 https; another number is 4 at 0). */
 uint32_t ospirnar_read_request(const uint8_t *input, size_t input_len, uint32_t scheme, uint32_t *ranges, size_t ranges_len, size_t *place);
 
+/* The first HTTP/1.1 response of a stream. */
+uint32_t ospirnar_read_response(const uint8_t *input, size_t input_len, uint32_t *ranges, size_t ranges_len, size_t *place);
+
 #ifdef __cplusplus
 }
 #endif

@@ -127,7 +127,7 @@ sound-small s n m h = go (m .start) (h .heads)
           headers = omega (arith, kept-few false (m .lines), h .lines .few);
           chunks = h .chunks .few;
           content = content-small m (h .valid);
-          trailers = omega (arith, kept-few false (m .trailers), h .trailers .few)
+          trailers = omega (arith, kept-few false (m .trailers), h .trailers .few);
         }
     go (responseStart hs c) g =
         record {
@@ -135,7 +135,7 @@ sound-small s n m h = go (m .start) (h .heads)
           headers = omega (arith, kept-few true (m .lines), h .lines .few);
           chunks = h .chunks .few;
           content = content-small m (h .valid);
-          trailers = omega (arith, kept-few false (m .trailers), h .trailers .few)
+          trailers = omega (arith, kept-few false (m .trailers), h .trailers .few);
         }
 
 -- ---- an accepted message, given by its numbers

@@ -1,3 +1,4 @@
 pub mod Giving
 pub mod Entering
 pub mod RequestEntry
+pub mod ResponseEntry
