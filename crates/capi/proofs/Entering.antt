@@ -127,7 +127,7 @@ sound-small s n m h = go (m .start) (h .heads)
           headers = omega (arith, kept-few false (m .lines), h .lines .few);
           chunks = h .chunks .few;
           content = content-small m (h .valid);
-          trailers = omega (arith, kept-few false (m .trailers), h .trailers .few)
+          trailers = omega (arith, kept-few false (m .trailers), h .trailers .few);
         }
     go (responseStart hs c) g =
         record {
@@ -135,13 +135,13 @@ sound-small s n m h = go (m .start) (h .heads)
           headers = omega (arith, kept-few true (m .lines), h .lines .few);
           chunks = h .chunks .few;
           content = content-small m (h .valid);
-          trailers = omega (arith, kept-few false (m .trailers), h .trailers .few)
+          trailers = omega (arith, kept-few false (m .trailers), h .trailers .few);
         }
 
 -- ---- an accepted message, given by its numbers
 
 module _ {x : Answer Message} {hs hs′ cs cs′ ts ts′ : List ℕ} {r : Record} (g : Given x hs hs′ cs cs′ ts ts′ r) where
-  pub all-fields : List FieldRead
+  unfoldable pub all-fields : List FieldRead
   all-fields = informationalLines (informationalIn (g .message .start)) ++ kept (isResponse (g .message .start)) (g .message .lines)
 
   pub entered : (heads o o′ : List ℕ) (f input place number : ℕ) → f ≡ length all-fields → f * 4 ≤ length hs → r .chunks * 2 ≤ length cs → r .trailers * 4 ≤ length ts

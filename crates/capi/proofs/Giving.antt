@@ -17,14 +17,26 @@ record-size r = refl
 
 pub lists-size : (a b c : List ℕ) (h k l : ℕ) → length (part a 0 h ++ part b 0 k ++ part c 0 l) ≡ h + k + l
 lists-size a b c h k l =
-    omega (arith, length-append (part a 0 h ++ part b 0 k) (part c 0 l), length-append (part a 0 h) (part b 0 k), elements-length 0 a 0 h, elements-length 0 b 0 k,
-    elements-length 0 c 0 l)
+    omega (
+      arith,
+      length-append (part a 0 h ++ part b 0 k) (part c 0 l),
+      length-append (part a 0 h) (part b 0 k),
+      elements-length 0 a 0 h,
+      elements-length 0 b 0 k,
+      elements-length 0 c 0 l,
+    )
 
 pub message-size : (r : Record) (d a b c : List ℕ) (h k l : ℕ)
     → length ((recordNumbers r ++ part d 0 8) ++ (part a 0 h ++ part b 0 k ++ part c 0 l)) ≡ 22 + h + k + l
 message-size r d a b c h k l =
-    omega (arith, length-append (recordNumbers r ++ part d 0 8) (part a 0 h ++ part b 0 k ++ part c 0 l), length-append (recordNumbers r) (part d 0 8), record-size r,
-    elements-length 0 d 0 8, lists-size a b c h k l)
+    omega (
+      arith,
+      length-append (recordNumbers r ++ part d 0 8) (part a 0 h ++ part b 0 k ++ part c 0 l),
+      length-append (recordNumbers r) (part d 0 8),
+      record-size r,
+      elements-length 0 d 0 8,
+      lists-size a b c h k l,
+    )
 
 pub not-given : (bs : List ℕ) (n : ℕ) (o : List ℕ) (m : ℕ) → length bs ≡ m → length o < m → Numbered bs n o o 0 noRoom
 not-given bs n o m e h =

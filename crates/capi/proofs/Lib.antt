@@ -1,2 +1,4 @@
 pub mod Giving
 pub mod Entering
+pub mod RequestEntry
+pub mod ResponseEntry

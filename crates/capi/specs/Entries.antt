@@ -4,7 +4,7 @@ use mathlib.Core.Path.{_≡_}
 use mathlib.Core.Bool.{Bool, true, false, cond}
 use mathlib.Core.List.{List, [], _∷_, _++_}
 use lib.Dec.{leb}
-use lib.ListN.{length}
+use lib.ListN.{length, getD, replicate}
 use Rattle.octets.specs.Limits.{linesMost, chunksMost, contentMost, informationalMost}
 use Rattle.octets.specs.Refusals.{moreNeeded, noRoom}
 use Rattle.script.specs.Script.{Answer, accepted, refused, more}
@@ -78,3 +78,11 @@ pub record Numbered (bs : List ℕ) (n : ℕ) (o o′ : List ℕ) (place number 
   pub answers : number ≡ cond (leb (length bs) (length o)) 0 noRoom
   pub places : place ≡ cond (leb (length bs) (length o)) n 0
   pub after : o′ ≡ cond (leb (length bs) (length o)) (splice o 0 bs) o
+
+-- the ranges of informational heads before any is read
+unfoldable pub noHeads : List ℕ
+noHeads = replicate 8 0
+
+-- how many fields the informational heads have, by their numbers
+unfoldable pub headsFields : List ℕ → ℕ
+headsFields l = getD l 1 0 + getD l 3 0 + getD l 5 0 + getD l 7 0

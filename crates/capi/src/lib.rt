@@ -1,2 +1,4 @@
 // The entries for C: numbers and slices in, a number out. include/ospirnar.h says what each takes and answers.
+
+pub mod entries;
 pub mod numbers_out;

@@ -1,5 +1,6 @@
 // Numbers put into lent ranges.
-use messages::{Part, Record};
+use messages::Part;
+use messages::Record;
 use octets::Refusals;
 ghost use mathlib.Core.Path.{_≡_};
 ghost use mathlib.Core.List.{[], _∷_, _++_};
@@ -64,7 +65,16 @@ fn kind_number(response: bool) -> u32
 }
 
 // Status and counts, behind the control data.
-fn put_counts(out: &mut [u32], at: usize, status: u32, heads: u32, headers: u32, chunks: u32, content: u32, trailers: u32) -> usize
+fn put_counts(
+    out: &mut [u32],
+    at: usize,
+    status: u32,
+    heads: u32,
+    headers: u32,
+    chunks: u32,
+    content: u32,
+    trailers: u32,
+) -> usize
     requires { ⌜ at + 6 ≤ length (now out) ⌝ }
     ensures { λ z. ⌜ Put (now (out .entry)) at ((status ∷ heads ∷ []) ++ (headers ∷ chunks ∷ []) ++ (content ∷ trailers ∷ [])) 6 (now (out .exit)) z ⌝ }
 {
@@ -79,7 +89,16 @@ fn put_record(out: &mut [u32], r: Record) -> usize
     ensures { λ z. ⌜ Put (now (out .entry)) 0 (recordNumbers r) 14 (now (out .exit)) z ⌝ }
 {
     let a = put_control(out, r);
-    put_counts(out, a, r.status, r.informational as u32, r.headers as u32, r.chunks as u32, r.content as u32, r.trailers as u32)
+    put_counts(
+        out,
+        a,
+        r.status,
+        r.informational as u32,
+        r.headers as u32,
+        r.chunks as u32,
+        r.content as u32,
+        r.trailers as u32,
+    )
 }
 
 // The numbers of a record, and of its informational heads.
@@ -92,7 +111,16 @@ fn put_start(out: &mut [u32], r: Record, heads: &[u32]) -> usize
 }
 
 // The numbers of fields, chunks and trailers.
-fn put_lists(out: &mut [u32], at: usize, headers: &[u32], h: usize, chunks: &[u32], c: usize, trailers: &[u32], k: usize) -> usize
+fn put_lists(
+    out: &mut [u32],
+    at: usize,
+    headers: &[u32],
+    h: usize,
+    chunks: &[u32],
+    c: usize,
+    trailers: &[u32],
+    k: usize,
+) -> usize
     requires { ⌜ (at + h + c + k ≤ length (now out)) × (h ≤ length (now headers)) × (c ≤ length (now chunks)) × (k ≤ length (now trailers)) ⌝ }
     ensures { λ z. ⌜ Put (now (out .entry)) at (part (now (headers .entry)) 0 h ++ part (now (chunks .entry)) 0 c ++ part (now (trailers .entry)) 0 k) (h + c + k) (now (out .exit)) z ⌝ }
 {

@@ -66,7 +66,7 @@ every-ended s (suc f) left at total fs t h =
         record {
           end = omega (arith, a, z);
           left = omega (arith, a, z, l, t);
-          before = each-map (Before at) (Before (at + length (w ++ 13 ∷ 10 ∷ []))) (λ x q. omega (arith, q)) fs h
+          before = each-map (Before at) (Before (at + length (w ++ 13 ∷ 10 ∷ []))) (λ x q. omega (arith, q)) fs h;
         }
       where
         empty-is : (w : List ℕ) → isEmpty w ≡ true → length w ≡ 0
@@ -107,5 +107,5 @@ section-facts s from left n h g e =
       within = omega (arith, a .2, d);
       behind = a .1;
       few = b .0 .few;
-      lie = all-lie s (h .lines) (b .0 .lines)
+      lie = all-lie s (h .lines) (b .0 .lines);
     }

@@ -100,7 +100,7 @@ module _ (s : List ℕ) (m p next : ℕ) (g : next ≤ length s) (k : m + 1 + p 
           fields = omega (arith, d .count);
           notes = d .notes;
           lie = facts .lie;
-          before = subst (λ (x : ℕ). Each (Before x) (d .read .lines)) place-is (facts .ended .before)
+          before = subst (λ (x : ℕ). Each (Before x) (d .read .lines)) place-is (facts .ended .before);
         }
 
     pub head-done : (scheme : ℕ) (cs cs′ ts ts′ : List ℕ) (r : Outcome) → RestRead s scheme m p e c n cs cs′ ts ts′ r

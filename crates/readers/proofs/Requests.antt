@@ -186,7 +186,7 @@ module _ (s : List ℕ) (e : ℕ) (n : Notes) {r : HeadAnswer} (w : RequestJudge
   pub rest-wrong : (i j : ℕ) → r ≡ head.Refused i j → (cs cs′ ts ts′ : List ℕ) → RestRead s scheme m p e k n cs cs′ ts ts′ (outcome.Refusal i j)
   rest-wrong i j g cs cs′ ts ts′ =
       record {
-        by = λ q h f. subst (λ (x : Answer Message). RestSays x cs cs′ ts ts′ (outcome.Refusal i j)) (sym (rest-refused (told scheme) q h s e i j (head-of q h f) g)) refl
+        by = λ q h f. subst (λ (x : Answer Message). RestSays x cs cs′ ts ts′ (outcome.Refusal i j)) (sym (rest-refused (told scheme) q h s e i j (head-of q h f) g)) refl;
       }
 
   module _ (a l : ℕ) (b : Body) (g : r ≡ head.Good a l b) where
@@ -197,6 +197,7 @@ module _ (s : List ℕ) (e : ℕ) (n : Notes) {r : HeadAnswer} (w : RequestJudge
 
     pub rest-bounds : (q : RequestRead) (h : Lines) → HeadFacts s q h m p e k n → SizedWithin b × (a + l ≤ e)
     rest-bounds q h f =
-        let x = head-good a l b (head-of q h f) g in
-        (body-within (h .end) (h .lines) a l x,
-        omega (arith, f .end, authority-before (h .end) (h .lines) a l (subst (λ (z : ℕ). Each (Before z) (h .lines)) (sym (f .end)) (f .before)) x))
+        let x = head-good a l b (head-of q h f) g in (
+          body-within (h .end) (h .lines) a l x,
+          omega (arith, f .end, authority-before (h .end) (h .lines) a l (subst (λ (z : ℕ). Each (Before z) (h .lines)) (sym (f .end)) (f .before)) x),
+        )

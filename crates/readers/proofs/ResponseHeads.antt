@@ -73,10 +73,10 @@ module _ (s : List ℕ) (next left base : ℕ) (hs hs′ : List ℕ) (r : Sectio
                 within = omega (arith, f .within, z);
                 few = f .few;
                 count = d .count;
-                stored = d .stored
+                stored = d .stored;
               };
           rest = d .left;
-          noted = d .notes
+          noted = d .notes;
         }
 
     pub final-ends : (status : ℕ) → Headed AnyHeads (λ f is. run (finalRest is status left) next (drop next s)) s base hs hs′ (head.Final status e c n)
@@ -96,7 +96,7 @@ module _ (s : List ℕ) (next left base : ℕ) (hs hs′ : List ℕ) (r : Sectio
           let z : nothingStated (d .lines .end) (framingOf (d .lines .lines)) ≡ wrong i p = sym (judged d) ∙ body-refused _ i p g in
           record {
             by = λ f is few.
-                behind-done left (afterInformational f is status) s next e (d .lines) (d .accepts) ∙ rw z (run-stop i p e (drop e s))
+                behind-done left (afterInformational f is status) s next e (d .lines) (d .accepts) ∙ rw z (run-stop i p e (drop e s));
           }
 
       pub informational-ends : (b : Body) → bodyAnswer (nothingStated e (n .framing)) ≡ body.Read b
@@ -107,7 +107,7 @@ module _ (s : List ℕ) (next left base : ℕ) (hs hs′ : List ℕ) (r : Sectio
           let z : nothingStated (d .lines .end) (framingOf (d .lines .lines)) ≡ good b = sym (judged d) ∙ body-read _ b g in
           record {
             by = λ f is few.
-                (d .lines, d .stored, d .rest, few, behind-done left (afterInformational f is status) s next e (d .lines) (d .accepts) ∙ rw (z, d .rest) refl)
+                (d .lines, d .stored, d .rest, few, behind-done left (afterInformational f is status) s next e (d .lines) (d .accepts) ∙ rw (z, d .rest) refl);
           }
 
 -- ---- the status line
@@ -174,12 +174,12 @@ module _ (s : List ℕ) (i left count base : ℕ) (hs hs′ : List ℕ) where
             record {
               by = λ f is z.
                   subst (λ (x : Answer Message). HeadSays x f is s base hs hs′ r)
-                  (sym (heads-informational s i left f is next e within n q b (omega (arith, g, z)))) (h .by f is (omega (arith, g, z)))
+                  (sym (heads-informational s i left f is next e within n q b (omega (arith, g, z)))) (h .by f is (omega (arith, g, z)));
             }
 
         pub next-final : isInformational n ≡ false → Headed AnyHeads (λ f is. run (finalRest is n (left - (next - i))) next (drop next s)) s base hs hs′ r
             → Headed (SoManyHeads count) (λ f is. run (heads (suc f) is left) i (drop i s)) s base hs hs′ r
         next-final b h =
             record {
-              by = λ f is z. subst (λ (x : Answer Message). HeadSays x f is s base hs hs′ r) (sym (heads-final s i left f is next e within n q b)) (h .by f is tt)
+              by = λ f is z. subst (λ (x : Answer Message). HeadSays x f is s base hs hs′ r) (sym (heads-final s i left f is next e within n q b)) (h .by f is tt);
             }

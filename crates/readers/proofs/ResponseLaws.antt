@@ -64,7 +64,7 @@ module _ (s : List ℕ) (status e c k : ℕ) (notes : Notes) where
         by = λ is h f.
             let z : run (withContent is status h (responseBody status (h .end) (framingOf (h .lines)))) e (drop e s) ≡ refused i p =
             ap (λ (j : Judged Body). run (withContent is status h j) e (drop e s)) (judged is h f ∙ body-refused _ i p g) ∙ run-stop i p e (drop e s) in
-            subst (λ (x : Answer Message). RestSays x cs cs′ ts ts′ (outcome.Refusal i p)) (sym z) refl
+            subst (λ (x : Answer Message). RestSays x cs cs′ ts ts′ (outcome.Refusal i p)) (sym z) refl;
       }
 
   module _ (b : Body) (g : bodyAnswer (responseBody status e (notes .framing)) ≡ body.Read b) where
@@ -82,9 +82,9 @@ module _ (s : List ℕ) (status e c k : ℕ) (notes : Notes) where
         record {
           by = λ is h f.
               let z : run (withContent is status h (responseBody status (h .end) (framingOf (h .lines)))) e (drop e s)
-                  ≡ andThen (run (content b) e (drop e s)) (λ j c. accepted j (responseWith is status h c)) =
+              ≡ andThen (run (content b) e (drop e s)) (λ j c. accepted j (responseWith is status h c)) =
               ap (λ (j : Judged Body). run (withContent is status h j) e (drop e s)) (judged is h f ∙ body-read _ b g) ∙ final-content is status h b s e in
-              subst (λ (x : Answer Message). RestSays x cs cs′ ts ts′ r) (sym z) (go is h f (run (content b) e (drop e s)) (w .says))
+              subst (λ (x : Answer Message). RestSays x cs cs′ ts ts′ r) (sym z) (go is h f (run (content b) e (drop e s)) (w .says));
         }
       where
         go : (is : List InformationalRead) (h : Lines) → HeadsFacts s is h e c k notes → (x : Answer Content) → ContentSays x cs cs′ ts ts′ d
@@ -108,6 +108,7 @@ of-heads is n h s e = go (responseBody n (h .end) (framingOf (h .lines)))
     with-content (accepted j c) = record { start = refl; lines = refl }
     with-content (refused k p) = tt
     with-content more = tt
+
     go : (j : Judged Body) → Says (λ j m. OfHeads is n h m) (run (withContent is n h j) e (drop e s))
     go (good b) = subst (λ (x : Answer Message). Says (λ j m. OfHeads is n h m) x) (sym (final-content is n h b s e)) (with-content (run (content b) e (drop e s)))
     go (wrong k p) = subst (λ (x : Answer Message). Says (λ j m. OfHeads is n h m) x) (sym (run-stop k p e (drop e s))) tt

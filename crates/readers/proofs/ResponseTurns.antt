@@ -68,7 +68,7 @@ heads-start s hs ns =
       few = omega arith;
       stored = refl;
       numbers = refl;
-      turn = refl
+      turn = refl;
     }
 
 module _ {s hs₀ hs hs′ ns₀ ns : List ℕ} {i left count base : ℕ} (to : HeadsTo s hs₀ hs ns₀ ns i left count base) {r : HeadRead}
@@ -89,17 +89,28 @@ module _ {s hs₀ hs hs′ ns₀ ns : List ℕ} {i left count base : ℕ} (to : 
   stored-more : {e k : ℕ} {h : Lines} → HeadStored s base hs hs′ e k h → hs′ ≡ splice hs₀ 0 (fieldsNumbers (informationalLines (to .read) ++ kept true (h .lines)))
   stored-more {e} {k} {h} q =
       let z : base * 4 ≡ 0 + length (fieldsNumbers (informationalLines (to .read))) = omega (arith, numbers-length (informationalLines (to .read)), to .fields) in
-      q .stored ∙ rw (to .stored, z, splice-append hs₀ 0 (fieldsNumbers (informationalLines (to .read))) (fieldsNumbers (kept true (h .lines))),
-      numbers-append (informationalLines (to .read)) (kept true (h .lines))) refl
+      q .stored ∙ rw (
+        to .stored,
+        z,
+        splice-append hs₀ 0 (fieldsNumbers (informationalLines (to .read))) (fieldsNumbers (kept true (h .lines))),
+        numbers-append (informationalLines (to .read)) (kept true (h .lines)),
+      ) refl
 
   module _ (n e k : ℕ) where
     pub heads-final : (notes : Notes) → r ≡ head.Final n e k notes → HeadsTaken (readResponse s) s hs₀ hs′ ns₀ ns (heads-read.Done n e count (k - base) notes)
     heads-final notes q =
         let d = says (head.Final n e k notes) q in
         record {
-          says =
-              (to .read, d .0, record { end = d .1 .end; heads = to .counted; fields = omega (arith, d .1 .count); noted = d .2 }, d .1 .within,
-              omega (arith, d .1 .left), to .turn ∙ d .3, stored-more (d .1), to .numbers)
+          says = (
+            to .read,
+            d .0,
+            record { end = d .1 .end; heads = to .counted; fields = omega (arith, d .1 .count); noted = d .2 },
+            d .1 .within,
+            omega (arith, d .1 .left),
+            to .turn ∙ d .3,
+            stored-more (d .1),
+            to .numbers,
+          );
         }
 
     pub final-some : (notes : Notes) → r ≡ head.Final n e k notes → base ≤ k
@@ -132,5 +143,5 @@ module _ {s hs₀ hs hs′ ns₀ ns : List ℕ} {i left count base : ℕ} (to : 
             numbers =
                 stores ∙ ap (λ (o : List ℕ). splice o (count * 2) (n ∷ (k - base) ∷ [])) (to .numbers)
                 ∙ rw (z, splice-append ns₀ 0 (informationalNumbers (to .read)) (n ∷ (k - base) ∷ []), numbers-snoc (to .read) x, f) refl;
-            turn = to .turn ∙ d .4 ∙ ap (λ (m : ℕ). run (heads m (to .read ++ x ∷ []) l) e (drop e s)) g
+            turn = to .turn ∙ d .4 ∙ ap (λ (m : ℕ). run (heads m (to .read ++ x ∷ []) l) e (drop e s)) g;
           }

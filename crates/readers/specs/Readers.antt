@@ -64,7 +64,7 @@ requestRecord scheme method path start len fields n chunks total trailers =
       chunks = chunks;
       content = total;
       trailers = trailers;
-      length = n
+      length = n;
     }
 
 -- the outcome of a request whose content was read

@@ -119,7 +119,7 @@ responseRecord status count fields n chunks total trailers =
       chunks = chunks;
       content = total;
       trailers = trailers;
-      length = n
+      length = n;
     }
 
 -- the outcome of a response whose content was read

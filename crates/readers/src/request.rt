@@ -1,15 +1,21 @@
 // The first request of a stream.
-use crate::heads::judge_request;
 use crate::HeadAnswer;
-use http1::lines::request_line;
+use crate::heads::judge_request;
 use http1::RequestLine;
+use http1::lines::request_line;
+use messages::Notes;
+use messages::Outcome;
+use messages::Part;
+use messages::Record;
 use messages::parts::is_scheme;
-use messages::{Notes, Outcome, Part, Record};
-use octets::{Limits, Refusals};
+use octets::Limits;
+use octets::Refusals;
+use read_http1::ContentRead;
+use read_http1::Section;
 use read_http1::content::read_content;
 use read_http1::lines::read_section;
-use read_http1::{ContentRead, Section};
-use script::{line_end, Line};
+use script::Line;
+use script::line_end;
 ghost use mathlib.Core.Path.{_≡_};
 ghost use Prim.Native.Nat.{_+_, _-_, _≤_, _<_};
 ghost use lib.ListN.{length, drop};
@@ -22,19 +28,41 @@ ghost use Rattle.read_http1.specs.Section.{placesEnd};
 ghost use Rattle.readers.specs.Readers.{told, requestIs, fieldsOnward, requestOutcome, HeadFacts, RestRead, Outcomed};
 
 // The outcome of a request whose content was read.
-fn request_outcome(read: ContentRead, scheme: u32, method: usize, path: usize, start: usize, len: usize, fields: usize) -> Outcome
+fn request_outcome(
+    read: ContentRead,
+    scheme: u32,
+    method: usize,
+    path: usize,
+    start: usize,
+    len: usize,
+    fields: usize,
+) -> Outcome
     requires { ⌜ (method + 1 + path < placesEnd) × (start + len < placesEnd) ⌝ }
     ensures { λ r. ⌜ r ≡ requestOutcome scheme method path start len fields read ⌝ }
 {
     match read {
         ContentRead::More => Outcome::More,
         ContentRead::Refused { number, place } => Outcome::Refusal { number, place },
-        ContentRead::Done { end, chunks, total, trailers } => Outcome::Message(Record {
+        ContentRead::Done {
+            end,
+            chunks,
+            total,
+            trailers,
+        } => Outcome::Message(Record {
             response: false,
             scheme,
-            method: Part { start: 0, len: method as u32 },
-            authority: Part { start: start as u32, len: len as u32 },
-            path: Part { start: (method + 1) as u32, len: path as u32 },
+            method: Part {
+                start: 0,
+                len: method as u32,
+            },
+            authority: Part {
+                start: start as u32,
+                len: len as u32,
+            },
+            path: Part {
+                start: (method + 1) as u32,
+                len: path as u32,
+            },
             informational: 0,
             status: 0,
             headers: fields,
@@ -91,7 +119,23 @@ fn read_head(
     match h {
         Section::More => return Outcome::More,
         Section::Refused { number, place } => return Outcome::Refusal { number, place },
-        Section::Done { end, left: _, kept, notes } => return read_rest(t, s, scheme, method, path, end, kept, notes, chunks, trailers),
+        Section::Done {
+            end,
+            left: _,
+            kept,
+            notes,
+        } => return read_rest(
+            t,
+            s,
+            scheme,
+            method,
+            path,
+            end,
+            kept,
+            notes,
+            chunks,
+            trailers,
+        ),
     }
 }
 
@@ -111,17 +155,36 @@ pub fn request_in(
         let l = line_end(s, 0, Limits::HEAD);
         match l {
             Line::More => return Outcome::More,
-            Line::Bad => return Outcome::Refusal { number: Refusals::BAD_SYNTAX, place: 0 },
-            Line::Long => return Outcome::Refusal { number: Refusals::TOO_LARGE, place: 0 },
+            Line::Bad => return Outcome::Refusal {
+                number: Refusals::BAD_SYNTAX,
+                place: 0,
+            },
+            Line::Long => return Outcome::Refusal {
+                number: Refusals::TOO_LARGE,
+                place: 0,
+            },
             Line::Ends(next) => {
                 let e = next - 2;
                 let q = request_line(t, &s[..e]);
                 match q {
                     RequestLine::Bad { number } => return Outcome::Refusal { number, place: 0 },
-                    RequestLine::Of { method, path } => return read_head(t, s, scheme, method, path, next, headers, chunks, trailers),
+                    RequestLine::Of { method, path } => return read_head(
+                        t,
+                        s,
+                        scheme,
+                        method,
+                        path,
+                        next,
+                        headers,
+                        chunks,
+                        trailers,
+                    ),
                 }
             }
         }
     }
-    Outcome::Refusal { number: Refusals::NOT_SUPPORTED, place: 0 }
+    Outcome::Refusal {
+        number: Refusals::NOT_SUPPORTED,
+        place: 0,
+    }
 }

@@ -47,12 +47,22 @@ fn informational_head(
     match h {
         Section::More => return HeadRead::More,
         Section::Refused { number, place } => return HeadRead::Refused { number, place },
-        Section::Done { end, left: rest, kept, notes } => {
+        Section::Done {
+            end,
+            left: rest,
+            kept,
+            notes,
+        } => {
             let f = notes.framing;
             let b = nothing_stated(f, end);
             match b {
                 BodyAnswer::Refused { number, place } => return HeadRead::Refused { number, place },
-                BodyAnswer::Read(_) => return HeadRead::Informational { status, end, left: rest, kept },
+                BodyAnswer::Read(_) => return HeadRead::Informational {
+                    status,
+                    end,
+                    left: rest,
+                    kept,
+                },
             }
         }
     }
@@ -75,7 +85,17 @@ fn final_head(
     match h {
         Section::More => return HeadRead::More,
         Section::Refused { number, place } => return HeadRead::Refused { number, place },
-        Section::Done { end, left: _, kept, notes } => return HeadRead::Final { status, end, kept, notes },
+        Section::Done {
+            end,
+            left: _,
+            kept,
+            notes,
+        } => return HeadRead::Final {
+            status,
+            end,
+            kept,
+            notes,
+        },
     }
 }
 
@@ -95,8 +115,14 @@ pub fn next_head(
     let l = line_end(s, i, left);
     match l {
         Line::More => return HeadRead::More,
-        Line::Bad => return HeadRead::Refused { number: Refusals::BAD_SYNTAX, place: i },
-        Line::Long => return HeadRead::Refused { number: Refusals::TOO_LARGE, place: i },
+        Line::Bad => return HeadRead::Refused {
+            number: Refusals::BAD_SYNTAX,
+            place: i,
+        },
+        Line::Long => return HeadRead::Refused {
+            number: Refusals::TOO_LARGE,
+            place: i,
+        },
         Line::Ends(next) => {
             let e = next - 2;
             let q = status_line(t, &s[i..e]);
@@ -106,7 +132,10 @@ pub fn next_head(
                     let rest = left - (next - i);
                     if is_informational(status as usize) {
                         if Limits::INFORMATIONAL <= count {
-                            return HeadRead::Refused { number: Refusals::TOO_LARGE, place: i };
+                            return HeadRead::Refused {
+                                number: Refusals::TOO_LARGE,
+                                place: i,
+                            };
                         }
                         return informational_head(t, s, status, next, rest, base, headers);
                     } else {
@@ -130,7 +159,12 @@ fn store_head(out: &mut [u32], k: usize, status: u32, fields: u32)
 
 // The heads of the first response of s, up to the final one: kept fields are stored in `headers`, those of informational heads first, and status and
 // number of kept fields of each informational head in `informational`.
-pub fn read_heads(t: &[u8; 256], s: &[u8], headers: &mut [u32], informational: &mut [u32]) -> HeadsRead
+pub fn read_heads(
+    t: &[u8; 256],
+    s: &[u8],
+    headers: &mut [u32],
+    informational: &mut [u32],
+) -> HeadsRead
     requires { ⌜ (now t ≡ classes) × (1280 ≤ length (now headers)) × (8 ≤ length (now informational)) ⌝ }
     ensures { λ r. ⌜ HeadsTaken (readResponse (now (s .entry))) (now (s .entry)) (now (headers .entry)) (now (headers .exit)) (now (informational .entry)) (now (informational .exit)) r ⌝ }
 {
@@ -143,8 +177,24 @@ pub fn read_heads(t: &[u8; 256], s: &[u8], headers: &mut [u32], informational: &
         match h {
             HeadRead::More => return HeadsRead::More,
             HeadRead::Refused { number, place } => return HeadsRead::Refused { number, place },
-            HeadRead::Final { status, end, kept, notes } => return HeadsRead::Done { status, end, heads: count, kept: kept - base, notes },
-            HeadRead::Informational { status, end, left: rest, kept } => {
+            HeadRead::Final {
+                status,
+                end,
+                kept,
+                notes,
+            } => return HeadsRead::Done {
+                status,
+                end,
+                heads: count,
+                kept: kept - base,
+                notes,
+            },
+            HeadRead::Informational {
+                status,
+                end,
+                left: rest,
+                kept,
+            } => {
                 store_head(informational, count, status, (kept - base) as u32);
                 base = kept;
                 count += 1;
@@ -162,7 +212,12 @@ fn response_outcome(read: ContentRead, status: u32, heads: usize, fields: usize)
     match read {
         ContentRead::More => Outcome::More,
         ContentRead::Refused { number, place } => Outcome::Refusal { number, place },
-        ContentRead::Done { end, chunks, total, trailers } => Outcome::Message(Record {
+        ContentRead::Done {
+            end,
+            chunks,
+            total,
+            trailers,
+        } => Outcome::Message(Record {
             response: true,
             scheme: 0,
             method: Part { start: 0, len: 0 },
@@ -221,6 +276,12 @@ pub fn response_in(
     match h {
         HeadsRead::More => return Outcome::More,
         HeadsRead::Refused { number, place } => return Outcome::Refusal { number, place },
-        HeadsRead::Done { status, end, heads, kept, notes } => return after_final(t, s, status, end, heads, kept, notes, chunks, trailers),
+        HeadsRead::Done {
+            status,
+            end,
+            heads,
+            kept,
+            notes,
+        } => return after_final(t, s, status, end, heads, kept, notes, chunks, trailers),
     }
 }

@@ -14,9 +14,11 @@ use Rattle.readers.proofs.response.store_head.Reads as store-head-reads
 abbrev Inv-loop : tie.InvT-loop
 Inv-loop t s headers₀ informational₀ i₀ left₀ count₀ base₀ headers informational i left count base =
     (t ≡ classes) × (length headers ≡ length headers₀) × (length informational ≡ length informational₀) × HeadsTo s headers₀ headers informational₀ informational i left count base
+
 abbrev μ-loop : tie.MeasureT-loop
 μ-loop t s headers₀ informational₀ i₀ left₀ count₀ base₀ headers informational i left count base =
     5 - count
+
 -- src/response.rt:134:5
 loop-holds : tie.Need-loop-holds Inv-loop μ-loop
 loop-holds c = (c .before .before .before .pre .0, refl, refl, heads-start _ _ _)

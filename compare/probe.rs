@@ -1,0 +1,526 @@
+#![allow(dead_code)] // helpers of commands whose entries come later
+//! `probe`: speaks the comparing protocol over the proved static library, through the C interface of include/ospirnar.h.
+//!
+//! Build: rustc -O -L native=target/staticlib -o target/compare/probe compare/probe.rs      (compare/build does it)
+//! Run:   target/compare/probe < commands > answers       (--each: each answer is written out before the next command is read)
+//!
+//! What it answers is built from the numbers the library left and from the input, and from nothing else. Beside the protocol's answers:
+//!
+//!   {"error":"altered"}    a refusal altered lent space, or an acceptance altered some behind what it used, or
+//!                          with one element too few the call was not 13 at 0 that leaves all as it was
+//!   {"error":"room"}       with exactly enough space, or a refusal with none, the call answered something else
+//!   {"error":"range"}      a number that the header rules out: a part outside the input, a count above its size
+//!   {"error":"not built"}  a command whose entry is not in the header yet
+
+use std::io::{self, BufRead, BufReader, BufWriter, Write};
+
+// ---------------------------------------------------------------------------------------- the library
+
+mod entries {
+    //! As in include/ospirnar.h, line for line.
+    #[link(name = "capi", kind = "static")]
+    extern "C" {
+        pub fn ospirnar_read_request(input: *const u8, input_len: usize, scheme: u32, ranges: *mut u32, ranges_len: usize, place: *mut usize) -> u32;
+        pub fn ospirnar_read_response(input: *const u8, input_len: usize, ranges: *mut u32, ranges_len: usize, place: *mut usize) -> u32;
+    }
+}
+
+const RANGES_MOST: usize = 2070;
+const TOO_SMALL: Answer = Answer { number: 13, place: 0 };
+
+/// The number a call returned, and what it left in *place.
+#[derive(Clone, Copy, PartialEq)]
+struct Answer {
+    number: u32,
+    place: usize,
+}
+
+/// A call with a place to write to, which shows as a number of no input if the call leaves it alone.
+fn ask(call: impl FnOnce(*mut usize) -> u32) -> Answer {
+    let mut place = 0xAAAA_AAAA_AAAA_AAAA;
+    let number = call(&mut place);
+    Answer { number, place }
+}
+
+fn read_request(input: &[u8], scheme: u32, ranges: &mut Lent<u32>) -> Answer {
+    let (pointer, room) = ranges.lend();
+    ask(|place| unsafe { entries::ospirnar_read_request(input.as_ptr(), input.len(), scheme, pointer, room, place) })
+}
+
+fn read_response(input: &[u8], ranges: &mut Lent<u32>) -> Answer {
+    let (pointer, room) = ranges.lend();
+    ask(|place| unsafe { entries::ospirnar_read_response(input.as_ptr(), input.len(), pointer, room, place) })
+}
+
+// ---------------------------------------------------------------------------------------- lent space
+
+/// Space for a call to write to: `room` elements that are lent and some behind them that are not, all filled before the call.
+struct Lent<T> {
+    all: Vec<T>,
+    room: usize,
+    fill: T,
+}
+
+impl<T: Copy + PartialEq> Lent<T> {
+    fn new(room: usize, fill: T) -> Lent<T> {
+        Lent { all: vec![fill; room + 32], room, fill }
+    }
+    fn lend(&mut self) -> (*mut T, usize) {
+        (self.all.as_mut_ptr(), self.room)
+    }
+    fn kept_from(&self, used: usize) -> bool {
+        self.all[used..].iter().all(|&element| element == self.fill)
+    }
+}
+
+fn ranges(room: usize) -> Lent<u32> {
+    Lent::new(room, 0xAAAA_AAAA)
+}
+
+fn output(room: usize) -> Lent<u8> {
+    Lent::new(room, 0xAA)
+}
+
+/// An accepted call used the first `used` elements of `lent`: nothing behind them has changed, exactly so many are enough and do the
+/// same, and one less is 13 at 0 and changes nothing.
+fn judge_room<T: Copy + PartialEq>(lent: &Lent<T>, used: usize, answer: Answer, call: impl Fn(&mut Lent<T>) -> Answer) -> Result<(), &'static str> {
+    if !lent.kept_from(used) {
+        return Err("altered");
+    }
+    let mut exact = Lent::new(used, lent.fill);
+    if call(&mut exact) != answer || exact.all[..used] != lent.all[..used] {
+        return Err("room");
+    }
+    if !exact.kept_from(used) {
+        return Err("altered");
+    }
+    if used > 0 {
+        let mut small = Lent::new(used - 1, lent.fill);
+        if call(&mut small) != TOO_SMALL || !small.kept_from(0) {
+            return Err("altered");
+        }
+    }
+    Ok(())
+}
+
+// ---------------------------------------------------------------------------------------- the ranges
+
+/// A part of the input, inside it.
+#[derive(Clone, Copy)]
+struct Part {
+    start: usize,
+    len: usize,
+}
+
+impl Part {
+    fn of<'a>(&self, input: &'a [u8]) -> &'a [u8] {
+        &input[self.start..self.start + self.len]
+    }
+}
+
+#[derive(Clone, Copy)]
+struct Field {
+    name: Part,
+    value: Part,
+}
+
+struct Message {
+    request: bool,
+    scheme: u32,
+    method: Part,
+    authority: Part,
+    path: Part,
+    status: u32,
+    info: Vec<(u32, Vec<Field>)>,
+    headers: Vec<Field>,
+    chunks: Vec<Part>,
+    trailers: Vec<Field>,
+}
+
+/// Takes the numbers off one after the other.
+struct Taker<'a> {
+    ranges: &'a [u32],
+    next: usize,
+    input_len: usize,
+}
+
+impl<'a> Taker<'a> {
+    fn number(&mut self) -> Result<u32, &'static str> {
+        let number = *self.ranges.get(self.next).ok_or("range")?;
+        self.next += 1;
+        Ok(number)
+    }
+    fn number_up_to(&mut self, most: u32) -> Result<u32, &'static str> {
+        self.number().and_then(|n| if n <= most { Ok(n) } else { Err("range") })
+    }
+    fn part(&mut self) -> Result<Part, &'static str> {
+        let (start, len) = (self.number()? as u64, self.number()? as u64);
+        if start + len > self.input_len as u64 {
+            return Err("range");
+        }
+        Ok(Part { start: start as usize, len: len as usize })
+    }
+    fn parts(&mut self, count: u32) -> Result<Vec<Part>, &'static str> {
+        (0..count).map(|_| self.part()).collect()
+    }
+    fn fields(&mut self, count: u32) -> Result<Vec<Field>, &'static str> {
+        (0..count).map(|_| Ok(Field { name: self.part()?, value: self.part()? })).collect()
+    }
+}
+
+/// The message that the ranges describe, and how many of them it took.
+fn message(ranges: &[u32], input_len: usize) -> Result<(Message, usize), &'static str> {
+    let mut taker = Taker { ranges, next: 0, input_len };
+    let request = taker.number_up_to(1)? == 0;
+    let scheme = taker.number_up_to(if request { 1 } else { 0 })?;
+    let (method, authority, path) = (taker.part()?, taker.part()?, taker.part()?);
+    if !request && ranges[2..8].iter().any(|&n| n != 0) {
+        return Err("range");
+    }
+    let status = taker.number_up_to(if request { 0 } else { 599 })?;
+    let info_count = taker.number_up_to(if request { 0 } else { 4 })?;
+    let header_count = taker.number_up_to(64)?;
+    let chunk_count = taker.number_up_to(256)?;
+    let content = taker.number()? as usize;
+    let trailer_count = taker.number_up_to(64)?;
+    let mut info_heads = Vec::new();
+    for i in 0..4 {
+        // those that are not there: 0 and 0
+        let there = i < info_count;
+        info_heads.push((taker.number_up_to(if there { 199 } else { 0 })?, taker.number_up_to(if there { 64 } else { 0 })?));
+    }
+    info_heads.truncate(info_count as usize);
+    let mut info = Vec::new();
+    for (status, count) in info_heads {
+        info.push((status, taker.fields(count)?));
+    }
+    let headers = taker.fields(header_count)?;
+    let chunks = taker.parts(chunk_count)?;
+    let trailers = taker.fields(trailer_count)?;
+    if chunks.iter().map(|chunk| chunk.len).sum::<usize>() != content {
+        return Err("range");
+    }
+    Ok((Message { request, scheme, method, authority, path, status, info, headers, chunks, trailers }, taker.next))
+}
+
+// ---------------------------------------------------------------------------------------- the answers
+
+fn hex(out: &mut String, octets: impl IntoIterator<Item = u8>) {
+    out.push('"');
+    for octet in octets {
+        for digit in [octet >> 4, octet & 15] {
+            out.push(b"0123456789abcdef"[digit as usize] as char);
+        }
+    }
+    out.push('"');
+}
+
+fn list<T>(out: &mut String, items: &[T], mut push: impl FnMut(&mut String, &T)) {
+    out.push('[');
+    for (i, item) in items.iter().enumerate() {
+        if i > 0 {
+            out.push(',');
+        }
+        push(out, item);
+    }
+    out.push(']');
+}
+
+fn fields_hex(out: &mut String, input: &[u8], fields: &[Field]) {
+    list(out, fields, |out, field| {
+        out.push('[');
+        hex(out, field.name.of(input).to_ascii_lowercase());
+        out.push(',');
+        hex(out, field.value.of(input).iter().copied());
+        out.push(']');
+    });
+}
+
+fn part_hex(out: &mut String, input: &[u8], part: Part) {
+    hex(out, part.of(input).iter().copied());
+}
+
+fn meaning(out: &mut String, input: &[u8], m: &Message) {
+    out.push('{');
+    if m.request {
+        out.push_str("\"authority\":");
+        part_hex(out, input, m.authority);
+        out.push(',');
+    }
+    out.push_str("\"content\":");
+    hex(out, m.chunks.iter().flat_map(|chunk| chunk.of(input).iter().copied()));
+    out.push_str(",\"headers\":");
+    fields_hex(out, input, &m.headers);
+    if m.request {
+        out.push_str(",\"k\":\"req\",\"method\":");
+        part_hex(out, input, m.method);
+        out.push_str(",\"path\":");
+        part_hex(out, input, m.path);
+        out.push_str(",\"scheme\":\"");
+        out.push_str(if m.scheme == 0 { "http" } else { "https" });
+        out.push('"');
+    } else {
+        out.push_str(",\"info\":");
+        list(out, &m.info, |out, (status, fields)| {
+            out.push_str(&format!("[{status},"));
+            fields_hex(out, input, fields);
+            out.push(']');
+        });
+        out.push_str(&format!(",\"k\":\"resp\",\"status\":{}", m.status));
+    }
+    out.push_str(",\"trailers\":");
+    fields_hex(out, input, &m.trailers);
+    out.push('}');
+}
+
+fn part_numbers(out: &mut String, part: &Part) {
+    out.push_str(&format!("[{},{}]", part.start, part.len));
+}
+
+fn field_numbers(out: &mut String, fields: &[Field]) {
+    list(out, fields, |out, f| out.push_str(&format!("[{},{},{},{}]", f.name.start, f.name.len, f.value.start, f.value.len)));
+}
+
+fn numbers(out: &mut String, m: &Message) {
+    out.push('{');
+    if m.request {
+        out.push_str("\"authority\":");
+        part_numbers(out, &m.authority);
+        out.push(',');
+    }
+    out.push_str("\"chunks\":");
+    list(out, &m.chunks, part_numbers);
+    out.push_str(",\"headers\":");
+    field_numbers(out, &m.headers);
+    if m.request {
+        out.push_str(",\"method\":");
+        part_numbers(out, &m.method);
+        out.push_str(",\"path\":");
+        part_numbers(out, &m.path);
+    } else {
+        out.push_str(",\"info\":");
+        list(out, &m.info, |out, (_, fields)| field_numbers(out, fields));
+    }
+    out.push_str(",\"trailers\":");
+    field_numbers(out, &m.trailers);
+    out.push('}');
+}
+
+fn refused(answer: Answer) -> String {
+    format!("{{\"at\":{},\"n\":{}}}", answer.place, answer.number)
+}
+
+/// A reader's answer to `input`.
+fn read(input: &[u8], call: impl Fn(&mut Lent<u32>) -> Answer) -> Result<String, &'static str> {
+    let mut lent = ranges(RANGES_MOST);
+    let answer = call(&mut lent);
+    if answer.number != 0 {
+        if !lent.kept_from(0) {
+            return Err("altered");
+        }
+        // the reader's refusal goes before 13
+        let mut none = ranges(0);
+        if call(&mut none) != answer {
+            return Err("room");
+        }
+        return if none.kept_from(0) { Ok(refused(answer)) } else { Err("altered") };
+    }
+    let (m, used) = message(&lent.all[..RANGES_MOST], input.len())?;
+    if answer.place > input.len() {
+        return Err("range");
+    }
+    judge_room(&lent, used, answer, call)?;
+    let mut out = format!("{{\"len\":{},\"m\":", answer.place);
+    meaning(&mut out, input, &m);
+    out.push_str(",\"n\":0,\"r\":");
+    numbers(&mut out, &m);
+    out.push('}');
+    Ok(out)
+}
+
+/// What a call writes into `room` octets, or its refusal.
+fn write(room: usize, call: impl Fn(&mut Lent<u8>) -> Answer) -> Result<Result<Vec<u8>, Answer>, &'static str> {
+    let mut lent = output(room);
+    let answer = call(&mut lent);
+    if answer.number != 0 {
+        return if lent.kept_from(0) { Ok(Err(answer)) } else { Err("altered") };
+    }
+    if answer.place > room {
+        return Err("range");
+    }
+    judge_room(&lent, answer.place, answer, call)?;
+    Ok(Ok(lent.all[..answer.place].to_vec()))
+}
+
+fn write_text(room: usize, call: impl Fn(&mut Lent<u8>) -> Answer) -> Result<String, &'static str> {
+    let octets = match write(room, call)? {
+        Ok(octets) => octets,
+        Err(answer) => return Ok(refused(answer)),
+    };
+    let mut out = String::from("{\"text\":\"");
+    for octet in octets {
+        match octet {
+            b'\n' => out.push_str("\\n"),
+            b'"' | b'\\' => out.extend(['\\', octet as char]),
+            0x20..=0x7e => out.push(octet as char),
+            _ => out.push_str(&format!("\\u{octet:04x}")),
+        }
+    }
+    out.push_str("\"}");
+    Ok(out)
+}
+
+/// For the turnings.
+#[allow(dead_code)]
+fn write_hex(room: usize, call: impl Fn(&mut Lent<u8>) -> Answer) -> Result<String, &'static str> {
+    let octets = match write(room, call)? {
+        Ok(octets) => octets,
+        Err(answer) => return Ok(refused(answer)),
+    };
+    let mut out = String::from("{\"n\":0,\"out\":");
+    hex(&mut out, octets);
+    out.push('}');
+    Ok(out)
+}
+
+// ---------------------------------------------------------------------------------------- the commands
+
+fn octets(word: &[u8]) -> Option<Vec<u8>> {
+    if word == b"-" {
+        return Some(Vec::new());
+    }
+    if word.is_empty() || word.len() % 2 != 0 || !word.iter().all(|b| matches!(b, b'0'..=b'9' | b'a'..=b'f')) {
+        return None;
+    }
+    let digit = |b: u8| if b <= b'9' { b - b'0' } else { b - b'a' + 10 };
+    Some(word.chunks(2).map(|pair| digit(pair[0]) * 16 + digit(pair[1])).collect())
+}
+
+/// One or more digits; what passes `most` becomes `most`.
+fn number(word: &[u8], most: u64) -> Option<u64> {
+    if word.is_empty() || !word.iter().all(|b| b.is_ascii_digit()) {
+        return None;
+    }
+    Some(word.iter().fold(0, |n: u64, &b| n.saturating_mul(10).saturating_add((b - b'0') as u64)).min(most))
+}
+
+/// The scheme told, any integer: one that does not fit 32 bits is told as one that is neither 0 nor 1.
+fn scheme(word: &[u8]) -> Option<u32> {
+    match word.strip_prefix(b"-") {
+        None => number(word, u32::MAX as u64).map(|n| n as u32),
+        Some(digits) => number(digits, 1).map(|n| if n == 0 { 0 } else { u32::MAX }),
+    }
+}
+
+/// The lent room; no message that is written comes near a mega-octet.
+fn room(word: &[u8]) -> Option<usize> {
+    number(word, 1 << 20).map(|n| n as usize)
+}
+
+/// More than any listing of such an input takes: the shortest message has 24 octets, the longest line 31.
+fn listing_room(input: &[u8]) -> usize {
+    256 + 2 * input.len()
+}
+
+const NOT_BUILT: Result<String, &'static str> = Err("not built");
+
+/// The answer to one command line; None if it is no command.
+///
+/// To build one: declare its entry in `entries`, give it a safe function beside the others, and let its arm here return `read` or
+/// `write_hex` of it, as the first three do. Then name its set in compare/run.
+fn command(line: &[u8]) -> Option<Result<String, &'static str>> {
+    let words: Vec<&[u8]> = line.split(|&b| b == b' ').collect();
+    Some(match (words[0], &words[1..]) {
+        (b"h1req", [told, input]) => {
+            let (told, input) = (scheme(told)?, octets(input)?);
+            read(&input, |ranges| read_request(&input, told, ranges))
+        }
+        (b"h1resp", [input]) => {
+            let input = octets(input)?;
+            read(&input, |ranges| read_response(&input, ranges))
+        }
+        (b"listing", [input]) => {
+            octets(input)?;
+            NOT_BUILT
+        }
+        (b"bin", [input]) => {
+            octets(input)?;
+            NOT_BUILT
+        }
+        (b"h1req2bin", [told, space, input]) => {
+            (scheme(told)?, room(space)?, octets(input)?);
+            NOT_BUILT
+        }
+        (b"h1resp2bin", [space, input]) => {
+            (room(space)?, octets(input)?);
+            NOT_BUILT
+        }
+        (b"bin2h1", [told, space, input]) => {
+            (scheme(told)?, room(space)?, octets(input)?);
+            NOT_BUILT
+        }
+        (b"bin2bin", [space, input]) => {
+            (room(space)?, octets(input)?);
+            NOT_BUILT
+        }
+        (b"field_h1req", [told, name, default, input]) => {
+            (scheme(told)?, octets(name)?, octets(default)?, octets(input)?);
+            NOT_BUILT
+        }
+        (b"field_h1resp", [name, default, input]) => {
+            (octets(name)?, octets(default)?, octets(input)?);
+            NOT_BUILT
+        }
+        (b"field_bin", [name, default, input]) => {
+            (octets(name)?, octets(default)?, octets(input)?);
+            NOT_BUILT
+        }
+        _ => return None,
+    })
+}
+
+/// One answer line, whatever comes. A fault of this program shows as an answer and ends nothing.
+fn answer(line: &[u8]) -> String {
+    let error = match std::panic::catch_unwind(|| command(line)) {
+        Ok(Some(Ok(answer))) => return answer,
+        Ok(Some(Err(error))) => error,
+        Ok(None) => "bad command",
+        Err(_) => "panic",
+    };
+    format!("{{\"error\":\"{error}\"}}")
+}
+
+/// `each`: every answer is written out at once, so that what was answered is known where the library ends the program.
+fn serve(each: bool) -> io::Result<()> {
+    let mut input = BufReader::with_capacity(1 << 18, io::stdin());
+    let mut output = BufWriter::with_capacity(1 << 18, io::stdout());
+    let mut line = Vec::new();
+    loop {
+        // No whole line at hand: let a waiting peer have what was answered before reading on.
+        if each || !input.buffer().contains(&b'\n') {
+            output.flush()?;
+        }
+        line.clear();
+        if input.read_until(b'\n', &mut line)? == 0 {
+            break;
+        }
+        if line.last() == Some(&b'\n') {
+            line.pop();
+        }
+        output.write_all(answer(&line).as_bytes())?;
+        output.write_all(b"\n")?;
+    }
+    output.flush()
+}
+
+fn main() {
+    let arguments: Vec<String> = std::env::args().skip(1).collect();
+    let each = arguments == ["--each"];
+    if !each && !arguments.is_empty() {
+        eprintln!("usage: probe [--each] < commands > answers");
+        std::process::exit(2);
+    }
+    if serve(each).is_err() {
+        std::process::exit(1);
+    }
+}

@@ -1,0 +1,126 @@
+-- What the response entry knows of an accepted response.
+use Prim.Native.Nat.{ℕ, zero, suc, _+_, _*_, _≤_}
+use mathlib.Core.Path.{_≡_, refl, sym, ap, _∙_, subst}
+use mathlib.Core.List.{List, [], _∷_, _++_}
+use mathlib.Core.Bool.{Bool, true, false}
+use native.Mathlib.Omega.{arith}
+use lib.ListN.{length, replicate, getD, length-append}
+use Rattle.octets.specs.Limits.{linesMost, chunksMost, informationalMost}
+use Rattle.script.specs.Script.{Answer, accepted, refused, more}
+use Rattle.output.specs.Splice.{splice, part}
+use Rattle.messages.specs.Message.{FieldRead, InformationalRead, Start, requestStart, responseStart, isResponse, Message}
+use Rattle.messages.specs.Names.{kept}
+use Rattle.messages.specs.Answers.{informationalNumbers, informationalLines, informationalIn, padded, recordFrom, recordOf}
+use Rattle.messages.specs.declared.Record.{Record}
+use Rattle.messages.specs.declared.Outcome.{Outcome}
+use Rattle.messages.specs.declared.Outcome.the-variants as outcome
+use Rattle.messages.proofs.Noting.{kept-few}
+use Rattle.http1.specs.Read.{readResponse}
+use Rattle.http1_laws.specs.Read.{IsResponse, SoundResponse}
+use Rattle.http1_laws.proofs.Sound.{response-sound}
+use Rattle.sound.specs.Placed.{Each}
+use Rattle.sound.specs.Sound.{Sound, GoodHeads, GoodSection}
+use Rattle.readers.specs.Readers.{OutcomeSays, Outcomed}
+use Rattle.readers.specs.Responses.{InformationalSays, Responded}
+use Rattle.capi.specs.Entries.{recordNumbers, SmallRecord, Entered, Numbered, noHeads, headsFields}
+use Rattle.capi.proofs.Entering.{Given, all-fields, sound-small, entered}
+
+few-none : {A : Type 0} {n : ℕ} → suc (suc (suc (suc (suc n)))) ≤ 4 → A
+few-none h = absurd (omega (arith, h))
+
+-- the counts of the informational heads add up to their fields
+heads-sum : (hs : List InformationalRead) → length hs ≤ informationalMost → headsFields (splice noHeads 0 (informationalNumbers hs)) ≡ length (informationalLines hs)
+unfolding informationalNumbers informationalLines headsFields noHeads
+heads-sum [] h = refl
+heads-sum (a ∷ []) h = omega (arith, length-append (kept true (a .lines)) [])
+heads-sum (a ∷ b ∷ []) h = omega (arith, length-append (kept true (a .lines)) (kept true (b .lines) ++ []), length-append (kept true (b .lines)) [])
+heads-sum (a ∷ b ∷ c ∷ []) h =
+    omega (
+      arith,
+      length-append (kept true (a .lines)) (kept true (b .lines) ++ (kept true (c .lines) ++ [])),
+      length-append (kept true (b .lines)) (kept true (c .lines) ++ []),
+      length-append (kept true (c .lines)) [],
+    )
+heads-sum (a ∷ b ∷ c ∷ d ∷ []) h =
+    omega (
+      arith,
+      length-append (kept true (a .lines)) (kept true (b .lines) ++ (kept true (c .lines) ++ (kept true (d .lines) ++ []))),
+      length-append (kept true (b .lines)) (kept true (c .lines) ++ (kept true (d .lines) ++ [])),
+      length-append (kept true (c .lines)) (kept true (d .lines) ++ []),
+      length-append (kept true (d .lines)) [],
+    )
+heads-sum (a ∷ b ∷ c ∷ d ∷ e ∷ hs) h = few-none h
+
+-- they stand as they are padded
+heads-stand : (hs : List InformationalRead) → length hs ≤ informationalMost → part (splice noHeads 0 (informationalNumbers hs)) 0 8 ≡ padded 8 (informationalNumbers hs)
+unfolding informationalNumbers padded noHeads
+heads-stand [] h = refl
+heads-stand (a ∷ []) h = refl
+heads-stand (a ∷ b ∷ []) h = refl
+heads-stand (a ∷ b ∷ c ∷ []) h = refl
+heads-stand (a ∷ b ∷ c ∷ d ∷ []) h = refl
+heads-stand (a ∷ b ∷ c ∷ d ∷ e ∷ hs) h = few-none h
+
+-- each head has 64 fields at most
+heads-few : (hs : List InformationalRead) → Each (λ h. GoodSection (h .lines)) hs → length (informationalLines hs) ≤ length hs * 64
+unfolding informationalLines
+heads-few [] g = omega arith
+heads-few (a ∷ hs) g =
+    omega (arith, heads-few hs (g .1), g .0 .few, kept-few true (a .lines), length-append (kept true (a .lines)) (informationalLines hs))
+
+-- the outcome, without the informational heads
+pub response-outcomed : {x : Answer Message} {hs hs′ ns ns′ cs cs′ ts ts′ : List ℕ} {o : Outcome} → Responded x hs hs′ ns ns′ cs cs′ ts ts′ o → Outcomed x hs hs′ cs cs′ ts ts′ o
+response-outcomed h = record { says = h .says }
+
+module _ (s : List ℕ) {hs hs′ ns ns′ cs cs′ ts ts′ : List ℕ} {r : Record} (g : Given (readResponse s) hs hs′ cs cs′ ts ts′ r) {o : Outcome}
+    (w : Responded (readResponse s) hs hs′ ns ns′ cs cs′ ts ts′ o) (z : ns ≡ noHeads) where
+  is-sound : SoundResponse s (g .long) (g .message)
+  is-sound = response-sound s (g .long) (g .message) (g .taken)
+
+  pub response-small : SmallRecord r
+  response-small = subst SmallRecord (sym (g .numbers)) (sound-small s (g .long) (g .message) (is-sound .sound))
+
+  heads-are : ns′ ≡ splice noHeads 0 (informationalNumbers (informationalIn (g .message .start)))
+  heads-are = go (readResponse s) (g .taken) (w .informational) ∙ ap (λ (l : List ℕ). splice l 0 (informationalNumbers (informationalIn (g .message .start)))) z
+    where
+      go : (x : Answer Message) → x ≡ accepted (g .long) (g .message) → InformationalSays x ns ns′ → ns′ ≡ splice ns 0 (informationalNumbers (informationalIn (g .message .start)))
+      go (accepted n m) e q = let f : m ≡ g .message = cc in rw (sym f) q
+      go (refused k p) e q = let y : _≡_ {A = ℕ} 0 1 = cc in absurd (omega arith)
+      go more e q = let y : _≡_ {A = ℕ} 0 1 = cc in absurd (omega arith)
+
+  module _ (f : ℕ) (ef : f ≡ headsFields ns′ + r .headers) where
+    fields-are : (f ≡ length (all-fields g)) × (f ≤ 320)
+    unfolding all-fields recordOf
+    fields-are =
+        let e : headsFields ns′ ≡ headsFields (splice noHeads 0 (informationalNumbers (informationalIn (g .message .start)))) = ap headsFields heads-are in
+        let k : r .headers ≡ recordFrom (g .message .start) (g .long) (g .message) .headers = ap (λ (q : Record). q .headers) (g .numbers) in
+        go (g .message .start) (is-sound .response) (is-sound .sound .heads) e k
+      where
+        go : (st : Start) → IsResponse st → GoodHeads st → headsFields ns′ ≡ headsFields (splice noHeads 0 (informationalNumbers (informationalIn st)))
+            → r .headers ≡ recordFrom st (g .long) (g .message) .headers
+            → (f ≡ length (informationalLines (informationalIn st) ++ kept (isResponse st) (g .message .lines))) × (f ≤ 320)
+        go (requestStart m c a p) i u e k = absurd i
+        go (responseStart js c) i u e k =
+            let a = heads-sum js (u .1) in
+            let b = length-append (informationalLines js) (kept true (g .message .lines)) in
+            let d = heads-few js (u .0) in
+            (omega (arith, ef, e, k, a, b), omega (arith, ef, e, k, a, d, u .1, kept-few true (g .message .lines), is-sound .sound .lines .few))
+
+    heads-padded : part ns′ 0 8 ≡ padded 8 (informationalNumbers (informationalIn (g .message .start)))
+    heads-padded = ap (λ (l : List ℕ). part l 0 8) heads-are ∙ go (g .message .start) (is-sound .response) (is-sound .sound .heads)
+      where
+        go : (st : Start) → IsResponse st → GoodHeads st → part (splice noHeads 0 (informationalNumbers (informationalIn st))) 0 8 ≡ padded 8 (informationalNumbers (informationalIn st))
+        go (requestStart m c a p) i u = absurd i
+        go (responseStart js c) i u = heads-stand js (u .1)
+
+    pub response-room : 1280 ≤ length hs → 512 ≤ length cs → 256 ≤ length ts → (f ≤ 320) × (f * 4 ≤ length hs) × (r .chunks * 2 ≤ length cs) × (r .trailers * 4 ≤ length ts)
+    response-room a b c =
+        let y = response-small in
+        (fields-are .1, omega (arith, fields-are .1, a), omega (arith, y .chunks, b), omega (arith, y .trailers, c))
+
+    pub response-entered : 1280 ≤ length hs → 512 ≤ length cs → 256 ≤ length ts → (u u′ : List ℕ) (input place number : ℕ)
+        → Numbered ((recordNumbers r ++ part ns′ 0 8) ++ (part hs′ 0 (f * 4) ++ part cs′ 0 (r .chunks * 2) ++ part ts′ 0 (r .trailers * 4))) (r .length) u u′ place number
+        → Entered (readResponse s) input u u′ place number
+    response-entered a b c u u′ input place number q =
+        let y = response-room a b c in
+        entered g ns′ u u′ f input place number (fields-are .0) (y .1) (y .2) (y .3) heads-padded q

@@ -1,0 +1,151 @@
+// The reading entries.
+use crate::numbers_out::give_message;
+use messages::Outcome;
+use octets::Refusals;
+use octets::class_table;
+use readers::request::request_in;
+use readers::response::response_in;
+ghost use mathlib.Core.Path.{_≡_};
+ghost use Prim.Native.Nat.{_+_, _≤_, _<_};
+ghost use lib.ListN.{length};
+ghost use Rattle.octets.specs.Table.{classes};
+ghost use Rattle.http1.specs.Read.{readRequest, readResponse};
+ghost use Rattle.readers.specs.Readers.{told};
+ghost use Rattle.capi.specs.Entries.{Entered, noHeads, headsFields};
+
+// The request reader's answer, through working space for its ranges.
+fn enter_request(
+    t: &[u8; 256],
+    input: &[u8],
+    scheme: u32,
+    ranges: &mut [u32],
+    place: &mut usize,
+    headers: &mut [u32],
+    chunks: &mut [u32],
+    trailers: &mut [u32],
+) -> u32
+    requires { ⌜ (now t ≡ classes) × (256 ≤ length (now headers)) × (512 ≤ length (now chunks)) × (256 ≤ length (now trailers)) ⌝ }
+    ensures { λ r. ⌜ Entered (readRequest (told scheme) (now (input .entry))) (length (now (input .entry))) (now (ranges .entry)) (now (ranges .exit)) (now (place .exit)) r ⌝ }
+{
+    let o = request_in(t, input, scheme, headers, chunks, trailers);
+    match o {
+        Outcome::More => {
+            *place = input.len();
+            return Refusals::MORE_NEEDED;
+        }
+        Outcome::Refusal { number, place: p } => {
+            *place = p;
+            return number;
+        }
+        Outcome::Message(r) => {
+            let none = [0u32; 8];
+            let fields = r.headers;
+            return give_message(ranges, place, r, fields, &none, headers, chunks, trailers);
+        }
+    }
+}
+
+// The first HTTP/1.1 request of a stream, under the scheme told.
+#[no_mangle]
+pub extern "C" fn ospirnar_read_request(
+    input: &[u8],
+    scheme: u32,
+    ranges: &mut [u32],
+    place: &mut usize,
+) -> u32
+    ensures { λ r. ⌜ Entered (readRequest (told scheme) (now (input .entry))) (length (now (input .entry))) (now (ranges .entry)) (now (ranges .exit)) (now (place .exit)) r ⌝ }
+{
+    let t = class_table();
+    let mut headers = [0u32; 256];
+    let mut chunks = [0u32; 512];
+    let mut trailers = [0u32; 256];
+    enter_request(
+        &t,
+        input,
+        scheme,
+        ranges,
+        place,
+        &mut headers,
+        &mut chunks,
+        &mut trailers,
+    )
+}
+
+fn wide(n: u32) -> usize
+    ensures { λ r. ⌜ (r ≡ n) × (r < 4294967296) ⌝ }
+{
+    n as usize
+}
+
+// How many fields the informational heads have.
+fn heads_fields(heads: &[u32]) -> usize
+    requires { ⌜ 8 ≤ length (now heads) ⌝ }
+    ensures { λ r. ⌜ (r ≡ headsFields (now (heads .entry))) × (r < 17179869184) ⌝ }
+{
+    let a = wide(heads[1]);
+    let b = wide(heads[3]);
+    let c = wide(heads[5]);
+    let d = wide(heads[7]);
+    a + b + c + d
+}
+
+// The response reader's answer, through working space for its ranges.
+fn enter_response(
+    t: &[u8; 256],
+    input: &[u8],
+    ranges: &mut [u32],
+    place: &mut usize,
+    headers: &mut [u32],
+    heads: &mut [u32],
+    chunks: &mut [u32],
+    trailers: &mut [u32],
+) -> u32
+    requires { ⌜ (now t ≡ classes) × (1280 ≤ length (now headers)) × (8 ≤ length (now heads)) × (512 ≤ length (now chunks)) × (256 ≤ length (now trailers)) × (now heads ≡ noHeads) ⌝ }
+    ensures { λ r. ⌜ Entered (readResponse (now (input .entry))) (length (now (input .entry))) (now (ranges .entry)) (now (ranges .exit)) (now (place .exit)) r ⌝ }
+{
+    let o = response_in(t, input, headers, heads, chunks, trailers);
+    match o {
+        Outcome::More => {
+            *place = input.len();
+            return Refusals::MORE_NEEDED;
+        }
+        Outcome::Refusal { number, place: p } => {
+            *place = p;
+            return number;
+        }
+        Outcome::Message(r) => {
+            let fields = all_fields(heads, r.headers);
+            return give_message(ranges, place, r, fields, heads, headers, chunks, trailers);
+        }
+    }
+}
+
+// With the fields of the final head.
+fn all_fields(heads: &[u32], fields: usize) -> usize
+    requires { ⌜ (8 ≤ length (now heads)) × (fields ≤ 64) ⌝ }
+    ensures { λ r. ⌜ r ≡ headsFields (now (heads .entry)) + fields ⌝ }
+{
+    heads_fields(heads) + fields
+}
+
+// The first HTTP/1.1 response of a stream.
+#[no_mangle]
+pub extern "C" fn ospirnar_read_response(input: &[u8], ranges: &mut [u32], place: &mut usize) -> u32
+    ensures { λ r. ⌜ Entered (readResponse (now (input .entry))) (length (now (input .entry))) (now (ranges .entry)) (now (ranges .exit)) (now (place .exit)) r ⌝ }
+{
+    let t = class_table();
+    let mut headers = [0u32; 1280];
+    let mut heads = [0u32; 8];
+    let mut chunks = [0u32; 512];
+    let mut trailers = [0u32; 256];
+    enter_response(
+        &t,
+        input,
+        ranges,
+        place,
+        &mut headers,
+        &mut heads,
+        &mut chunks,
+        &mut trailers,
+    )
+}
