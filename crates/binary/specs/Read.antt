@@ -61,6 +61,7 @@ pub record RequestControl : Type 0 where
   pub authority : Piece
   pub path : Piece
 
+-- method, scheme, authority, path: each judged before the next is read
 unfoldable pub requestControl : Reader RequestControl
 requestControl = do
   m ← ruledPart methodMost methodVerdict
@@ -110,6 +111,7 @@ onBody (no n p) at s = no n p
 unfoldable pub bodyLines : Piece → Reader (List FieldRead)
 bodyLines b = onBody (knownLines (suc linesMost) [] (b .place) (b .text))
 
+-- a known-length section: its length, and the lines that fill its body
 unfoldable pub knownSection : Reader (List FieldRead)
 knownSection = do
   b ← part
@@ -176,7 +178,7 @@ content known = do
   e ← ended
   cond e (give []) (cond known knownContent (openChunks (suc chunksMost) [] 0))
 
--- what is read of the content agrees with the length stated, and with the status
+-- what is read of the content agrees with the length stated, and with the status; judged at the place behind the content
 unfoldable pub contentRule : Bool → Framing → ℕ → List Piece → Judged (List Piece)
 contentRule body f end cs =
     cond (agrees f (length (contentOf cs))) (cond (body || isEmpty (contentOf cs)) (good cs) (wrong badLength end)) (wrong badLength end)
@@ -187,6 +189,7 @@ abbrev pub noLines : List FieldRead → Bool
 noLines [] = true
 noLines (f ∷ fs) = false
 
+-- no refused name, and none kept in 204 and 304; judged at the place behind the section
 unfoldable pub trailerRule : Bool → Section → Judged (List FieldRead)
 trailerRule body h =
     cond (areTrailers (h .lines)) (cond (body || noLines (keptTrailers (h .lines))) (good (h .lines)) (wrong badLength (h .end))) (wrong badLength (h .end))

@@ -48,7 +48,7 @@ requestVersion w m e =
     (cond (sameText (drop (e + 1) w) version) (requestParts w m (e - (m + 1))) (request.Bad badVersion))
     (request.Bad badSyntax)
 
--- the second space, from the place behind the first
+-- the second space is at e; a line that ends there has none
 unfoldable pub requestTarget : List ℕ → ℕ → ℕ → RequestLine
 requestTarget w m e = cond (leb (length w) e) (request.Bad badSyntax) (requestVersion w m e)
 
@@ -139,7 +139,7 @@ onSize (Is n) true = chunk.Of n
 onSize (Is n) false = chunk.Bad
 onSize Not x = chunk.Bad
 
--- hexadecimal digits, one at least, up to the end or a semicolon at h; value octets behind it, which are dropped
+-- hexadecimal digits, one at least, up to the end or the first semicolon; value octets behind that, which are dropped
 unfoldable pub chunkLens : List ℕ → ChunkLine
 chunkLens w =
     onSize (numOf 16 (take (spanLen (isOther 59) w) w)) (all (hasClass value) (drop (spanLen (isOther 59) w + 1) w))

@@ -92,6 +92,7 @@ chunksFrom (suc f) cs total = do
         c ← tell (chunkData n d)
         chunksFrom f (cs ++ c ∷ []) (total + n))))
 
+-- so many octets, one piece or none; or chunks
 unfoldable pub content : Body → Script Content
 content (Sized n) = do
   c ← word (someOctets n)
@@ -108,6 +109,7 @@ afterHead t q h = do
   c ← content b
   done (record { start = requestStart (q .method) (t .scheme) a (q .path); lines = h .lines; chunks = c .chunks; trailers = c .trailers })
 
+-- request line, field lines, and what stands behind the head
 unfoldable pub request : Told → Script Message
 request t = do
   l ← word (lineWithin headMost)
@@ -146,5 +148,6 @@ heads (suc f) is left = do
         h ← section (less left l)
         afterFinal is n h)
 
+-- the first response of a stream
 unfoldable pub readResponse : List ℕ → Answer Message
 readResponse s = run (heads (suc informationalMost) [] headMost) 0 s

@@ -34,7 +34,7 @@ row i at n m = column i ++ column at ++ column n ++ counts (meaning m)
 unfoldable pub endLine : ℕ → ℕ → List ℕ
 endLine at k = ascii "end " ++ column at ++ digits 10 k ++ lf
 
--- the messages from number i on, the first at the place `at`: 0 where no octet is left
+-- a row for each message from number i on, the first at the place `at`; then where it stops, and the refusal, or 0 where no octet is left
 unfoldable pub rows : ℕ → ℕ → Taken Message → List ℕ
 rows i at (message n m t) = row i at n m ++ rows (i + 1) (at + n) t
 rows i at (waits r) = cond (isEmpty r) (endLine at 0) (endLine (at + length r) moreNeeded)

@@ -7,3 +7,4 @@ pub mod Samples
 pub mod Noting
 pub mod Hosting
 pub mod Lengths
+pub mod Claims

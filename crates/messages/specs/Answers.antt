@@ -51,6 +51,7 @@ informationalIn (responseStart hs s) = hs
 unfoldable pub padded : ℕ → List ℕ → List ℕ
 padded n l = l ++ replicate (n - length l) 0
 
+-- all ranges of a message: 4 informational heads of two numbers, 5 heads of 64 fields of four numbers, 64 trailers, 256 chunks of two numbers
 unfoldable pub rangesOf : Message → Ranges
 rangesOf m =
     record {
@@ -60,6 +61,7 @@ rangesOf m =
       chunks = padded 512 (chunksNumbers (m .chunks));
     }
 
+-- zero everywhere
 unfoldable pub noRanges : Ranges
 noRanges = record { informational = padded 8 []; headers = padded 1280 []; trailers = padded 256 []; chunks = padded 512 [] }
 
@@ -71,7 +73,7 @@ partOf w = record { start = w .place; len = length (w .text) }
 abbrev pub noPart : Part
 noPart = record { start = 0; len = 0 }
 
--- a record without the numbers of control data
+-- a record from its control data, the message's length and what was read
 abbrev pub recordWith : Bool → ℕ → Part → Part → Part → ℕ → ℕ → ℕ → Message → Record
 recordWith r scheme method authority path heads status n m =
     record {
@@ -99,6 +101,7 @@ recordOf n m = recordFrom (m .start) n m
 
 -- ---- the answer
 
+-- a message with its record and ranges, or a refusal, or a call for more; the last two have no ranges
 abbrev pub readingOf : Answer Message → Reading
 readingOf (accepted n m) = record { outcome = outcome.Message (recordOf n m); ranges = rangesOf m }
 readingOf (refused k p) = record { outcome = outcome.Refusal k p; ranges = noRanges }

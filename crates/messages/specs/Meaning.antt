@@ -44,6 +44,7 @@ unfoldable pub contentOf : List Piece → List ℕ
 contentOf [] = []
 contentOf (c ∷ cs) = c .text ++ contentOf cs
 
+-- the meaning of a message as read: places are forgotten, fields that do not travel are gone
 unfoldable pub meaning : Message → Meaning
 meaning m =
     record {

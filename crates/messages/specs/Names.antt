@@ -32,6 +32,7 @@ kindOf n =
 unfoldable pub lineKind : FieldRead → Kind
 lineKind f = kindOf (map lowerOf (f .name .text))
 
+-- kinds are compared by number
 abbrev pub kindNumber : Kind → ℕ
 kindNumber Ordinary = 0
 kindNumber HopByHop = 1
@@ -55,7 +56,7 @@ travels host Host = host
 travels host ContentLength = false
 travels host TransferEncoding = false
 
--- what is kept of a header section: the lines that travel. Only the section's own lines decide
+-- what is kept of a section: the lines that travel, in order
 unfoldable pub kept : Bool → List FieldRead → List FieldRead
 kept host [] = []
 kept host (f ∷ fs) = cond (travels host (lineKind f)) (f ∷ kept host fs) (kept host fs)

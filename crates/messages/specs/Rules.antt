@@ -64,7 +64,7 @@ framingOf lines = framingFrom (linesOf kind.ContentLength lines) (linesOf kind.T
 unfoldable pub binaryFramingOf : List FieldRead → Framing
 binaryFramingOf lines = framingFrom (linesOf kind.ContentLength lines) []
 
--- a request: nothing stated is no content. Judged behind the head; a number above the size at its line
+-- what a head states is taken; nothing stated is no content, as in requests. Judged behind the head; a number above the size at its line
 unfoldable pub requestBody : ℕ → Framing → Judged Body
 requestBody end Unstated = good (Sized 0)
 requestBody end (Stated n p) = cond (leb n contentMost) (good (Sized n)) (wrong tooLarge p)
@@ -88,7 +88,7 @@ contentBody end Clashing = requestBody end Clashing
 unfoldable pub responseBody : ℕ → ℕ → Framing → Judged Body
 responseBody status end f = cond (isBodyless status) (nothingStated end f) (contentBody end f)
 
--- in Binary HTTP a head may state the length or not; 204, 304 and informational heads may not. What it states is compared later
+-- in Binary HTTP a head that may have content may state its length or not, but not badly. What it states is compared with the content behind it
 unfoldable pub mayState : ℕ → Framing → Judged Framing
 mayState end Unstated = good Unstated
 mayState end (Stated n p) = good (Stated n p)

@@ -1,5 +1,5 @@
 -- The meanings that can be read: every rule of 01 on parts, names, counts and sizes. Accepted messages have such meanings, and such meanings are
--- read back from what is written.
+-- read back from what is written, where that is within the sizes. Content may be any octets.
 use Prim.Native.Nat.{ℕ}
 use mathlib.Core.Bool.{Bool, true, false, cond, not, _&&_}
 use mathlib.Core.List.{List, [], _∷_}
@@ -19,6 +19,7 @@ unfoldable pub validFields : Bool → List Field → Bool
 validFields host [] = true
 validFields host (f ∷ fs) = validField host f && validFields host fs
 
+-- at most 64 lines
 unfoldable pub validSection : Bool → List Field → Bool
 validSection host fs = validFields host fs && leb (length fs) linesMost
 
@@ -50,9 +51,11 @@ abbrev pub noFields : List Field → Bool
 noFields [] = true
 noFields (f ∷ fs) = false
 
+-- where there may be no body: no content and no trailers
 unfoldable pub validBody : Bool → List ℕ → List Field → Bool
 validBody body content trailers = cond body true (isEmpty content && noFields trailers)
 
+-- control data, header fields, content, trailer fields, each by its rule
 unfoldable pub valid : Meaning → Bool
 valid m =
     validControl (m .control) && validSection (ofResponse (m .control)) (m .headers) && leb (length (m .content)) contentMost

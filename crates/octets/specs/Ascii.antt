@@ -1,4 +1,4 @@
--- The octets of a text.
+-- The octets of a text in ASCII.
 use Prim.Native.Char.{Char, code}
 use Prim.Native.String.{String, [] as none, _∷_ as _then_}
 use mathlib.Core.List.{List, [], _∷_}

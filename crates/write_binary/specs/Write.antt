@@ -36,6 +36,7 @@ unfoldable pub controlBytes : Control → List ℕ
 controlBytes (request m s a p) = intBytes 0 ++ counted m ++ counted (schemeBytes s) ++ counted a ++ counted p
 controlBytes (response hs s) = intBytes 1 ++ informationalBytes hs ++ intBytes s
 
+-- a whole message
 unfoldable pub binaryOf : Meaning → List ℕ
 binaryOf m = controlBytes (m .control) ++ sectionBytes (m .headers) ++ counted (m .content) ++ sectionBytes (m .trailers)
 

@@ -87,6 +87,7 @@ chunkedText content trailers = chunkText content ++ ascii "0" ++ crlf ++ section
 unfoldable pub bodyText : List ℕ → List Field → List ℕ
 bodyText content trailers = cond (noFields trailers) content (chunkedText content trailers)
 
+-- a whole message: heads, then the body
 unfoldable pub http1Of : Meaning → List ℕ
 http1Of m = headText m ++ bodyText (m .content) (m .trailers)
 
