@@ -1,0 +1,72 @@
+-- The ranges of a message in lent arrays of numbers (01, "The two forms and the meaning between them": ranges name control data, fields and content
+-- chunks): what a reader leaves there, and what a writer finds there.
+use Prim.Native.Nat.{ℕ, _+_, _*_, _≤_}
+use mathlib.Core.Path.{_≡_}
+use mathlib.Core.Bool.{Bool, true, false, cond}
+use mathlib.Core.List.{List, [], _∷_, _++_}
+use lib.ListN.{length}
+use Rattle.script.specs.Script.{Answer, accepted, refused, more}
+use Rattle.output.specs.Splice.{splice}
+use Rattle.messages.specs.Message.{FieldRead, isResponse, Message}
+use Rattle.messages.specs.Names.{kept, keptTrailers}
+use Rattle.messages.specs.Answers.{fieldsNumbers, chunksNumbers, informationalNumbers, informationalLines, informationalIn, recordOf}
+use Rattle.messages.specs.declared.Outcome.{Outcome}
+use Rattle.messages.specs.declared.Outcome.the-variants as outcome
+use Rattle.messages.specs.declared.Record.{Record}
+use Rattle.sound.specs.Sound.{Sound}
+
+-- every place in a message is below this (01, "Sizes": heads, chunk lines, content and trailers together are far below)
+abbrev pub placesEnd : ℕ
+placesEnd = 4294967296
+
+-- the numbers of a field are stored as the entry k of o, or nothing is
+pub record Kept (travels : Bool) (k : ℕ) (numbers o o′ : List ℕ) (r : ℕ) : Type 0 where
+  pub count : r ≡ cond travels (k + 1) k
+  pub stored : o′ ≡ cond travels (splice o (k * 4) numbers) o
+
+-- ---- what a reader leaves
+
+-- the numbers of all kept fields of the heads, those of informational heads first
+abbrev pub headNumbers : Message → List ℕ
+headNumbers m = fieldsNumbers (informationalLines (informationalIn (m .start)) ++ kept (isResponse (m .start)) (m .lines))
+
+abbrev pub trailerNumbers : Message → List ℕ
+trailerNumbers m = fieldsNumbers (keptTrailers (m .trailers))
+
+-- an answer, and the ranges of an accepted message in the lent space: hs of header fields, cs of chunks, ts of trailer fields
+abbrev pub OutcomeSays : Answer Message → List ℕ → List ℕ → List ℕ → List ℕ → List ℕ → List ℕ → Outcome → Type 0
+OutcomeSays (accepted n m) hs hs′ cs cs′ ts ts′ r =
+    (r ≡ outcome.Message (recordOf n m)) × (hs′ ≡ splice hs 0 (headNumbers m)) × (cs′ ≡ splice cs 0 (chunksNumbers (m .chunks)))
+    × (ts′ ≡ splice ts 0 (trailerNumbers m))
+OutcomeSays (refused k p) hs hs′ cs cs′ ts ts′ r = r ≡ outcome.Refusal k p
+OutcomeSays more hs hs′ cs cs′ ts ts′ r = r ≡ outcome.More
+
+pub record Outcomed (x : Answer Message) (hs hs′ cs cs′ ts ts′ : List ℕ) (r : Outcome) : Type 0 where
+  pub says : OutcomeSays x hs hs′ cs cs′ ts ts′ r
+
+-- status and number of kept fields of each informational head of an accepted message, in the lent space
+abbrev pub InformationalSays : Answer Message → List ℕ → List ℕ → Type 0
+InformationalSays (accepted n m) ns ns′ = ns′ ≡ splice ns 0 (informationalNumbers (informationalIn (m .start)))
+InformationalSays (refused k p) ns ns′ = Unit {0}
+InformationalSays more ns ns′ = Unit {0}
+
+-- an answer, and the ranges of an accepted message that may be a response, in the lent space
+pub record Responded (x : Answer Message) (hs hs′ ns ns′ cs cs′ ts ts′ : List ℕ) (r : Outcome) : Type 0 where
+  pub says : OutcomeSays x hs hs′ cs cs′ ts ts′ r
+  pub informational : InformationalSays x ns ns′
+
+-- ---- what a writer finds
+
+-- the numbers l stand at the front of o
+pub record Begins (l o : List ℕ) : Type 0 where
+  pub others : List ℕ
+  pub split : o ≡ l ++ others
+
+-- a message m of length n that was accepted from s, by its record and its ranges
+pub record Held (s : List ℕ) (n : ℕ) (m : Message) (r : Record) (hs ns cs ts : List ℕ) : Type 0 where
+  pub sound : Sound s m
+  pub numbers : r ≡ recordOf n m
+  pub fields : Begins (headNumbers m) hs
+  pub informational : Begins (informationalNumbers (informationalIn (m .start))) ns
+  pub chunks : Begins (chunksNumbers (m .chunks)) cs
+  pub trailers : Begins (trailerNumbers m) ts

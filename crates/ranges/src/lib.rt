@@ -1,0 +1,41 @@
+// Ranges of messages in lent arrays of numbers: what every reader stores and every writer finds.
+ghost use mathlib.Core.Path.{_≡_};
+ghost use mathlib.Core.List.{[], _∷_};
+ghost use Prim.Native.Nat.{_+_, _*_, _≤_};
+ghost use lib.ListN.{length};
+ghost use Rattle.output.specs.Splice.{splice};
+ghost use Rattle.ranges.specs.Ranges.{Kept};
+
+// Two numbers are stored as the entry k: start and length of a chunk, or status and number of kept fields of an informational head.
+pub fn store(out: &mut [u32], k: usize, a: u32, b: u32)
+    requires { ⌜ k * 2 + 2 ≤ length (now out) ⌝ }
+    ensures { λ _. ⌜ now (out .exit) ≡ splice (now (out .entry)) (k * 2) (a ∷ b ∷ []) ⌝ }
+{
+    let at = k * 2;
+    out[at] = a;
+    out[at + 1] = b;
+}
+
+// A field that travels is stored as the entry k: start and length of its name, start and length of its value.
+pub fn keep(
+    out: &mut [u32],
+    k: usize,
+    travels: bool,
+    name: u32,
+    nlen: u32,
+    value: u32,
+    vlen: u32,
+) -> usize
+    requires { ⌜ k * 4 + 4 ≤ length (now out) ⌝ }
+    ensures { λ r. ⌜ Kept travels k (name ∷ nlen ∷ value ∷ vlen ∷ []) (now (out .entry)) (now (out .exit)) r ⌝ }
+{
+    if travels {
+        let at = k * 4;
+        out[at] = name;
+        out[at + 1] = nlen;
+        out[at + 1 + 1] = value;
+        out[at + 1 + 1 + 1] = vlen;
+        return k + 1;
+    }
+    k
+}
