@@ -16,9 +16,9 @@ use Rattle.http1.specs.Lines.{isOther, requestParts, requestVersion, requestTar
 use Rattle.http1.specs.Read.{fieldLines, section, trailerSection, chunkData, chunksFrom, content, afterHead, request, readRequest, afterFinal, heads, readResponse}
 use Rattle.binary.specs.Reader.{_>>=_ as bind-binary, integer, octets}
 use Rattle.binary.specs.Read.{part, partWithin, ruledPart, schemeOf, schemePart, requestControl, lineOf as lineOf-binary, knownLine, knownLines, bodyLines, knownSection, openLine, openLines, section as section-binary, knownContent, openChunks, content as content-binary, contentRule, trailerRule, trailers, padding, afterHeaders, requestMessage, finalResponse, responseMessage, message, readBinary}
-use Rattle.write_binary.specs.Write.{counted, fieldBytes, fieldsBytes, sectionBytes, schemeBytes, informationalBytes, controlBytes, binaryOf, binaryFits}
-use Rattle.write_http1.specs.Write.{fieldText, sectionText, requestLine, statusLine, hostField, lengthField, codingField, lengthLine, headLines, informationalText, headText, chunkText, chunkedText, bodyText, http1Of, http1Fits}
-use Rattle.turn.specs.Turn.{toBinary, toHttp1, requestToBinary, responseToBinary, binaryToBinary, binaryToHttp1}
+use Rattle.write_binary.specs.Write.{counted, fieldBytes, fieldsBytes, sectionBytes, schemeBytes, informationalBytes, controlBytes, binaryOf, binaryFits, toBinary}
+use Rattle.write_http1.specs.Write.{fieldText, sectionText, requestLine, statusLine, hostField, lengthField, codingField, lengthLine, headLines, informationalText, headText, chunkText, chunkedText, bodyText, http1Of, http1Fits, toHttp1}
+use Rattle.turn.specs.Turn.{requestToBinary, responseToBinary, binaryToBinary, binaryToHttp1}
 use Rattle.turn.specs.Question.{firstOf, requestQuestion, responseQuestion, binaryQuestion}
 use Rattle.stream.specs.Taking.{takeF, takeOff, resume, stream, entries, sent}
 use Rattle.listing.specs.Listing.{row, endLine, rows, listingOf}

@@ -2,18 +2,17 @@
 use Prim.Native.Nat.{ℕ}
 use mathlib.Core.Bool.{Bool, true, false, cond}
 use mathlib.Core.List.{List, [], _∷_}
-use lib.Dec.{eqb}
 use lib.ListN.{length}
-use Rattle.octets.specs.Refusals.{moreNeeded, notSupported, tooLarge, otherScheme}
+use Rattle.octets.specs.Refusals.{moreNeeded, notSupported}
 use Rattle.script.specs.Script.{Answer, accepted, refused, more}
 use Rattle.messages.specs.Told.{Told}
 use Rattle.messages.specs.Message.{Message}
-use Rattle.messages.specs.Meaning.{Control, request, response, Meaning, meaning}
+use Rattle.messages.specs.Meaning.{Meaning, meaning}
 use Rattle.messages.specs.Valid.{isScheme}
 use Rattle.http1.specs.Read.{readRequest, readResponse}
 use Rattle.binary.specs.Read.{readBinary}
-use Rattle.write_binary.specs.Write.{binaryOf, binaryFits}
-use Rattle.write_http1.specs.Write.{http1Of, http1Fits}
+use Rattle.write_binary.specs.Write.{toBinary}
+use Rattle.write_http1.specs.Write.{toHttp1}
 use Rattle.output.specs.Reply.{Reply, octets, wrong}
 
 -- what is written of a reader's answer on an input of n octets: the reader's refusal goes first. Room is the writer's last refusal (output/specs/Reply)
@@ -21,19 +20,6 @@ abbrev pub replyTo : ℕ → Answer Message → (Meaning → Reply) → Reply
 replyTo n (accepted k m) write = write (meaning m)
 replyTo n (refused k p) write = wrong k p
 replyTo n more write = wrong moreNeeded n
-
--- a meaning as Binary, or 8 at 0 where that is above the size of a Binary input
-unfoldable pub toBinary : Meaning → Reply
-toBinary m = cond (binaryFits m) (octets (binaryOf m)) (wrong tooLarge 0)
-
--- a request's scheme is the connection's; a response has none
-abbrev pub onConnection : Told → Control → Bool
-onConnection t (request m s a p) = eqb s (t .scheme)
-onConnection t (response hs s) = true
-
--- a meaning as HTTP/1.1 on the connection: 14, then 8 at 0 where a written size is passed
-unfoldable pub toHttp1 : Told → Meaning → Reply
-toHttp1 t m = cond (onConnection t (m .control)) (cond (http1Fits m) (octets (http1Of m)) (wrong tooLarge 0)) (wrong otherScheme 0)
 
 -- ---- the four turnings of an input
 

@@ -11,9 +11,9 @@ use Rattle.messages.specs.Message.{Message}
 use Rattle.messages.specs.Meaning.{Meaning, meaning}
 use Rattle.messages.specs.Valid.{valid}
 use Rattle.binary.specs.Read.{readBinary}
-use Rattle.write_binary.specs.Write.{binaryOf, binaryFits}
+use Rattle.write_binary.specs.Write.{binaryOf, binaryFits, toBinary}
 use Rattle.output.specs.Reply.{octets, wrong}
-use Rattle.turn.specs.Turn.{replyTo, toBinary, requestToBinary, responseToBinary, binaryToBinary}
+use Rattle.turn.specs.Turn.{replyTo, requestToBinary, responseToBinary, binaryToBinary}
 use Rattle.http1_laws.proofs.Sound.{request-sound, response-sound}
 use Rattle.binary_laws.proofs.Back.{round-trip, round-trip-of-meanings, unique}
 use Rattle.binary_sound.proofs.Sound.{binary-sound}

@@ -6,8 +6,10 @@ use lib.Dec.{leb, eqb}
 use lib.ListN.{length}
 use Rattle.octets.specs.Ascii.{ascii}
 use Rattle.octets.specs.Limits.{binaryMost}
+use Rattle.octets.specs.Refusals.{tooLarge}
 use Rattle.numbers.specs.Integer.{intBytes}
 use Rattle.messages.specs.Meaning.{Field, Informational, Control, request, response, Meaning}
+use Rattle.output.specs.Reply.{Reply, octets, wrong}
 
 -- a length and what it counts
 unfoldable pub counted : List ℕ → List ℕ
@@ -43,3 +45,7 @@ binaryOf m = controlBytes (m .control) ++ sectionBytes (m .headers) ++ counted (
 -- whether what is written is within the size of a Binary input
 unfoldable pub binaryFits : Meaning → Bool
 binaryFits m = leb (length (binaryOf m)) binaryMost
+
+-- a meaning as Binary, or 8 at 0 where that is above the size of a Binary input
+unfoldable pub toBinary : Meaning → Reply
+toBinary m = cond (binaryFits m) (octets (binaryOf m)) (wrong tooLarge 0)

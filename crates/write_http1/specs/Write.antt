@@ -7,10 +7,13 @@ use lib.ListN.{length}
 use Rattle.octets.specs.Ascii.{ascii}
 use Rattle.octets.specs.Text.{isEmpty}
 use Rattle.octets.specs.Limits.{headMost, trailerMost, linesMost}
+use Rattle.octets.specs.Refusals.{tooLarge, otherScheme}
 use Rattle.numbers.specs.Digits.{digits}
+use Rattle.messages.specs.Told.{Told}
 use Rattle.messages.specs.Control.{isBodyless}
 use Rattle.messages.specs.Meaning.{Field, Informational, Control, request, response, Meaning}
 use Rattle.messages.specs.Valid.{noFields}
+use Rattle.output.specs.Reply.{Reply, octets, wrong}
 
 abbrev pub crlf : List ℕ
 crlf = 13 ∷ 10 ∷ []
@@ -96,3 +99,12 @@ unfoldable pub http1Fits : Meaning → Bool
 http1Fits m =
     leb (length (headText m)) headMost && leb (length (headLines m)) linesMost
     && cond (noFields (m .trailers)) true (leb (length (sectionText (m .trailers))) trailerMost)
+
+-- a request's scheme is the connection's; a response has none
+abbrev pub onConnection : Told → Control → Bool
+onConnection t (request m s a p) = eqb s (t .scheme)
+onConnection t (response hs s) = true
+
+-- a meaning as HTTP/1.1 on the connection: 14, then 8 at 0 where a written size is passed
+unfoldable pub toHttp1 : Told → Meaning → Reply
+toHttp1 t m = cond (onConnection t (m .control)) (cond (http1Fits m) (octets (http1Of m)) (wrong tooLarge 0)) (wrong otherScheme 0)
