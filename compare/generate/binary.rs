@@ -17,6 +17,7 @@ pub fn cases(out: &mut Cases) {
     lengths(out);
     hosts(out);
     more_truncations(out);
+    refused_heads(out);
     rooms(out);
 }
 
@@ -453,6 +454,27 @@ fn more_truncations(out: &mut Cases) {
         for cut in 0..=input.len() {
             out.push(turn_line(turn, scheme, 400, &input[..cut]));
         }
+    }
+}
+
+/// HTTP/1.1 that the turnings meet with each refusal of a reader.
+fn refused_heads(out: &mut Cases) {
+    let host = "Host: a\r\n";
+    for (line, lines) in [
+        ("GET / HTTP/1.0", host), ("GET /", host), ("GE(T / HTTP/1.1", host), ("HEAD / HTTP/1.1", host), ("CONNECT / HTTP/1.1", host),
+        ("GET * HTTP/1.1", host), ("GET  HTTP/1.1", host), ("GET /# HTTP/1.1", host), ("GET / HTTP/1.1", ""), ("GET / HTTP/1.1", "Host: a\r\nhost: a\r\n"),
+        ("GET / HTTP/1.1", "Host: a/b\r\n"), ("GET / HTTP/1.1", "Host: a\r\nb\r\n"), ("GET / HTTP/1.1", "Host: a\r\nContent-Length: 5, 5\r\n"),
+        ("GET / HTTP/1.1", "Host: a\r\nTransfer-Encoding: gzip\r\n"), ("GET / HTTP/1.1", "Host: a\r\nContent-Length: 32769\r\n"),
+    ] {
+        out.request(format!("{}\r\n{}\r\nabcde", line, lines));
+    }
+    for (line, lines) in [
+        ("HTTP/1.0 200 OK", "Content-Length: 0\r\n"), ("HTTP/1.1 200", "Content-Length: 0\r\n"), ("HTTP/1.1 20 OK", "Content-Length: 0\r\n"),
+        ("HTTP/1.1 099 ", ""), ("HTTP/1.1 600 ", ""), ("HTTP/1.1 101 ", ""), ("HTTP/1.1 100 ", "Content-Length: 0\r\n"), ("HTTP/1.1 200 ", ""),
+        ("HTTP/1.1 204 ", "Content-Length: 0\r\n"), ("HTTP/1.1 304 ", "Transfer-Encoding: chunked\r\n"), ("HTTP/1.1 200 ", "Content-Length: 5, 5\r\n"),
+        ("HTTP/1.1 200 ", "Content-Length: 32769\r\n"), ("HTTP/1.1 200 ", "b\r\n"), ("HTTP/1.1 200 \x7f", "Content-Length: 0\r\n"),
+    ] {
+        out.response(format!("{}\r\n{}\r\nabcde", line, lines));
     }
 }
 

@@ -1083,8 +1083,11 @@ impl Maker {
                 // indeterminate, of which the known length is longer
                 let total = self.near(65_535);
                 self.faults = 0;
-                push_form(&mut out, 3, 0);
-                push_form(&mut out, 200, 1);
+                if self.random.chance(2) {
+                    out.extend_from_slice(b"\x03\x40\xc8");
+                } else {
+                    out.extend_from_slice(b"\x02\x03GET\x04http\x01a\x01/");
+                }
                 push_form(&mut out, 1, 0);
                 out.push(b'a');
                 let value = total - out.len() - 4 - [1, 3][self.random.below(2)];

@@ -119,19 +119,19 @@ pub fn case(maker: &mut Maker) -> String {
     let sizes = sizes(scheme, &inputs);
     let total: usize = sizes.iter().sum();
     let random = &mut maker.random;
-    let room = match random.below(12) {
+    let room = match random.below(16) {
         0 => 0,
         // exact, and one too small for the last
-        1 | 2 => total,
-        3 => total.saturating_sub(1),
+        1..=3 => total,
+        4 => total.saturating_sub(1),
         // one too small for the first; for one of them, if all before it are in; exactly up to one of them
-        4 => sizes.first().map_or(3, |size| size - 1),
-        5 => sizes[..random.below(sizes.len() + 1)].iter().sum::<usize>().saturating_sub(1),
-        6 => sizes[..random.below(sizes.len() + 1)].iter().sum(),
+        5 => sizes.first().map_or(3, |size| size - 1),
+        6 => sizes[..random.below(sizes.len() + 1)].iter().sum::<usize>().saturating_sub(1),
+        7 => sizes[..random.below(sizes.len() + 1)].iter().sum(),
         // exactly for some of them
-        7 => sizes.iter().filter(|_| random.chance(2)).sum(),
-        8 => random.below(total + 1),
-        9 => total + 1 + random.below(300),
+        8 => sizes.iter().filter(|_| random.chance(2)).sum(),
+        9 => random.below(total + 1),
+        10 | 11 => total + 1 + random.below(300),
         _ => 70_000,
     };
     line(scheme, room, &tail, &inputs)
