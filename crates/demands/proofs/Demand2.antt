@@ -34,7 +34,7 @@ use Rattle.http1_round.specs.RoundTrip.{isRequestOf}
 use Rattle.http1_round.proofs.Back.{request-meanings, response-meanings}
 use Rattle.demands.specs.Demand2.{Turning, http1Reader, intoBinary, requestsAsBinary, responsesAsBinary, binaryAnew, binaryAsHttp1, replyOn, replyFor, replyTo, behind, Kept, Lent, Turns, Demand2}
 
-no : {A : Type 0} → _≡_ {A = ℕ} 0 1 → A
+pub no : {A : Type 0} → _≡_ {A = ℕ} 0 1 → A
 no z = absurd (omega arith)
 
 -- ---- room
@@ -74,7 +74,7 @@ wrong-lent j q = record {
   unaltered = λ o k p e. refl;
 }
 
-lent : (y : Reply) → Lent y
+pub lent : (y : Reply) → Lent y
 lent (octets bs) = octets-lent bs
 lent (wrong j q) = wrong-lent j q
 
@@ -147,7 +147,7 @@ anew-replies s = binary-reply _ _ (length s) (readBinary s)
 
 -- ---- into HTTP/1.1
 
-binary-valid : (s : List ℕ) (n : ℕ) (m : Message) → readBinary s ≡ accepted n m → valid (meaning m) ≡ true
+pub binary-valid : (s : List ℕ) (n : ℕ) (m : Message) → readBinary s ≡ accepted n m → valid (meaning m) ≡ true
 binary-valid s n m e = binary-sound s n m e .sound .valid
 
 http1-reply : (t : Told) (n : ℕ) (x : Answer Message) → turn.replyTo n x (toHttp1 t) ≡ replyFor (binaryAsHttp1 t) n x
