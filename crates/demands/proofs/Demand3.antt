@@ -116,6 +116,14 @@ data Step (t : Told) (s front lent : List ℕ) : Type 0 where
       → call t (at front lent) s ≡ at (front ++ http1Of m) (drop (length (http1Of m)) lent)
       → entryIn t (at front lent) s ≡ (length (http1Of m), m) ∷ [] → Step t s front lent
 
+-- what is written of meanings, and the entry of each
+abbrev texts : List Meaning → List ℕ
+texts [] = []
+texts (m ∷ ms) = http1Of m ++ texts ms
+
+abbrev measured : Meaning → ℕ × Meaning
+measured m = (length (http1Of m), m)
+
 abbrev space : List ℕ → ℕ → Space
 space o n = record { octets = o; written = n }
 
@@ -185,38 +193,43 @@ module _ (t : Told) where
 
   -- ---- a list of calls
 
-  abbrev joined : List (ℕ × Meaning) → List (ℕ × Meaning) → List (ℕ × Meaning)
-  joined a b = a ++ b
+  -- what the writer turns
+  abbrev Writable : Meaning → Type 0
+  Writable m = (valid m ≡ true) × (http1Fits m ≡ true) × (onConnection t (m .control) ≡ true)
 
   -- from the octets `front` on: what is then there are the meanings ms, written
   record Left (z : Space) (ss : List (List ℕ)) (front rest : List ℕ) : Type 0 where
     ms : List Meaning
-    here : calls t z ss ≡ at (front ++ stream (write t) ms) (drop (length (stream (write t) ms)) rest)
-    room : length (stream (write t) ms) ≤ length rest
-    same : entriesIn t z ss ≡ entries (write t) ms
+    each : Each Writable ms
+    here : calls t z ss ≡ at (front ++ texts ms) (drop (length (texts ms)) rest)
+    room : length (texts ms) ≤ length rest
+    same : entriesIn t z ss ≡ map measured ms
 
-  request-of : (c : Control) → onConnection t c ≡ true → ofResponse c ≡ false → isRequestOf t c ≡ true
-  request-of (request m s a p) g f = g
-  request-of (response hs s) g f = no cc
+  abbrev joined : List (ℕ × Meaning) → List (ℕ × Meaning) → List (ℕ × Meaning)
+  joined a b = a ++ b
 
-  stream-more : (m : Meaning) (ms : List Meaning) → RequestOf t m → stream (write t) (m ∷ ms) ≡ http1Of m ++ stream (write t) ms
-  unfolding stream
-  stream-more m ms h = rw (write-is t m h)
-
-  entries-more : (m : Meaning) (ms : List Meaning) → RequestOf t m → entries (write t) (m ∷ ms) ≡ (length (http1Of m), m) ∷ entries (write t) ms
-  unfolding entries
-  entries-more m ms h = rw (write-is t m h)
+  -- a call that wrote nothing, and the calls behind it
+  left-same : (s : List ℕ) (ss : List (List ℕ)) (front rest : List ℕ) → call t (at front rest) s ≡ at front rest → entryIn t (at front rest) s ≡ []
+      → Left (at front rest) ss front rest → Left (at front rest) (s ∷ ss) front rest
+  unfolding calls entriesIn
+  left-same s ss front rest c e x =
+      record {
+        ms = x .ms;
+        each = x .each;
+        here = ap (λ (z : Space). calls t z ss) c ∙ x .here;
+        room = x .room;
+        same = ap₂ joined e (ap (λ (z : Space). entriesIn t z ss) c) ∙ x .same;
+      }
 
   -- a call that wrote a message, and the calls behind it
-  left-more : (m : Meaning) → RequestOf t m → (s : List ℕ) (ss : List (List ℕ)) (front rest : List ℕ) → length (http1Of m) ≤ length rest
-      → call t (at front rest) s ≡ at (front ++ http1Of m) (drop (length (http1Of m)) rest) → entryIn t (at front rest) s ≡ (length (http1Of m), m) ∷ []
+  left-more : (m : Meaning) → Writable m → (s : List ℕ) (ss : List (List ℕ)) (front rest : List ℕ) → length (http1Of m) ≤ length rest
+      → call t (at front rest) s ≡ at (front ++ http1Of m) (drop (length (http1Of m)) rest) → entryIn t (at front rest) s ≡ measured m ∷ []
       → Left (at (front ++ http1Of m) (drop (length (http1Of m)) rest)) ss (front ++ http1Of m) (drop (length (http1Of m)) rest)
       → Left (at front rest) (s ∷ ss) front rest
   unfolding calls entriesIn
   left-more m h s ss front rest r c e x =
       let b : List ℕ = http1Of m in
-      let u : List ℕ = stream (write t) (x .ms) in
-      let w : stream (write t) (m ∷ x .ms) ≡ b ++ u = stream-more m (x .ms) h in
+      let u : List ℕ = texts (x .ms) in
       let l : length (b ++ u) ≡ length b + length u = length-append b u in
       let d : length (drop (length b) rest) ≡ _ = length-drop (length b) rest in
       let g = x .room in
@@ -224,51 +237,49 @@ module _ (t : Told) where
       let i : drop (length u) (drop (length b) rest) ≡ drop (length (b ++ u)) rest = drop-drop (length u) (length b) rest ∙ ap (λ (n : ℕ). drop n rest) (sym l) in
       record {
         ms = m ∷ x .ms;
-        here = ap (λ (z : Space). calls t z ss) c ∙ x .here ∙ ap₂ at f i ∙ ap (λ (v : List ℕ). at (front ++ v) (drop (length v) rest)) (sym w);
-        room = rw w (omega arith);
-        same = ap₂ joined e (ap (λ (z : Space). entriesIn t z ss) c) ∙ ap (λ (k : List (ℕ × Meaning)). (length b, m) ∷ k) (x .same) ∙ sym (entries-more m (x .ms) h);
+        each = (h, x .each);
+        here = ap (λ (z : Space). calls t z ss) c ∙ x .here ∙ ap₂ at f i;
+        room = omega arith;
+        same = ap₂ joined e (ap (λ (z : Space). entriesIn t z ss) c) ∙ ap (λ (k : List (ℕ × Meaning)). measured m ∷ k) (x .same);
       }
 
-  left : (ss : List (List ℕ)) (front rest : List ℕ) → Each NotResponse (entriesIn t (at front rest) ss) → Left (at front rest) ss front rest
-  unfolding calls entriesIn stream entries
-  left [] front rest h = record { ms = []; here = ap (λ (o : List ℕ). at o rest) (sym (append-nil front)); room = omega arith; same = refl }
-  left (s ∷ ss) front rest h = go (step s front rest) h (λ f r g. left ss f r g)
+  left : (ss : List (List ℕ)) (front rest : List ℕ) → Left (at front rest) ss front rest
+  unfolding calls entriesIn
+  left [] front rest = record { ms = []; each = tt; here = ap (λ (o : List ℕ). at o rest) (sym (append-nil front)); room = omega arith; same = refl }
+  left (s ∷ ss) front rest = go (step s front rest) (λ f r. left ss f r)
     where
-      go : Step t s front rest → Each NotResponse (entryIn t (at front rest) s ++ entriesIn t (call t (at front rest) s) ss)
-          → ((f r : List ℕ) → Each NotResponse (entriesIn t (at f r) ss) → Left (at f r) ss f r) → Left (at front rest) (s ∷ ss) front rest
-      go (skips c e) h ih =
-          let x = ih front rest (rw (e, c) at h) in
-          record {
-            ms = x .ms;
-            here = ap (λ (z : Space). calls t z ss) c ∙ x .here;
-            room = x .room;
-            same = ap₂ joined e (ap (λ (z : Space). entriesIn t z ss) c) ∙ x .same;
-          }
-      go (writes m v f g r c e) h ih =
-          let k = rw (e, c) at h in
-          let q : RequestOf t m = (v, f, request-of (m .control) g (k .0)) in
-          left-more m q s ss front rest r c e (ih (front ++ http1Of m) (drop (length (http1Of m)) rest) (k .1))
+      go : Step t s front rest → ((f r : List ℕ) → Left (at f r) ss f r) → Left (at front rest) (s ∷ ss) front rest
+      go (skips c e) ih = left-same s ss front rest c e (ih front rest)
+      go (writes m v f g r c e) ih = left-more m (v, f, g) s ss front rest r c e (ih (front ++ http1Of m) (drop (length (http1Of m)) rest))
 
-  -- the calls in a fresh space
-  module _ (o : List ℕ) (ss : List (List ℕ)) (h : NoResponse t o ss) where
+  -- ---- where no response is among them
+
+  request-of : (c : Control) → onConnection t c ≡ true → ofResponse c ≡ false → isRequestOf t c ≡ true
+  request-of (request m s a p) g f = g
+  request-of (response hs s) g f = no cc
+
+  requests-of : (ms : List Meaning) → Each Writable ms → Each NotResponse (map measured ms) → Each (RequestOf t) ms
+  requests-of [] w h = tt
+  requests-of (m ∷ ms) w h = ((w .0 .0, w .0 .1, request-of (m .control) (w .0 .2) (h .0)), requests-of ms (w .1) (h .1))
+
+  stream-texts : (ms : List Meaning) → Each (RequestOf t) ms → stream (write t) ms ≡ texts ms
+  unfolding stream
+  stream-texts [] h = refl
+  stream-texts (m ∷ ms) h = rw (write-is t m (h .0)) (ap (λ (b : List ℕ). http1Of m ++ b) (stream-texts ms (h .1)))
+
+  entries-measured : (ms : List Meaning) → Each (RequestOf t) ms → entries (write t) ms ≡ map measured ms
+  unfolding entries
+  entries-measured [] h = refl
+  entries-measured (m ∷ ms) h = rw (write-is t m (h .0)) (ap (λ (k : List (ℕ × Meaning)). measured m ∷ k) (entries-measured ms (h .1)))
+
+  -- ---- the calls in a fresh space
+
+  module _ (o : List ℕ) (ss : List (List ℕ)) where
     all : Left (fresh o) ss [] o
-    all = left ss [] o h
+    all = left ss [] o
 
     abbrev text : List ℕ
-    text = stream (write t) (all .ms)
-
-    stream-is : streamOf t o ss ≡ text
-    stream-is = ap (λ (z : Space). take (z .written) (z .octets)) (all .here) ∙ take-append-seam text (drop (length text) o)
-
-    meanings-are : meaningsOf t o ss ≡ sent (write t) (all .ms)
-    meanings-are = ap (map (λ e. e .1)) (all .same) ∙ entries-sent (write t) (all .ms)
-
-    taken-all : (behind : List ℕ) → takeOff (readMeaning t) (streamOf t o ss ++ behind) ≡ onto (entriesOf t o ss) (takeOff (readMeaning t) behind)
-    taken-all behind =
-        rw (stream-is, all .same) (taking.taken (readMeaning t) (within t) (stays t) (write t) (back t) (all .ms) behind)
-
-    left-all : (behind : List ℕ) → takeF (readMeaning t) (length (entriesOf t o ss)) (streamOf t o ss ++ behind) ≡ onto (entriesOf t o ss) (waits behind)
-    left-all behind = rw (stream-is, all .same) (left-behind (readMeaning t) (write t) (back t) (all .ms) behind)
+    text = texts (all .ms)
 
     untouched-all : (length (spaceOf t o ss .octets) ≡ length o) × (spaceOf t o ss .written ≤ length o)
         × (drop (spaceOf t o ss .written) (spaceOf t o ss .octets) ≡ drop (spaceOf t o ss .written) o)
@@ -280,6 +291,26 @@ module _ (t : Told) where
         let c : spaceOf t o ss .octets ≡ text ++ drop (length text) o = ap (λ (z : Space). z .octets) (all .here) in
         (ap length c ∙ omega arith, omega arith, ap₂ drop w c ∙ drop-append-seam text (drop (length text) o) ∙ ap (λ (n : ℕ). drop n o) (sym w))
 
+    module _ (h : NoResponse t o ss) where
+      requests : Each (RequestOf t) (all .ms)
+      requests = requests-of (all .ms) (all .each) (rw (all .same) at h)
+
+      stream-is : streamOf t o ss ≡ stream (write t) (all .ms)
+      stream-is =
+          ap (λ (z : Space). take (z .written) (z .octets)) (all .here) ∙ take-append-seam text (drop (length text) o) ∙ sym (stream-texts (all .ms) requests)
+
+      entries-are : entriesOf t o ss ≡ entries (write t) (all .ms)
+      entries-are = all .same ∙ sym (entries-measured (all .ms) requests)
+
+      meanings-are : meaningsOf t o ss ≡ sent (write t) (all .ms)
+      meanings-are = ap (map (λ e. e .1)) entries-are ∙ entries-sent (write t) (all .ms)
+
+      taken-all : (behind : List ℕ) → takeOff (readMeaning t) (streamOf t o ss ++ behind) ≡ onto (entriesOf t o ss) (takeOff (readMeaning t) behind)
+      taken-all behind = rw (stream-is, entries-are) (taking.taken (readMeaning t) (within t) (stays t) (write t) (back t) (all .ms) behind)
+
+      left-all : (behind : List ℕ) → takeF (readMeaning t) (length (entriesOf t o ss)) (streamOf t o ss ++ behind) ≡ onto (entriesOf t o ss) (waits behind)
+      left-all behind = rw (stream-is, entries-are) (left-behind (readMeaning t) (write t) (back t) (all .ms) behind)
+
 pub demand3 : (t : Told) → Demand3 t
 demand3 t = record {
   accepts = λ z s n e.
@@ -290,7 +321,7 @@ demand3 t = record {
   taken = taken-all t;
   left = left-all t;
   same = λ o ss h q rs g.
-      let x = taking.same (readMeaning t) (within t) (stays t) (write t) (back t) (all t o ss h .ms) (all t q rs g .ms) in
+      let x = taking.same (readMeaning t) (within t) (stays t) (write t) (back t) (all t o ss .ms) (all t q rs .ms) in
       rw (stream-is t o ss h, stream-is t q rs g, meanings-are t o ss h, meanings-are t q rs g) x;
   untouched = untouched-all t;
   reading = request-front t .reading;

@@ -123,8 +123,8 @@ pub record Demand3 (t : Told) : Type 0 where
   -- (shuts out: a constant answer; a writer that refuses everything but one message)
   pub same : (o : List ℕ) (ss : List (List ℕ)) → NoResponse t o ss → (q : List ℕ) (rs : List (List ℕ)) → NoResponse t q rs
       → (streamOf t o ss ≡ streamOf t q rs) ↔ (meaningsOf t o ss ≡ meaningsOf t q rs)
-  -- the space is as long as it was, what was written lies within it, and all behind is as it was lent
-  pub untouched : (o : List ℕ) (ss : List (List ℕ)) → NoResponse t o ss
+  -- after every list of calls the space is as long as it was, what was written lies within it, and all behind is as it was lent
+  pub untouched : (o : List ℕ) (ss : List (List ℕ))
       → (length (spaceOf t o ss .octets) ≡ length o) × (spaceOf t o ss .written ≤ length o)
       × (drop (spaceOf t o ss .written) (spaceOf t o ss .octets) ≡ drop (spaceOf t o ss .written) o)
   -- for every stream s of arbitrary octets, and whatever octets u are put behind it: an answer that does not ask for more stays, ranges included;
