@@ -2,13 +2,12 @@
 use Prim.Native.Nat.{ℕ, _+_, _<_, _≤_}
 use mathlib.Core.Path.{_≡_, refl, sym, ap, _∙_}
 use mathlib.Core.Bool.{Bool, true, false, cond}
-use mathlib.Core.Logic.{_↔_}
 use mathlib.Core.List.{List, [], _++_, append-nil}
 use native.Mathlib.Omega.{arith}
 use borrow.Author.Tests.{le-leb, lt-leb, leb-false, eq-eqb}
 use lib.Dec.{leb}
-use lib.ListN.{length, take, drop}
-use Rattle.octets.specs.Refusals.{moreNeeded, notSupported, tooLarge, noRoom, otherScheme}
+use lib.ListN.{length, drop}
+use Rattle.octets.specs.Refusals.{notSupported, tooLarge, noRoom, otherScheme}
 use Rattle.script.specs.Script.{Answer, accepted, refused, more, means, run}
 use Rattle.messages.specs.Told.{Told}
 use Rattle.messages.specs.Message.{FieldRead, Start, requestStart, responseStart, Message}
@@ -21,7 +20,6 @@ use Rattle.write_binary.specs.Write.{binaryOf, binaryFits, toBinary}
 use Rattle.write_http1.specs.Write.{http1Of, http1Fits, onConnection, toHttp1}
 use Rattle.output.specs.Splice.{splice}
 use Rattle.output.specs.Reply.{Reply, octets, wrong, answerOf, afterOf}
-use Rattle.output.specs.declared.Written.{Written}
 use Rattle.output.specs.declared.Written.the-variants.{Done, Refused}
 use Rattle.output.proofs.Laws.{splice-is}
 use Rattle.turn.specs.Turn as turn
@@ -32,7 +30,7 @@ use Rattle.binary_sound.proofs.Sound.{binary-sound}
 use Rattle.binary_laws.proofs.Back.{round-trip-of-meanings}
 use Rattle.http1_round.specs.RoundTrip.{isRequestOf}
 use Rattle.http1_round.proofs.Back.{request-meanings, response-meanings}
-use Rattle.demands.specs.Demand2.{Turning, http1Reader, intoBinary, requestsAsBinary, responsesAsBinary, binaryAnew, binaryAsHttp1, replyOn, replyFor, replyTo, behind, Kept, Lent, Turns, Demand2}
+use Rattle.demands.specs.Demand2.{Turning, http1Reader, intoBinary, requestsAsBinary, responsesAsBinary, binaryAnew, binaryAsHttp1, replyFor, replyTo, behind, Kept, Lent, Turns, Demand2}
 
 pub no : {A : Type 0} → _≡_ {A = ℕ} 0 1 → A
 no z = absurd (omega arith)

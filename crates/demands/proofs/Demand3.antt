@@ -1,20 +1,18 @@
 -- Demand 3: from demand 2, the round trip of requests, and the laws of taking off. Assumes nothing.
-use Prim.Native.Nat.{ℕ, zero, suc, _+_, _<_, _≤_}
+use Prim.Native.Nat.{ℕ, _+_, _<_, _≤_}
 use mathlib.Core.Path.{_≡_, refl, sym, ap, ap₂, _∙_}
 use mathlib.Core.Bool.{Bool, true, false, cond, _&&_}
-use mathlib.Core.Logic.{_↔_}
 use mathlib.Core.Option.{Option, none, some}
 use mathlib.Core.List.{List, [], _∷_, _++_, map, append-assoc, append-nil}
 use native.Mathlib.Omega.{arith}
-use native.Mathlib.Nat.{add-zero}
-use borrow.Author.Tests.{leb-true, leb-false}
+use borrow.Author.Tests.{leb-true}
 use lib.Dec.{leb}
 use lib.ListN.{length, take, drop, length-append, length-drop, take-append-drop}
 use lib.Seq.{take-append-seam, drop-append-seam, drop-drop}
 use Rattle.octets.specs.Refusals.{noRoom}
 use Rattle.octets.proofs.Kit.{and-split}
 use Rattle.script.specs.Script.{Answer, accepted, refused, more, Settled, means}
-use Rattle.stream.specs.Taking.{Taken, message, waits, next, takeF, takeOff, onto, addOctets, addEntry, addCall, stream, entries, sent}
+use Rattle.stream.specs.Taking.{message, waits, takeF, takeOff, onto, addOctets, addEntry, addCall, stream, entries, sent}
 use Rattle.stream.proofs.Taking as taking
 use Rattle.stream.proofs.Taking.{Within, Stable}
 use Rattle.messages.specs.Told.{Told}
@@ -26,15 +24,15 @@ use Rattle.http1.specs.Read.{readRequest}
 use Rattle.http1_laws.proofs.Front.{request-within, request-stays, request-front}
 use Rattle.binary.specs.Read.{readBinary}
 use Rattle.write_http1.specs.Write.{http1Of, http1Fits, onConnection}
-use Rattle.output.specs.Splice.{splice}
-use Rattle.output.specs.Reply.{Reply, octets, wrong, answerOf, afterOf}
+use Rattle.output.specs.Reply.{Reply, octets, wrong, answerOf, afterOf, Served, ServedAt}
 use Rattle.output.specs.declared.Written.{Written}
 use Rattle.output.specs.declared.Written.the-variants.{Done, Refused}
+use Rattle.output.proofs.Serve.{after-tail}
 use Rattle.turn.specs.Turn.{binaryToHttp1}
 use Rattle.http1_round.specs.RoundTrip.{isRequestOf, RequestOf}
 use Rattle.http1_round.proofs.Back.{request-meanings}
-use Rattle.demands.specs.Demand2.{binaryAsHttp1, Kept, Lent}
-use Rattle.demands.specs.Demand3.{Space, fresh, lentIn, answerIn, longOf, call, entryOf, entryIn, calls, entriesIn, spaceOf, streamOf, entriesOf, meaningsOf, NotResponse, NoResponse, readMeaning, Demand3}
+use Rattle.demands.specs.Demand2.{binaryAsHttp1, Kept}
+use Rattle.demands.specs.Demand3.{Space, fresh, lentIn, answerIn, longOf, call, entryIn, calls, entriesIn, spaceOf, streamOf, entriesOf, meaningsOf, NotResponse, NoResponse, readMeaning, Demand3}
 use Rattle.demands.proofs.Demand2.{no, binary-valid, lent, demand2}
 
 -- ---- the request reader of meanings
@@ -144,6 +142,21 @@ fitted (octets b) o n e = go (leb (length b) (length o)) refl e
 fitted (wrong k p) o n e = no cc
 
 module _ (t : Told) where
+  -- calls in code
+  called : (z : Space) (s o′ : List ℕ) (r : Written) → Served (binaryToHttp1 t s) (lentIn z) o′ r
+      → (answerIn t z s ≡ r) × (call t z s ≡ space (take (z .written) (z .octets) ++ o′) (z .written + longOf r))
+  unfolding call answerIn
+  called z s o′ r h = (sym (h .answer), ap₂ (λ (o : List ℕ) (w : Written). space (take (z .written) (z .octets) ++ o) (z .written + longOf w)) (sym (h .after)) (sym (h .answer)))
+
+  called-at : (z : Space) (s o′ : List ℕ) (r : Written) → z .written ≤ length (z .octets) → ServedAt (binaryToHttp1 t s) (z .written) (z .octets) o′ r
+      → (answerIn t z s ≡ r) × (call t z s ≡ space o′ (z .written + longOf r))
+  unfolding call answerIn
+  called-at z s o′ r k h =
+      let y : Reply = binaryToHttp1 t s in
+      let e : answerOf y (length (lentIn z)) ≡ r = ap (answerOf y) (length-drop (z .written) (z .octets)) ∙ sym (h .answer) in
+      let a : take (z .written) (z .octets) ++ afterOf y (lentIn z) ≡ o′ = after-tail y (z .written) (z .octets) k ∙ sym (h .after) in
+      (e, ap₂ (λ (o : List ℕ) (w : Written). space o (z .written + longOf w)) a e)
+
   unaltered : (z : Space) (s : List ℕ) (k p : ℕ) → answerIn t z s ≡ Refused k p → afterOf (binaryToHttp1 t s) (lentIn z) ≡ lentIn z
   unfolding answerIn
   unaltered z s k p e = lent (binaryToHttp1 t s) .unaltered (lentIn z) k p e
@@ -313,6 +326,8 @@ module _ (t : Told) where
 
 pub demand3 : (t : Told) → Demand3 t
 demand3 t = record {
+  called = called t;
+  calledAt = called-at t;
   accepts = λ z s n e.
       let a = accepted-call t z s n e in
       let k = a .meant in

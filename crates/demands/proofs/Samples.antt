@@ -1,7 +1,7 @@
 -- Demand 3 is not empty: a list with accepted calls among refused ones, by computation.
 use Prim.Native.Nat.{ℕ}
 use mathlib.Core.Path.{_≡_, refl}
-use mathlib.Core.List.{List, [], _∷_, _++_, map}
+use mathlib.Core.List.{List, [], _∷_, _++_}
 use lib.ListN.{replicate}
 use Rattle.octets.specs.Ascii.{ascii}
 use Rattle.octets.specs.Refusals.{cutOff, badFraming, noRoom, otherScheme}
@@ -20,10 +20,9 @@ use Rattle.binary.specs.Reader.{_>>=_, integer, octets}
 use Rattle.binary.specs.Read.{part, partWithin, ruledPart, schemeOf, schemePart, requestControl, knownLine, knownLines, bodyLines, knownSection, section, knownContent, content, contentRule, trailerRule, trailers, padding, afterHeaders, requestMessage, message, readBinary}
 use Rattle.write_http1.specs.Write.{fieldText, sectionText, requestLine, hostField, lengthField, lengthLine, headLines, headText, bodyText, http1Of, http1Fits, toHttp1}
 use Rattle.output.specs.Reply.{answerOf, afterOf}
-use Rattle.output.specs.declared.Written.{Written}
 use Rattle.output.specs.declared.Written.the-variants.{Done, Refused}
 use Rattle.turn.specs.Turn.{binaryToHttp1}
-use Rattle.demands.specs.Demand3.{Space, fresh, answerIn, call, entryIn, calls, entriesIn, spaceOf, entriesOf, NoResponse}
+use Rattle.demands.specs.Demand3.{Space, answerIn, call, entryIn, calls, entriesIn, entriesOf, NoResponse}
 
 unfoldable computing : Unit {0}
 unfolding isToken isValue isPath isAuthority classOf hasClass isBlank spanLen all lowerOf isLower sameText isEmpty push extraOf readMore readInt charOf moreOf countOf digits isUnsupported methodVerdict pathVerdict authorityVerdict isHost isLowerName isTrimmedValue isHopByHop kindOf lineKind sameKind linesOf kept areTrailers keptTrailers authorityFrom authorityIn framingFrom binaryFramingOf mayState fieldMeans contentOf meaning isScheme _>>=_ integer octets part partWithin ruledPart schemeOf schemePart requestControl knownLine knownLines bodyLines knownSection section knownContent content contentRule trailerRule trailers padding afterHeaders requestMessage message readBinary fieldText sectionText requestLine hostField lengthField lengthLine headLines headText bodyText http1Of http1Fits toHttp1 answerOf afterOf binaryToHttp1 answerIn call entryIn calls entriesIn

@@ -7,7 +7,7 @@ use mathlib.Core.Logic.{_↔_}
 use mathlib.Core.List.{List, [], _∷_, _++_, map}
 use lib.ListN.{length, take, drop}
 use Rattle.script.specs.Script.{Answer, accepted, refused, more, means}
-use Rattle.stream.specs.Taking.{Taken, waits, takeF, takeOff, resume, onto}
+use Rattle.stream.specs.Taking.{waits, takeF, takeOff, resume, onto}
 use Rattle.messages.specs.Told.{Told}
 use Rattle.messages.specs.Message.{Message}
 use Rattle.messages.specs.Meaning.{Meaning, meaning}
@@ -18,7 +18,7 @@ use Rattle.sound.specs.Placed.{Each}
 use Rattle.http1.specs.Read.{readRequest}
 use Rattle.http1_laws.specs.Front.{answers, First}
 use Rattle.binary.specs.Read.{readBinary}
-use Rattle.output.specs.Reply.{answerOf, afterOf}
+use Rattle.output.specs.Reply.{answerOf, afterOf, Served, ServedAt}
 use Rattle.output.specs.declared.Written.{Written}
 use Rattle.output.specs.declared.Written.the-variants.{Done, Refused}
 use Rattle.turn.specs.Turn.{binaryToHttp1}
@@ -105,6 +105,12 @@ readMeaning t s = means meaning (readRequest t s)
 -- ---- the claim
 
 pub record Demand3 (t : Told) : Type 0 where
+  -- a call that is lent this part of the space, answers r and leaves o′ there, as the writer promises (output/Reply), is the call spoken of here;
+  -- so is one that is lent the whole space and the place to write from
+  pub called : (z : Space) (s o′ : List ℕ) (r : Written) → Served (binaryToHttp1 t s) (lentIn z) o′ r
+      → (answerIn t z s ≡ r) × (call t z s ≡ record { octets = take (z .written) (z .octets) ++ o′; written = z .written + longOf r })
+  pub calledAt : (z : Space) (s o′ : List ℕ) (r : Written) → z .written ≤ length (z .octets) → ServedAt (binaryToHttp1 t s) (z .written) (z .octets) o′ r
+      → (answerIn t z s ≡ r) × (call t z s ≡ record { octets = o′; written = z .written + longOf r })
   -- an accepted call: the Binary reader accepted its input, and the call adds the length that it said and that input's meaning
   -- (shuts out: invented lengths)
   pub accepts : (z : Space) (s : List ℕ) (n : ℕ) → answerIn t z s ≡ Done n
