@@ -111,31 +111,31 @@ pub record Demand3 (t : Told) : Type 0 where
       → (answerIn t z s ≡ r) × (call t z s ≡ record { octets = take (z .written) (z .octets) ++ o′; written = z .written + longOf r })
   pub calledAt : (z : Space) (s o′ : List ℕ) (r : Written) → z .written ≤ length (z .octets) → ServedAt (binaryToHttp1 t s) (z .written) (z .octets) o′ r
       → (answerIn t z s ≡ r) × (call t z s ≡ record { octets = o′; written = z .written + longOf r })
-  -- an accepted call: the Binary reader accepted its input, and the call adds the length that it said and that input's meaning
-  -- (shuts out: invented lengths)
+  -- an accepted call: the Binary reader accepted its input, and the call adds the length that it said and that input's meaning. Which calls are accepted
+  -- is demand 2's `turned` and `room`: they shut out a writer that refuses everything, of which the rest here would say nothing
   pub accepts : (z : Space) (s : List ℕ) (n : ℕ) → answerIn t z s ≡ Done n
       → (k : ℕ) × (m : Message) × (readBinary s ≡ accepted k m) × (entryIn t z s ≡ (n, meaning m) ∷ []) × (n ≤ length (lentIn z))
   -- a refused call, by whatever number: it adds nothing, and not one octet of the space is altered
   pub refuses : (z : Space) (s : List ℕ) (k p : ℕ) → answerIn t z s ≡ Refused k p → (call t z s ≡ z) × (entryIn t z s ≡ [])
   -- whatever octets stand behind what the calls wrote: the request reader first takes off exactly the meanings of the accepted calls, in order, each as
   -- long as its call said; what it then takes off is what it takes off the octets behind
-  -- (shuts out: a stream reader that truly reads only the first request; a writer that says 0 and writes nothing)
+  -- (shuts out: a stream reader that truly reads only the first request; a writer that says 0 and writes nothing; invented lengths)
   pub taken : (o : List ℕ) (ss : List (List ℕ)) → NoResponse t o ss → (behind : List ℕ)
       → takeOff (readMeaning t) (streamOf t o ss ++ behind) ≡ onto (entriesOf t o ss) (takeOff (readMeaning t) behind)
   -- the same, asked for as many answers as calls were accepted: "what is then left is exactly the bytes behind"
   pub left : (o : List ℕ) (ss : List (List ℕ)) → NoResponse t o ss → (behind : List ℕ)
       → takeF (readMeaning t) (length (entriesOf t o ss)) (streamOf t o ss ++ behind) ≡ onto (entriesOf t o ss) (waits behind)
   -- two lists, each in a space of any length, give the same octets exactly when their accepted meanings are the same in number and order
-  -- (shuts out: a constant answer; a writer that refuses everything but one message)
+  -- (shuts out: a constant answer, where the lists differ)
   pub same : (o : List ℕ) (ss : List (List ℕ)) → NoResponse t o ss → (q : List ℕ) (rs : List (List ℕ)) → NoResponse t q rs
       → (streamOf t o ss ≡ streamOf t q rs) ↔ (meaningsOf t o ss ≡ meaningsOf t q rs)
   -- after every list of calls the space is as long as it was, what was written lies within it, and all behind is as it was lent
   pub untouched : (o : List ℕ) (ss : List (List ℕ))
       → (length (spaceOf t o ss .octets) ≡ length o) × (spaceOf t o ss .written ≤ length o)
       × (drop (spaceOf t o ss .written) (spaceOf t o ss .octets) ≡ drop (spaceOf t o ss .written) o)
-  -- for every stream s of arbitrary octets, and whatever octets u are put behind it: an answer that does not ask for more stays, ranges included;
+  -- for every stream s of arbitrary octets, and whatever octets u are put behind it: an answer that does not ask for more stays, ranges included
   pub reading : (s u : List ℕ) → (readingOf (readRequest t s) .outcome ≡ outcome.More → ⊥) → readingOf (readRequest t (s ++ u)) ≡ readingOf (readRequest t s)
   -- taken off message by message, the answers on s alone, save a closing 1, are the first answers with u behind, ranges included
   pub first : (s u : List ℕ) → First (answers (takeOff (readRequest t) s)) (answers (takeOff (readRequest t) (s ++ u)))
-  -- (meaning, length, refusal and place:) taking off s, and then what is left of it with u behind, is taking off the whole
+  -- in meaning, length, refusal and place: taking off s, and then what is left of it with u behind, is taking off the whole
   pub resumes : (s u : List ℕ) → takeOff (readMeaning t) (s ++ u) ≡ resume (readMeaning t) (takeOff (readMeaning t) s) u
