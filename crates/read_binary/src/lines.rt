@@ -6,6 +6,8 @@ use messages::parts::is_lower_name;
 use messages::parts::is_trimmed_value;
 use messages::parts::kind_of;
 use messages::sections::note;
+use numbers::Integer;
+use numbers::read_int;
 use octets::Refusals;
 use ranges::keep;
 ghost use mathlib.Core.Path.{_≡_};
@@ -17,7 +19,7 @@ ghost use Rattle.script.specs.Do.{piece};
 ghost use Rattle.messages.specs.Control.{isLowerName, isTrimmedValue};
 ghost use Rattle.ranges.specs.Ranges.{placesEnd};
 ghost use Rattle.binary.specs.Read.{lineOf};
-ghost use Rattle.read_binary.specs.Section.{cutNumber, cutPlace, JudgedLine};
+ghost use Rattle.read_binary.specs.Section.{cutNumber, cutPlace, restLine, JudgedLine, Lined};
 
 // The number of a line that is cut off.
 fn cut_number(known: bool) -> u32
@@ -89,4 +91,49 @@ fn store_line(
             place: p,
         };
     }
+}
+
+// The rest of the line at the place p, from its name of n octets on: `at` is counted in the part s, whose first octet is at the place a.
+fn rest_line(
+    t: &[u8; 256],
+    s: &[u8],
+    a: usize,
+    p: usize,
+    at: usize,
+    n: usize,
+    known: bool,
+    host: bool,
+    kept: usize,
+    notes: Notes,
+    out: &mut [u32],
+) -> LineRead
+    requires { ⌜ (now t ≡ classes) × (at ≤ length (now s)) × (a + length (now s) < placesEnd) × (kept * 4 + 4 ≤ length (now out)) ⌝ }
+    ensures { λ r. ⌜ Lined (now (s .entry)) a (restLine known p n (a + at) (drop at (now (s .entry)))) host kept notes (now (out .entry)) (now (out .exit)) r ⌝ }
+{
+    let number = cut_number(known);
+    if s.len() - at < n {
+        return LineRead::Refused { number, place: p };
+    }
+    let m = at + n;
+    let place = cut_place(known, p, a + m);
+    let Integer::Value { value: len, next } = read_int(s, m) else {
+        return LineRead::Refused { number, place };
+    };
+    if s.len() - next < len {
+        return LineRead::Refused { number, place };
+    }
+    let end = next + len;
+    store_line(
+        t,
+        p,
+        a + at,
+        &s[at..m],
+        a + next,
+        &s[next..end],
+        end,
+        host,
+        kept,
+        notes,
+        out,
+    )
 }
