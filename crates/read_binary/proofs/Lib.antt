@@ -1,3 +1,4 @@
 pub mod Line
 pub mod Steps
 pub mod Rest
+pub mod Turns

@@ -18,7 +18,7 @@ ghost use Rattle.octets.specs.Table.{classes};
 ghost use Rattle.script.specs.Do.{piece};
 ghost use Rattle.messages.specs.Control.{isLowerName, isTrimmedValue};
 ghost use Rattle.ranges.specs.Ranges.{placesEnd};
-ghost use Rattle.binary.specs.Read.{lineOf};
+ghost use Rattle.binary.specs.Read.{lineOf, knownLine};
 ghost use Rattle.read_binary.specs.Section.{cutNumber, cutPlace, restLine, JudgedLine, Lined};
 
 // The number of a line that is cut off.
@@ -136,4 +136,34 @@ fn rest_line(
         notes,
         out,
     )
+}
+
+// The line at the index `at` of a known-length section's body s, whose first octet is at the place a.
+fn known_line(
+    t: &[u8; 256],
+    s: &[u8],
+    a: usize,
+    at: usize,
+    host: bool,
+    kept: usize,
+    notes: Notes,
+    out: &mut [u32],
+) -> LineRead
+    requires { ⌜ (now t ≡ classes) × (at ≤ length (now s)) × (a + length (now s) < placesEnd) × (kept * 4 + 4 ≤ length (now out)) ⌝ }
+    ensures { λ r. ⌜ Lined (now (s .entry)) a (knownLine (a + at) (drop at (now (s .entry)))) host kept notes (now (out .entry)) (now (out .exit)) r ⌝ }
+{
+    let p = a + at;
+    let Integer::Value { value: n, next } = read_int(s, at) else {
+        return LineRead::Refused {
+            number: Refusals::BAD_SECTION,
+            place: p,
+        };
+    };
+    if n == 0 {
+        return LineRead::Refused {
+            number: Refusals::BAD_SECTION,
+            place: p,
+        };
+    }
+    rest_line(t, s, a, p, next, n, true, host, kept, notes, out)
 }
