@@ -2,3 +2,4 @@ pub mod Line
 pub mod Steps
 pub mod Rest
 pub mod Turns
+pub mod Sections

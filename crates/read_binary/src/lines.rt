@@ -1,25 +1,30 @@
 // Field lines and field sections, of known and of indeterminate length.
 use crate::LineRead;
+use crate::Section;
 use messages::Notes;
 use messages::parts::does_travel;
 use messages::parts::is_lower_name;
 use messages::parts::is_trimmed_value;
 use messages::parts::kind_of;
+use messages::sections::no_notes;
 use messages::sections::note;
 use numbers::Integer;
 use numbers::read_int;
+use octets::Limits;
 use octets::Refusals;
 use ranges::keep;
 ghost use mathlib.Core.Path.{_≡_};
 ghost use mathlib.Core.Bool.{cond, false};
-ghost use Prim.Native.Nat.{_+_, _-_, _*_, _≤_, _<_};
+ghost use mathlib.Core.List.{[]};
+ghost use Prim.Native.Nat.{suc, _+_, _-_, _*_, _≤_, _<_};
 ghost use lib.ListN.{length, take, drop};
 ghost use Rattle.octets.specs.Table.{classes};
+ghost use Rattle.octets.specs.Limits.{linesMost};
 ghost use Rattle.script.specs.Do.{piece};
 ghost use Rattle.messages.specs.Control.{isLowerName, isTrimmedValue};
 ghost use Rattle.ranges.specs.Ranges.{placesEnd};
-ghost use Rattle.binary.specs.Read.{lineOf, knownLine};
-ghost use Rattle.read_binary.specs.Section.{cutNumber, cutPlace, restLine, JudgedLine, Lined};
+ghost use Rattle.binary.specs.Read.{lineOf, knownLine, knownLines};
+ghost use Rattle.read_binary.specs.Section.{cutNumber, cutPlace, restLine, JudgedLine, Lined, Bodied};
 
 // The number of a line that is cut off.
 fn cut_number(known: bool) -> u32
@@ -166,4 +171,52 @@ fn known_line(
         };
     }
     rest_line(t, s, a, p, next, n, true, host, kept, notes, out)
+}
+
+// The lines that fill the body s of a known-length section, whose first octet is at the place a: at most 64 of them. Kept fields are stored behind
+// the `base` fields that stand in `out`.
+fn known_lines(
+    t: &[u8; 256],
+    s: &[u8],
+    a: usize,
+    host: bool,
+    base: usize,
+    out: &mut [u32],
+) -> Section
+    requires { ⌜ (now t ≡ classes) × (a + length (now s) < placesEnd) × (base * 4 + 256 ≤ length (now out)) ⌝ }
+    ensures { λ r. ⌜ Bodied (knownLines (suc linesMost) [] a (now (s .entry))) (a + length (now (s .entry))) host base (now (out .entry)) (now (out .exit)) r ⌝ }
+{
+    let mut i: usize = 0;
+    let mut lines: usize = 0;
+    let mut count = base;
+    let mut notes = no_notes();
+    loop {
+        if s.len() <= i {
+            return Section::Done {
+                end: a + s.len(),
+                kept: count,
+                notes,
+            };
+        }
+        if Limits::LINES <= lines {
+            return Section::Refused {
+                number: Refusals::TOO_LARGE,
+                place: a + i,
+            };
+        }
+        let line = known_line(t, s, a, i, host, count, notes, out);
+        match line {
+            LineRead::Refused { number, place } => return Section::Refused { number, place },
+            LineRead::Next {
+                end,
+                kept,
+                notes: noted,
+            } => {
+                count = kept;
+                notes = noted;
+                lines += 1;
+                i = end;
+            }
+        }
+    }
 }
