@@ -73,3 +73,12 @@ module _ (s : List ℕ) (i k p : ℕ) where
       let y : 0 + i ≡ i = omega arith in
       let z : 0 + next ≡ next = omega arith in
       rw (y, z) at (integer-in 0 s i k p e)
+
+  pub octets-cut-here : (n : ℕ) → length s - i < n → octets n k p i (drop i s) ≡ no k p
+  octets-cut-here n h = let z : 0 + i ≡ i = omega arith in rw z at (octets-cut 0 s i k p n h)
+
+  pub octets-here : (n : ℕ) → n ≤ length s - i → octets n k p i (drop i s) ≡ got (piece i (take n (drop i s))) (i + n) (drop (i + n) s)
+  octets-here n h =
+      let y : 0 + i ≡ i = omega arith in
+      let z : 0 + (i + n) ≡ i + n = omega arith in
+      rw (y, z) at (octets-in 0 s i k p n h)

@@ -14,7 +14,7 @@ use octets::Limits;
 use octets::Refusals;
 use ranges::keep;
 ghost use mathlib.Core.Path.{_≡_};
-ghost use mathlib.Core.Bool.{cond, false};
+ghost use mathlib.Core.Bool.{cond, true, false};
 ghost use mathlib.Core.List.{[]};
 ghost use Prim.Native.Nat.{suc, _+_, _-_, _*_, _≤_, _<_};
 ghost use lib.ListN.{length, take, drop};
@@ -23,8 +23,8 @@ ghost use Rattle.octets.specs.Limits.{linesMost};
 ghost use Rattle.script.specs.Do.{piece};
 ghost use Rattle.messages.specs.Control.{isLowerName, isTrimmedValue};
 ghost use Rattle.ranges.specs.Ranges.{placesEnd};
-ghost use Rattle.binary.specs.Read.{lineOf, knownLine, knownLines};
-ghost use Rattle.read_binary.specs.Section.{cutNumber, cutPlace, restLine, JudgedLine, Lined, Bodied};
+ghost use Rattle.binary.specs.Read.{lineOf, knownLine, knownLines, section};
+ghost use Rattle.read_binary.specs.Section.{cutNumber, cutPlace, restLine, JudgedLine, Lined, Bodied, Sectioned};
 
 // The number of a line that is cut off.
 fn cut_number(known: bool) -> u32
@@ -219,4 +219,31 @@ fn known_lines(
             }
         }
     }
+}
+
+// A known-length section: its length, then its body, which is handed on by itself.
+fn known_section(
+    t: &[u8; 256],
+    s: &[u8],
+    from: usize,
+    host: bool,
+    base: usize,
+    out: &mut [u32],
+) -> Section
+    requires { ⌜ (now t ≡ classes) × (from ≤ length (now s)) × (length (now s) < placesEnd) × (base * 4 + 256 ≤ length (now out)) ⌝ }
+    ensures { λ r. ⌜ Sectioned (now (s .entry)) (section true from (drop from (now (s .entry)))) host base (now (out .entry)) (now (out .exit)) r ⌝ }
+{
+    let Integer::Value { value: n, next } = read_int(s, from) else {
+        return Section::Refused {
+            number: Refusals::CUT_OFF,
+            place: from,
+        };
+    };
+    if s.len() - next < n {
+        return Section::Refused {
+            number: Refusals::CUT_OFF,
+            place: from,
+        };
+    }
+    known_lines(t, &s[next..next + n], next, host, base, out)
 }
