@@ -247,3 +247,56 @@ fn known_section(
     }
     known_lines(t, &s[next..next + n], next, host, base, out)
 }
+
+// An indeterminate section: at most 64 lines, up to a name length of zero.
+fn open_section(
+    t: &[u8; 256],
+    s: &[u8],
+    from: usize,
+    host: bool,
+    base: usize,
+    out: &mut [u32],
+) -> Section
+    requires { ⌜ (now t ≡ classes) × (from ≤ length (now s)) × (length (now s) < placesEnd) × (base * 4 + 256 ≤ length (now out)) ⌝ }
+    ensures { λ r. ⌜ Sectioned (now (s .entry)) (section false from (drop from (now (s .entry)))) host base (now (out .entry)) (now (out .exit)) r ⌝ }
+{
+    let mut i = from;
+    let mut lines: usize = 0;
+    let mut count = base;
+    let mut notes = no_notes();
+    loop {
+        let Integer::Value { value: n, next } = read_int(s, i) else {
+            return Section::Refused {
+                number: Refusals::CUT_OFF,
+                place: i,
+            };
+        };
+        if n == 0 {
+            return Section::Done {
+                end: next,
+                kept: count,
+                notes,
+            };
+        }
+        if Limits::LINES <= lines {
+            return Section::Refused {
+                number: Refusals::TOO_LARGE,
+                place: i,
+            };
+        }
+        let line = rest_line(t, s, 0, i, next, n, false, host, count, notes, out);
+        match line {
+            LineRead::Refused { number, place } => return Section::Refused { number, place },
+            LineRead::Next {
+                end,
+                kept,
+                notes: noted,
+            } => {
+                count = kept;
+                notes = noted;
+                lines += 1;
+                i = end;
+            }
+        }
+    }
+}
