@@ -300,3 +300,23 @@ fn open_section(
         }
     }
 }
+
+// The field section from `from` on, of known or of indeterminate length. Kept fields are stored behind the `base` fields that stand in `out`.
+pub fn read_section(
+    t: &[u8; 256],
+    s: &[u8],
+    from: usize,
+    known: bool,
+    host: bool,
+    base: usize,
+    out: &mut [u32],
+) -> Section
+    requires { ⌜ (now t ≡ classes) × (from ≤ length (now s)) × (length (now s) < placesEnd) × (base * 4 + 256 ≤ length (now out)) ⌝ }
+    ensures { λ r. ⌜ Sectioned (now (s .entry)) (section known from (drop from (now (s .entry)))) host base (now (out .entry)) (now (out .exit)) r ⌝ }
+{
+    if known {
+        return known_section(t, s, from, host, base, out);
+    } else {
+        return open_section(t, s, from, host, base, out);
+    }
+}
