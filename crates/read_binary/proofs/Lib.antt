@@ -3,3 +3,4 @@ pub mod Steps
 pub mod Rest
 pub mod Turns
 pub mod Sections
+pub mod Gathered
