@@ -1,22 +1,17 @@
 -- The rest of a line behind its name length, as the code reads it, and what a caller learns of a line.
-use Prim.Native.Nat.{ℕ, zero, suc, _+_, _-_, _*_, _<_, _≤_}
-use mathlib.Core.Path.{_≡_, refl, sym, ap, _∙_, subst}
-use mathlib.Core.List.{List, [], _∷_}
-use mathlib.Core.Bool.{Bool, true, false, cond}
+use Prim.Native.Nat.{ℕ, _+_, _-_, _<_, _≤_}
+use mathlib.Core.Path.{_≡_, refl, sym, subst}
+use mathlib.Core.List.{List}
+use mathlib.Core.Bool.{Bool}
 use native.Mathlib.Omega.{arith}
 use lib.ListN.{length, take, drop, length-take}
 use Rattle.numbers.specs.Integer.{readInt}
 use Rattle.numbers.specs.declared.Integer.the-variants.{Value, Cut}
 use Rattle.numbers.proofs.IntegerLaws.{int-within}
-use Rattle.output.specs.Splice.{splice}
-use Rattle.output.proofs.Laws.{splice-length}
 use Rattle.script.specs.Do.{piece, Judged, good, wrong}
 use Rattle.messages.specs.Message.{FieldRead}
-use Rattle.messages.specs.Names.{kept}
-use Rattle.messages.specs.Notes.{noteLine}
-use Rattle.messages.specs.Answers.{fieldsNumbers}
 use Rattle.messages.specs.declared.Notes.{Notes}
-use Rattle.binary.specs.Reader.{Got, got, no, _>>=_, tell, integer, octets}
+use Rattle.binary.specs.Reader.{Got, no, _>>=_, tell}
 use Rattle.binary.specs.Read.{lineOf}
 use Rattle.read_binary.specs.Section.{cutNumber, cutPlace, restLine, JudgedSays, JudgedLine, LineSays, Lined}
 use Rattle.read_binary.specs.declared.LineRead.{LineRead}

@@ -1,8 +1,8 @@
 -- What the section loops answer, and sections from their lines.
-use Prim.Native.Nat.{ℕ, zero, suc, _+_, _-_, _*_, _<_, _≤_}
+use Prim.Native.Nat.{ℕ, suc, _+_, _-_, _<_, _≤_}
 use mathlib.Core.Path.{_≡_, refl, sym, ap, _∙_, subst}
-use mathlib.Core.List.{List, [], _∷_, _++_}
-use mathlib.Core.Bool.{Bool, true, false, cond}
+use mathlib.Core.List.{List, []}
+use mathlib.Core.Bool.{Bool, true, false}
 use native.Mathlib.Omega.{arith}
 use lib.ListN.{length, take, drop, length-drop}
 use lib.Seq.{length-take-le}
@@ -12,12 +12,10 @@ use Rattle.numbers.specs.Integer.{readInt}
 use Rattle.numbers.specs.declared.Integer.the-variants.{Value, Cut}
 use Rattle.numbers.proofs.IntegerLaws.{int-within}
 use Rattle.messages.specs.Message.{FieldRead, Section}
-use Rattle.messages.specs.declared.Notes.{Notes}
 use Rattle.binary.specs.Reader.{Got, got, no, onGot, _>>=_}
 use Rattle.binary.specs.Read.{part, knownLines, onBody, bodyLines, knownSection, openLines, section}
 use Rattle.read_binary.specs.Section.{BodySays, Bodied, SectionSays, Sectioned}
 use Rattle.read_binary.specs.declared.Section as answer
-use Rattle.read_binary.specs.declared.Section.the-variants as told
 use Rattle.read_binary.proofs.Steps.{integer-cut-here, integer-here, octets-cut-here, octets-here}
 
 -- an answer that equals another promises the same

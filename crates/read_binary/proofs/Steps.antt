@@ -1,19 +1,17 @@
 -- The readers' steps at the index i of a part s whose first octet is at the place a, as code takes them.
 use Prim.Native.Nat.{ℕ, zero, suc, _+_, _-_, _*_, _<_, _≤_}
-use mathlib.Core.Path.{_≡_, refl, sym, ap, _∙_}
+use mathlib.Core.Path.{_≡_, refl}
 use mathlib.Core.List.{List, [], _∷_}
-use mathlib.Core.Bool.{Bool, true, false, cond}
 use native.Mathlib.Omega.{arith}
 use borrow.Author.Tests.{lt-ltb, le-ltb}
-use lib.Dec.{ltb}
 use lib.ListN.{length, take, drop, length-drop}
 use lib.Seq.{drop-drop}
-use Rattle.numbers.specs.Integer.{readInt, readMore, extraOf}
+use Rattle.numbers.specs.Integer.{readInt, readMore}
 use Rattle.numbers.specs.declared.Integer.{Integer}
 use Rattle.numbers.specs.declared.Integer.the-variants.{Value, Cut}
 use Rattle.numbers.proofs.IntegerLaws.{int-within}
 use Rattle.script.specs.Do.{piece}
-use Rattle.binary.specs.Reader.{Got, got, no, onInteger, integer, octets}
+use Rattle.binary.specs.Reader.{got, no, integer, octets}
 
 -- ---- an integer further on
 

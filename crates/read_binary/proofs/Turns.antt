@@ -1,11 +1,10 @@
 -- One line of a section, and one turn of each section loop, by what comes next.
-use Prim.Native.Nat.{ℕ, zero, suc, _+_, _-_, _*_, _<_, _≤_}
-use mathlib.Core.Path.{_≡_, refl, sym, ap, _∙_, subst}
+use Prim.Native.Nat.{ℕ, suc, _+_, _*_, _<_, _≤_}
+use mathlib.Core.Path.{_≡_, refl, ap, _∙_}
 use mathlib.Core.List.{List, [], _∷_, _++_}
-use mathlib.Core.Bool.{Bool, true, false, cond}
+use mathlib.Core.Bool.{Bool, true, false}
 use native.Mathlib.Omega.{arith}
 use borrow.Author.Tests.{eq-eqb, ne-eqb, le-leb, lt-leb}
-use lib.Dec.{eqb, leb}
 use lib.ListN.{length, drop, length-drop}
 use Rattle.octets.specs.Text.{isEmpty}
 use Rattle.octets.specs.Limits.{linesMost}
@@ -20,7 +19,7 @@ use Rattle.messages.specs.Names.{kept}
 use Rattle.messages.specs.Notes.{noteLine}
 use Rattle.messages.specs.Answers.{fieldsNumbers}
 use Rattle.messages.specs.declared.Notes.{Notes}
-use Rattle.binary.specs.Reader.{Got, got, no, Reader, onGot, _>>=_, tell, integer, octets}
+use Rattle.binary.specs.Reader.{Got, got, no, onGot, _>>=_, tell, integer, octets}
 use Rattle.binary.specs.Read.{part, lineOf, knownLine, knownLines, openLine, openLines}
 use Rattle.read_binary.specs.Section.{restLine, LineSays, Lined}
 use Rattle.read_binary.specs.declared.LineRead.{LineRead}
