@@ -45,6 +45,7 @@ JudgedSays (good f) end host k n o o′ r =
     × (o′ ≡ splice o (k * 4) (fieldsNumbers (kept host (f ∷ []))))
 JudgedSays (wrong x p) end host k n o o′ r = r ≡ line.Refused x p
 
+-- what a judged line promises, as one fact
 pub record JudgedLine (j : Judged FieldRead) (end : ℕ) (host : Bool) (k : ℕ) (n : Notes) (o o′ : List ℕ) (r : LineRead) : Type 0 where
   pub says : JudgedSays j end host k n o o′ r
 
@@ -59,6 +60,7 @@ LineSays s a (got f e l) host k n o o′ r =
     × (l ≡ drop end s)
 LineSays s a (no x p) host k n o o′ r = r ≡ line.Refused x p
 
+-- what a line that was read promises, as one fact
 pub record Lined (s : List ℕ) (a : ℕ) (x : Got FieldRead) (host : Bool) (k : ℕ) (n : Notes) (o o′ : List ℕ) (r : LineRead) : Type 0 where
   pub says : LineSays s a x host k n o o′ r
 
@@ -70,6 +72,7 @@ BodySays (got fs e l) end host k o o′ r =
     (r ≡ section.Done end (k + length (kept host fs)) (notesOf false fs)) × (o′ ≡ splice o (k * 4) (fieldsNumbers (kept host fs)))
 BodySays (no n p) end host k o o′ r = r ≡ section.Refused n p
 
+-- what the lines of a body promise, as one fact
 pub record Bodied (x : Got (List FieldRead)) (end : ℕ) (host : Bool) (k : ℕ) (o o′ : List ℕ) (r : answer.Section) : Type 0 where
   pub says : BodySays x end host k o o′ r
 
@@ -83,5 +86,6 @@ SectionSays s (got h e l) host k o o′ r =
     × (l ≡ drop e s)
 SectionSays s (no n p) host k o o′ r = r ≡ section.Refused n p
 
+-- what a section that was read promises, as one fact
 pub record Sectioned (s : List ℕ) (x : Got Section) (host : Bool) (k : ℕ) (o o′ : List ℕ) (r : answer.Section) : Type 0 where
   pub says : SectionSays s x host k o o′ r
