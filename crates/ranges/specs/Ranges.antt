@@ -5,6 +5,7 @@ use mathlib.Core.Path.{_≡_}
 use mathlib.Core.Bool.{Bool, true, false, cond}
 use mathlib.Core.List.{List, [], _∷_, _++_}
 use lib.ListN.{length}
+use Rattle.octets.specs.Limits.{linesMost, chunksMost, contentMost, informationalMost}
 use Rattle.script.specs.Script.{Answer, accepted, refused, more}
 use Rattle.output.specs.Splice.{splice}
 use Rattle.messages.specs.Message.{FieldRead, isResponse, Message}
@@ -56,6 +57,14 @@ pub record Responded (x : Answer Message) (hs hs′ ns ns′ cs cs′ ts ts′ :
   pub informational : InformationalSays x ns ns′
 
 -- ---- what a writer finds
+
+-- the counts of a record are within the sizes
+pub record SmallRecord (r : Record) : Type 0 where
+  pub heads : r .informational ≤ informationalMost
+  pub headers : r .headers ≤ linesMost
+  pub chunks : r .chunks ≤ chunksMost
+  pub content : r .content ≤ contentMost
+  pub trailers : r .trailers ≤ linesMost
 
 -- the numbers l stand at the front of o
 pub record Begins (l o : List ℕ) : Type 0 where
