@@ -1,17 +1,17 @@
 -- From a reader's outcome and the ranges that it left to the message that was read, and to what a writer finds.
-use Prim.Native.Nat.{ℕ, zero, suc, _+_, _-_, _*_, _<_, _≤_}
-use mathlib.Core.Path.{_≡_, refl, sym, ap, _∙_, subst}
+use Prim.Native.Nat.{ℕ, _+_, _*_, _≤_}
+use mathlib.Core.Path.{_≡_, refl, sym, ap, _∙_}
 use mathlib.Core.List.{List, [], _∷_, _++_}
-use mathlib.Core.Bool.{Bool, true, false}
+use mathlib.Core.Bool.{true, false}
 use native.Mathlib.Omega.{arith}
 use lib.ListN.{length, take, drop, length-append}
 use lib.Seq.{take-append-seam}
-use Rattle.octets.specs.Limits.{linesMost, chunksMost, contentMost, informationalMost}
+use Rattle.octets.specs.Limits.{contentMost}
 use Rattle.script.specs.Script.{Answer, accepted, refused, more}
 use Rattle.script.specs.Do.{Piece}
 use Rattle.output.specs.Splice.{splice, part}
 use Rattle.output.proofs.Laws.{splice-is, splice-length, elements-take}
-use Rattle.messages.specs.Message.{FieldRead, InformationalRead, Start, requestStart, responseStart, isResponse, Message}
+use Rattle.messages.specs.Message.{InformationalRead, Start, requestStart, responseStart, isResponse, Message}
 use Rattle.messages.specs.Names.{kept, keptTrailers}
 use Rattle.messages.specs.Meaning.{contentOf, meaning}
 use Rattle.messages.specs.Valid.{valid}
@@ -75,6 +75,10 @@ module _ {x : Answer Message} {hs hs′ cs cs′ ts ts′ : List ℕ} {o : Outco
       go (accepted n m) q = no-more (sym e ∙ q .0)
       go (refused i j) q = let z : outcome.Refusal i j ≡ outcome.More = sym q ∙ e in cc
       go more q = refl
+
+-- the outcome, without the informational heads
+pub response-outcomed : {x : Answer Message} {hs hs′ ns ns′ cs cs′ ts ts′ : List ℕ} {o : Outcome} → Responded x hs hs′ ns ns′ cs cs′ ts ts′ o → Outcomed x hs hs′ cs cs′ ts ts′ o
+response-outcomed h = record { says = h .says }
 
 -- ---- counts
 

@@ -10,10 +10,12 @@ use Rattle.script.specs.Script.{Answer, accepted, refused, more}
 use Rattle.output.specs.Splice.{splice}
 use Rattle.messages.specs.Message.{FieldRead, isResponse, Message}
 use Rattle.messages.specs.Names.{kept, keptTrailers}
-use Rattle.messages.specs.Answers.{fieldsNumbers, chunksNumbers, informationalNumbers, informationalLines, informationalIn, recordOf}
+use Rattle.messages.specs.Answers.{fieldsNumbers, chunksNumbers, informationalNumbers, informationalLines, informationalIn, recordOf, readingOf}
 use Rattle.messages.specs.declared.Outcome.{Outcome}
 use Rattle.messages.specs.declared.Outcome.the-variants as outcome
 use Rattle.messages.specs.declared.Record.{Record}
+use Rattle.messages.specs.declared.Ranges.{Ranges}
+use Rattle.messages.specs.declared.Reading.{Reading}
 use Rattle.sound.specs.Sound.{Sound}
 
 -- every place in a message is below this (01, "Sizes": heads, chunk lines, content and trailers together are far below)
@@ -55,6 +57,15 @@ InformationalSays more ns ns′ = Unit {0}
 pub record Responded (x : Answer Message) (hs hs′ ns ns′ cs cs′ ts ts′ : List ℕ) (r : Outcome) : Type 0 where
   pub says : OutcomeSays x hs hs′ cs cs′ ts ts′ r
   pub informational : InformationalSays x ns ns′
+
+abbrev pub rangesWith : List ℕ → List ℕ → List ℕ → List ℕ → Ranges
+rangesWith ns hs ts cs = record { informational = ns; headers = hs; trailers = ts; chunks = cs }
+
+-- a reader's answer by value, from its outcome and the ranges that it left: informational heads, header fields, trailer fields, chunks
+abbrev pub readingFrom : Outcome → List ℕ → List ℕ → List ℕ → List ℕ → Reading
+readingFrom (outcome.Message r) ns hs ts cs = record { outcome = outcome.Message r; ranges = rangesWith ns hs ts cs }
+readingFrom (outcome.Refusal k p) ns hs ts cs = readingOf (refused k p)
+readingFrom outcome.More ns hs ts cs = readingOf more
 
 -- ---- what a writer finds
 
