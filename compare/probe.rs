@@ -22,6 +22,7 @@ mod entries {
     extern "C" {
         pub fn ospirnar_read_request(input: *const u8, input_len: usize, scheme: u32, ranges: *mut u32, ranges_len: usize, place: *mut usize) -> u32;
         pub fn ospirnar_read_response(input: *const u8, input_len: usize, ranges: *mut u32, ranges_len: usize, place: *mut usize) -> u32;
+        pub fn ospirnar_listing(input: *const u8, input_len: usize, output: *mut u8, output_len: usize, place: *mut usize) -> u32;
     }
 }
 
@@ -50,6 +51,11 @@ fn read_request(input: &[u8], scheme: u32, ranges: &mut Lent<u32>) -> Answer {
 fn read_response(input: &[u8], ranges: &mut Lent<u32>) -> Answer {
     let (pointer, room) = ranges.lend();
     ask(|place| unsafe { entries::ospirnar_read_response(input.as_ptr(), input.len(), pointer, room, place) })
+}
+
+fn listing(input: &[u8], output: &mut Lent<u8>) -> Answer {
+    let (pointer, room) = output.lend();
+    ask(|place| unsafe { entries::ospirnar_listing(input.as_ptr(), input.len(), pointer, room, place) })
 }
 
 // ---------------------------------------------------------------------------------------- lent space
@@ -440,8 +446,8 @@ fn command(line: &[u8]) -> Option<Result<String, &'static str>> {
             read(&input, |ranges| read_response(&input, ranges))
         }
         (b"listing", [input]) => {
-            octets(input)?;
-            NOT_BUILT
+            let input = octets(input)?;
+            write_text(listing_room(&input), |output| listing(&input, output))
         }
         (b"bin", [input]) => {
             octets(input)?;

@@ -8,6 +8,7 @@ use lib.ListN.{length, getD, replicate}
 use Rattle.octets.specs.Refusals.{moreNeeded, noRoom}
 use Rattle.script.specs.Script.{Answer, accepted, refused, more}
 use Rattle.output.specs.Splice.{splice}
+use Rattle.output.specs.Reply.{Reply, answerOf, afterOf, writtenNumber, writtenPlace}
 use Rattle.messages.specs.Message.{Message}
 use Rattle.messages.specs.Answers.{chunksNumbers, informationalNumbers, informationalIn, padded, recordOf}
 use Rattle.messages.specs.declared.Part.{Part}
@@ -76,3 +77,11 @@ noHeads = replicate 8 0
 -- how many fields the informational heads have, by their numbers
 unfoldable pub headsFields : List ℕ → ℕ
 headsFields l = getD l 1 0 + getD l 3 0 + getD l 5 0 + getD l 7 0
+
+-- ---- the answer of a writing entry that was lent octets o, where y is to be written
+
+-- 01's number, the length written or the refusal's place, and the octets afterwards: a refusal alters none
+pub record EntryServed (y : Reply) (o o′ : List ℕ) (place number : ℕ) : Type 0 where
+  pub answers : number ≡ writtenNumber (answerOf y (length o))
+  pub places : place ≡ writtenPlace (answerOf y (length o))
+  pub after : o′ ≡ afterOf y o
