@@ -52,8 +52,11 @@ module _ (s : List ℕ) (at n : ℕ) (h : at + n ≤ length s) where
   pub part-length : length (take n (drop at s)) ≡ n
   part-length = length-take-le n (drop at s) (omega (arith, length-drop at s))
 
+  pub stands-in : StandsIn s (piece at (take n (drop at s)))
+  stands-in = record { inside = rw part-length h; taken = rw part-length }
+
   pub parted-got : {x : Got Piece} → x ≡ got (piece at (take n (drop at s))) (at + n) (drop (at + n) s) → Parted s x (Is at n)
-  parted-got e = parted-as e (record { says = (rw part-length, rw part-length, rw part-length, (h, refl)) })
+  parted-got e = parted-as e (record { says = (rw part-length, stands-in, rw part-length, (h, refl)) })
 
 module _ (s : List ℕ) (place at n : ℕ) (within : at ≤ length s) where
   pub octets-short : length s - at < n → Parted s (octets n cutOff place at (drop at s)) (Refused cutOff place)
@@ -105,7 +108,7 @@ module _ {s : List ℕ} {x : Got Piece} {r : PartRead} (h : Parted s x r) where
           let d = q .0 in
           let a′ : w .place ≡ a = cc in
           let n′ : length (w .text) ≡ n = cc in
-          let t : w .text ≡ take n (drop a s) = q .1 ∙ rw (a′, n′) in
+          let t : w .text ≡ take n (drop a s) = q .1 .taken ∙ rw (a′, n′) in
           let i′ : i ≡ a + n = omega (arith, q .2, a′, n′) in
           let l′ : l ≡ drop (a + n) s = q .3 .1 ∙ rw i′ in
           let w′ : w ≡ piece a (take n (drop a s)) = ap₂ piece a′ t in
