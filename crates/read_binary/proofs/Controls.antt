@@ -9,7 +9,7 @@ use Rattle.script.specs.Do.{Piece, piece}
 use Rattle.messages.specs.Control.{methodVerdict, authorityVerdict, pathVerdict}
 use Rattle.binary.specs.Reader.{Got, got, no, _>>=_}
 use Rattle.binary.specs.Read.{RequestControl, ruledPart, schemePart, requestControl}
-use Rattle.read_binary.specs.Control.{Parted, Schemed, spanOf, pieceOf, ControlSays, Controlled, controlRest}
+use Rattle.read_binary.specs.Control.{StandsIn, Parted, Schemed, spanOf, pieceOf, ControlSays, Controlled, controlRest}
 use Rattle.read_binary.specs.declared.Span.{Span}
 use Rattle.read_binary.specs.declared.PartRead.{PartRead}
 use Rattle.read_binary.specs.declared.PartRead.the-variants.{Is, Refused}
@@ -93,6 +93,16 @@ pub record ControlDone (s : List ℕ) (x : Got RequestControl) (m : Span) (v : �
   pub path : Inside s p
   pub within : e ≤ length s
 
+piece-back : (s : List ℕ) (w : Piece) {a : Span} → spanOf w ≡ a → StandsIn s w → (w ≡ pieceOf s a) × Inside s a
+piece-back s w e h = subst (λ (a : Span). (w ≡ pieceOf s a) × Inside s a) e (ap (λ (t : List ℕ). piece (w .place) t) (h .taken), h .inside)
+
+same-control : {m m′ a a′ p p′ : Piece} {v v′ : ℕ} → m ≡ m′ → v ≡ v′ → a ≡ a′ → p ≡ p′
+    → _≡_ {A = RequestControl} (record { method = m; scheme = v; authority = a; path = p }) (record { method = m′; scheme = v′; authority = a′; path = p′ })
+same-control d e f g = rw (d, e, f, g)
+
+same-got : (s : List ℕ) {l : List ℕ} {q q′ : RequestControl} {i e : ℕ} → q ≡ q′ → i ≡ e → l ≡ drop i s → got q i l ≡ got q′ e (drop e s)
+same-got s d e f = rw (d, f, e)
+
 module _ {s : List ℕ} {x : Got RequestControl} {r : ControlRead} (h : Controlled s x r) where
   pub control-no : {n p : ℕ} → r ≡ control-is.Refused n p → x ≡ no n p
   control-no {n} {p} e = go x (h .says)
@@ -100,3 +110,27 @@ module _ {s : List ℕ} {x : Got RequestControl} {r : ControlRead} (h : Controll
       go : (y : Got RequestControl) → ControlSays s y r → y ≡ no n p
       go (got q i l) z = let d = z .0 in cc
       go (no m k) z = cc
+
+  pub control-done : {m a p : Span} {v e : ℕ} → r ≡ control-is.Done m v a p e → ControlDone s x m v a p e
+  control-done {m} {a} {p} {v} {e} b = go x (h .says)
+    where
+      go : (y : Got RequestControl) → ControlSays s y r → ControlDone s y m v a p e
+      go (got q i l) z =
+          let d = z .0 in
+          let m′ : spanOf (q .method) ≡ m = cc in
+          let v′ : q .scheme ≡ v = cc in
+          let a′ : spanOf (q .authority) ≡ a = cc in
+          let p′ : spanOf (q .path) ≡ p = cc in
+          let e′ : i ≡ e = cc in
+          let f = piece-back s (q .method) m′ (z .1) in
+          let g = piece-back s (q .authority) a′ (z .3) in
+          let j = piece-back s (q .path) p′ (z .4) in
+          record {
+            taken = same-got s (same-control (f .0) v′ (g .0) (j .0)) e′ (z .5 .1);
+            method = f .1;
+            scheme = omega (arith, z .2, v′);
+            authority = g .1;
+            path = j .1;
+            within = omega (arith, z .5 .0, e′);
+          }
+      go (no n k) z = let o : _≡_ {A = ℕ} 0 1 = cc in absurd (omega arith)
