@@ -2,24 +2,33 @@
 use Prim.Native.Nat.{ℕ, suc, _+_, _-_, _*_, _<_, _≤_}
 use mathlib.Core.Path.{_≡_, refl, sym, ap, _∙_, subst}
 use mathlib.Core.List.{List, [], _∷_, _++_}
-use mathlib.Core.Bool.{Bool, true, false, cond}
+use mathlib.Core.Bool.{Bool, true, false, cond, _||_}
 use native.Mathlib.Omega.{arith}
-use lib.ListN.{length, take, drop}
+use borrow.Author.Tests.{eq-eqb, ne-eqb, eqb-true, lt-leb}
+use lib.Dec.{eqb}
+use lib.ListN.{length, take, drop, length-drop}
 use Rattle.octets.specs.Limits.{chunksMost, contentMost}
-use Rattle.script.specs.Do.{Piece, piece}
+use Rattle.octets.specs.Refusals.{badLength}
+use Rattle.octets.specs.Text.{isEmpty}
+use Rattle.script.specs.Do.{Piece, piece, Judged, good, wrong}
 use Rattle.output.specs.Splice.{splice}
 use Rattle.output.proofs.Laws.{splice-append}
 use Rattle.messages.specs.Meaning.{contentOf}
 use Rattle.messages.specs.Answers.{chunksNumbers}
+use Rattle.messages.specs.Rules.{agrees}
+use Rattle.messages.specs.declared.Framing.{Framing}
 use Rattle.sound.proofs.Each.{content-snoc}
-use Rattle.binary.specs.Reader.{Got, got, no}
-use Rattle.binary.specs.Read.{openChunks}
-use Rattle.read_binary.specs.Content.{ChunkSays, ChunkLies, Chunked, ContentSays, Contented}
+use Rattle.binary.specs.Reader.{Got, got, no, _>>=_}
+use Rattle.binary.specs.Read.{partWithin, openChunks, knownContent, content, contentRule}
+use Rattle.read_binary.specs.Control.{Parted}
+use Rattle.read_binary.specs.Content.{ChunkSays, ChunkLies, Chunked, openContent, ContentSays, Contented, contentAgrees}
+use Rattle.read_binary.specs.declared.PartRead.{PartRead}
+use Rattle.read_binary.specs.declared.PartRead.the-variants as part-is
 use Rattle.read_binary.specs.declared.ChunkRead.{ChunkRead}
 use Rattle.read_binary.specs.declared.ChunkRead.the-variants as chunk-is
 use Rattle.read_binary.specs.declared.ContentRead.{ContentRead}
 use Rattle.read_binary.specs.declared.ContentRead.the-variants.{Done, Refused}
-use Rattle.read_binary.proofs.Places.{part-length}
+use Rattle.read_binary.proofs.Places.{part-length, part-no, part-got}
 
 pub contented-as : {s : List ℕ} {x y : Got (List Piece)} {o o′ : List ℕ} {r : ContentRead} → x ≡ y → Contented s y o o′ r → Contented s x o o′ r
 contented-as {s} {o = o} {o′ = o′} {r = r} e h = subst (λ (z : Got (List Piece)). Contented s z o o′ r) (sym e) h
@@ -81,3 +90,56 @@ module _ (s : List ℕ) (start len : ℕ) (within : start + len ≤ length s) wh
   chunk-stored cs o₀ {o} {o′} {k} c e q =
       let z : k * 2 ≡ 0 + length (chunksNumbers cs) = omega (arith, numbers-length cs, c) in
       q ∙ rw (e, z, splice-append o₀ 0 (chunksNumbers cs) (start ∷ len ∷ []), numbers-append cs (piece start (take len (drop start s)) ∷ []), part-length s start len within)
+
+-- ---- content of known length
+
+module _ (s : List ℕ) (from : ℕ) {r : PartRead} (h : Parted s (partWithin contentMost from (drop from s)) r) {o o′ : List ℕ} where
+  pub known-no : {n p : ℕ} → r ≡ part-is.Refused n p → Contented s (knownContent from (drop from s)) o o′ (Refused n p)
+  unfolding knownContent _>>=_
+  known-no e = contented-no (rw (part-no h e))
+
+  module _ {a n : ℕ} (e : r ≡ part-is.Is a n) where
+    pub known-none : n ≡ 0 → o′ ≡ o → Contented s (knownContent from (drop from s)) o o′ (Done (a + n) 0 0)
+    unfolding knownContent _>>=_ isEmpty contentOf chunksNumbers
+    known-none z q =
+        contented-got [] (rw (part-got h e .0, part-length s a n (part-got h e .1), eq-eqb n 0 z)) (part-got h e .1) refl refl q
+
+    pub known-one : (n ≡ 0 → ⊥) → o′ ≡ splice o 0 (a ∷ n ∷ []) → Contented s (knownContent from (drop from s)) o o′ (Done (a + n) 1 n)
+    unfolding knownContent _>>=_ isEmpty contentOf chunksNumbers
+    known-one z q = let b = part-got h e .1 in
+        contented-got (piece a (take n (drop a s)) ∷ []) (rw (part-got h e .0, part-length s a n b, ne-eqb n 0 z)) b refl
+        (content-next s a n b [] refl ∙ omega arith) (chunk-stored s a n b [] o refl refl q)
+
+-- ---- content
+
+some-left : (s : List ℕ) (from : ℕ) → from < length s → isEmpty (drop from s) ≡ false
+unfolding isEmpty
+some-left s from h = rw (length-drop from s, ne-eqb (length s - from) 0 (λ z. omega (arith, z)))
+
+module _ (s : List ℕ) (from : ℕ) (known : Bool) {o o′ : List ℕ} where
+  pub content-none : from ≤ length s → length s ≤ from → o′ ≡ o → Contented s (content known from (drop from s)) o o′ (Done from 0 0)
+  unfolding content _>>=_ isEmpty contentOf chunksNumbers
+  content-none g h q =
+      let z : length s - from ≡ 0 = omega arith in
+      contented-got [] (rw (length-drop from s, eq-eqb (length s - from) 0 z)) g refl refl q
+
+  module _ {r : ContentRead} (h : from < length s) where
+    pub content-known : known ≡ true → Contented s (knownContent from (drop from s)) o o′ r → Contented s (content known from (drop from s)) o o′ r
+    unfolding content _>>=_
+    content-known k q = contented-as (rw (some-left s from h, k)) q
+
+    pub content-open : known ≡ false → Contented s (openContent from (drop from s)) o o′ r → Contented s (content known from (drop from s)) o o′ r
+    unfolding content _>>=_
+    content-open k q = contented-as (rw (some-left s from h, k)) q
+
+-- the rule of the content, by what the code asks
+pub rule-agrees : (body : Bool) (f : Framing) (end : ℕ) (cs : List Piece) {n : ℕ} → length (contentOf cs) ≡ n
+    → contentRule body f end cs ≡ cond (contentAgrees f body n) (good cs) (wrong badLength end)
+unfolding contentRule contentAgrees isEmpty
+rule-agrees body f end cs {n} e = rw e (on (agrees f n) body (eqb n 0))
+  where
+    on : (a b c : Bool)
+        → cond a (cond (b || c) (good cs) (wrong badLength end)) (wrong badLength end) ≡ cond (cond a (cond b true c) false) (good cs) (wrong badLength end)
+    on true true c = refl
+    on true false c = refl
+    on false b c = refl

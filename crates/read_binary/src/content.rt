@@ -3,8 +3,9 @@ use crate::ChunkRead;
 use crate::ContentRead;
 use crate::Padding;
 use crate::PartRead;
-use crate::control::part_octets;
 use crate::control::part_within;
+use messages::Framing;
+use messages::sections::does_agree;
 use numbers::Integer;
 use numbers::read_int;
 use octets::Limits;
@@ -16,7 +17,7 @@ ghost use lib.ListN.{length, drop};
 ghost use Rattle.octets.specs.Limits.{contentMost};
 ghost use Rattle.ranges.specs.Ranges.{placesEnd};
 ghost use Rattle.binary.specs.Read.{knownContent, content, padding};
-ghost use Rattle.read_binary.specs.Content.{Chunked, openContent, Contented, Padded};
+ghost use Rattle.read_binary.specs.Content.{Chunked, openContent, Contented, contentAgrees, Padded};
 
 // The zero octets from `from` on, to the end of the input.
 pub fn check_padding(s: &[u8], from: usize) -> Padding
@@ -98,4 +99,63 @@ fn open_content(s: &[u8], from: usize, out: &mut [u32]) -> ContentRead
             }
         }
     }
+}
+
+// Content of known length at `from`: one chunk, or none.
+fn known_content(s: &[u8], from: usize, out: &mut [u32]) -> ContentRead
+    requires { ⌜ (length (now s) < placesEnd) × (512 ≤ length (now out)) ⌝ }
+    ensures { λ r. ⌜ Contented (now (s .entry)) (knownContent from (drop from (now (s .entry)))) (now (out .entry)) (now (out .exit)) r ⌝ }
+{
+    let w = part_within(s, from, Limits::CONTENT);
+    match w {
+        PartRead::Refused { number, place } => return ContentRead::Refused { number, place },
+        PartRead::Is { start, len } => {
+            let end = start + len;
+            if len == 0 {
+                return ContentRead::Done {
+                    end,
+                    chunks: 0,
+                    total: 0,
+                };
+            }
+            store(out, 0, start as u32, len as u32);
+            return ContentRead::Done {
+                end,
+                chunks: 1,
+                total: len,
+            };
+        }
+    }
+}
+
+// The content from `from` on, of known length or in chunks; where the message ends before it there is none.
+pub fn read_content(s: &[u8], from: usize, known: bool, out: &mut [u32]) -> ContentRead
+    requires { ⌜ (from ≤ length (now s)) × (length (now s) < placesEnd) × (512 ≤ length (now out)) ⌝ }
+    ensures { λ r. ⌜ Contented (now (s .entry)) (content known from (drop from (now (s .entry)))) (now (out .entry)) (now (out .exit)) r ⌝ }
+{
+    if s.len() <= from {
+        return ContentRead::Done {
+            end: from,
+            chunks: 0,
+            total: 0,
+        };
+    }
+    if known {
+        return known_content(s, from, out);
+    } else {
+        return open_content(s, from, out);
+    }
+}
+
+// Whether `total` octets of content agree with the length stated, and with a message that may have content or not.
+pub fn content_agrees(framing: Framing, body: bool, total: usize) -> bool
+    ensures { λ r. ⌜ r ≡ contentAgrees framing body total ⌝ }
+{
+    if does_agree(framing, total) {
+        if body {
+            return true;
+        }
+        return total == 0;
+    }
+    false
 }
