@@ -143,3 +143,34 @@ rule-agrees body f end cs {n} e = rw e (on (agrees f n) body (eqb n 0))
     on true true c = refl
     on true false c = refl
     on false b c = refl
+
+-- ---- what the caller learns
+
+pub record ContentDone (s : List ℕ) (x : Got (List Piece)) (o o′ : List ℕ) (end count total : ℕ) : Type 0 where
+  pub chunks : List Piece
+  pub taken : x ≡ got chunks end (drop end s)
+  pub counted : length chunks ≡ count
+  pub octets : length (contentOf chunks) ≡ total
+  pub stored : o′ ≡ splice o 0 (chunksNumbers chunks)
+  pub within : end ≤ length s
+
+module _ {s : List ℕ} {x : Got (List Piece)} {o o′ : List ℕ} {r : ContentRead} (h : Contented s x o o′ r) where
+  pub content-no : {n p : ℕ} → r ≡ Refused n p → x ≡ no n p
+  content-no {n} {p} e = go x (h .says)
+    where
+      go : (y : Got (List Piece)) → ContentSays s y o o′ r → y ≡ no n p
+      go (got cs i l) q = let d = q .0 in cc
+      go (no m k) q = cc
+
+  pub content-done : {end count total : ℕ} → r ≡ Done end count total → ContentDone s x o o′ end count total
+  content-done {end} {count} {total} e = go x (h .says)
+    where
+      go : (y : Got (List Piece)) → ContentSays s y o o′ r → ContentDone s y o o′ end count total
+      go (got cs i l) q =
+          let d = q .0 in
+          let a : i ≡ end = cc in
+          let b : length cs ≡ count = cc in
+          let c : length (contentOf cs) ≡ total = cc in
+          let l′ : l ≡ drop end s = q .2 .1 ∙ rw a in
+          record { chunks = cs; taken = rw (a, l′); counted = b; octets = c; stored = q .1; within = omega (arith, q .2 .0, a) }
+      go (no m k) q = let z : _≡_ {A = ℕ} 0 1 = cc in absurd (omega arith)

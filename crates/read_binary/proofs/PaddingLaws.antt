@@ -31,3 +31,25 @@ module _ (s : List ℕ) (i : ℕ) {x : Got ℕ} (e : x ≡ padding i (drop i s))
   pub padding-end : i ≤ length s → length s ≤ i → Padded s x padding-is.Clean
   unfolding padding
   padding-end g h = padded-as {y = got i i []} (e ∙ rw (drop-of-length-le s h)) (record { says = (refl, omega arith) })
+
+-- ---- what the caller learns
+
+pub record PaddingDone (s : List ℕ) (x : Got ℕ) : Type 0 where
+  pub value : ℕ
+  pub rest : List ℕ
+  pub taken : x ≡ got value (length s) rest
+
+module _ {s : List ℕ} {x : Got ℕ} {r : Padding} (h : Padded s x r) where
+  pub padding-bad : {p : ℕ} → r ≡ padding-is.Bad p → x ≡ no badPadding p
+  padding-bad {p} e = go x (h .says)
+    where
+      go : (y : Got ℕ) → PaddingSays s y r → y ≡ no badPadding p
+      go (got z i l) q = let d = q .0 in cc
+      go (no n k) q = let d = q .0 in let a : k ≡ p = cc in rw (q .1, a)
+
+  pub padding-clean : r ≡ padding-is.Clean → PaddingDone s x
+  padding-clean e = go x (h .says)
+    where
+      go : (y : Got ℕ) → PaddingSays s y r → PaddingDone s y
+      go (got z i l) q = record { value = z; rest = l; taken = rw (q .1) }
+      go (no n k) q = let d = q .0 in let z : _≡_ {A = ℕ} 0 1 = cc in absurd (omega arith)
