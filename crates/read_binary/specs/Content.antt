@@ -53,6 +53,7 @@ ContentSays s (got cs e l) o o′ r =
     (r ≡ content-is.Done e (length cs) (length (contentOf cs))) × (o′ ≡ splice o 0 (chunksNumbers cs)) × GoesOn s e l
 ContentSays s (no n p) o o′ r = r ≡ content-is.Refused n p
 
+-- the promise of content that is read
 pub record Contented (s : List ℕ) (x : Got (List Piece)) (o o′ : List ℕ) (r : ContentRead) : Type 0 where
   pub says : ContentSays s x o o′ r
 
@@ -67,5 +68,6 @@ abbrev pub PaddingSays : List ℕ → Got ℕ → Padding → Type 0
 PaddingSays s (got z e l) r = (r ≡ padding-is.Clean) × (e ≡ length s)
 PaddingSays s (no n p) r = (r ≡ padding-is.Bad p) × (n ≡ badPadding)
 
+-- the promise of padding that is checked
 pub record Padded (s : List ℕ) (x : Got ℕ) (r : Padding) : Type 0 where
   pub says : PaddingSays s x r

@@ -32,6 +32,7 @@ abbrev pub PartSays : List ℕ → Got Piece → PartRead → Type 0
 PartSays s (got w e l) r = (r ≡ Is (w .place) (length (w .text))) × StandsIn s w × (e ≡ w .place + length (w .text)) × GoesOn s e l
 PartSays s (no n p) r = r ≡ Refused n p
 
+-- the promise of a part that is read
 pub record Parted (s : List ℕ) (x : Got Piece) (r : PartRead) : Type 0 where
   pub says : PartSays s x r
 
@@ -41,6 +42,7 @@ mostOf Method = methodMost
 mostOf Authority = authorityMost
 mostOf Path = pathMost
 
+-- the number that the rule of a part gives its octets
 abbrev pub verdictOf : Ruled → List ℕ → ℕ
 verdictOf Method = methodVerdict
 verdictOf Authority = authorityVerdict
@@ -51,6 +53,7 @@ abbrev pub SchemeSays : List ℕ → Got ℕ → SchemeRead → Type 0
 SchemeSays s (got v e l) r = (r ≡ scheme-is.Is v e) × (v < 2) × GoesOn s e l
 SchemeSays s (no n p) r = r ≡ scheme-is.Refused n p
 
+-- the promise of a scheme that is read
 pub record Schemed (s : List ℕ) (x : Got ℕ) (r : SchemeRead) : Type 0 where
   pub says : SchemeSays s x r
 
@@ -69,6 +72,7 @@ ControlSays s (got q e l) r =
     × StandsIn s (q .authority) × StandsIn s (q .path) × GoesOn s e l
 ControlSays s (no n p) r = r ≡ control-is.Refused n p
 
+-- the promise of control data that are read
 pub record Controlled (s : List ℕ) (x : Got RequestControl) (r : ControlRead) : Type 0 where
   pub says : ControlSays s x r
 
