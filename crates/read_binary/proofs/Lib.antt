@@ -4,3 +4,9 @@ pub mod Rest
 pub mod Turns
 pub mod Sections
 pub mod Gathered
+pub mod Places
+pub mod Judged
+pub mod Controls
+pub mod PaddingLaws
+pub mod ChunkTurns
+pub mod Contents

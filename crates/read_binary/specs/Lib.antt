@@ -1,1 +1,3 @@
 pub mod Section
+pub mod Control
+pub mod Content
