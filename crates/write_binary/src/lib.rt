@@ -1,1 +1,2 @@
 // Writing Binary HTTP (RFC 9292).
+pub mod measure; // measure.rt: sizes by numbers
