@@ -29,7 +29,7 @@ pub counted-is : (w : List ℕ) (n : ℕ) → length w ≡ n → intBytes n ++ w
 unfolding counted
 counted-is w n e = rw e
 
-part-length : (s : List ℕ) (from n : ℕ) → length (part s from n) ≡ n
+pub part-length : (s : List ℕ) (from n : ℕ) → length (part s from n) ≡ n
 part-length s from n = elements-length 0 s from n
 
 pub lower-length : (s : List ℕ) (from n : ℕ) → length (map lowerOf (part s from n)) ≡ n

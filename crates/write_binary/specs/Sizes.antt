@@ -53,12 +53,15 @@ unfoldable pub messageSize : Record → List ℕ → List ℕ → List ℕ → �
 messageSize r hs ns ts =
     controlSize (r .response) r hs ns + sectionSize hs (fieldsBefore ns (r .informational)) (r .headers) + countedSize (r .content) + sectionSize ts 0 (r .trailers)
 
--- bounds, so that no sum passes 2 ^ 62: a field's two lengths are of 32 bits; 64 fields; a length of 32 bits with its count
+-- bounds, so that no sum passes 2 ^ 62: a field's two lengths are of 32 bits; 64 fields; four heads; a length of 32 bits with its count
 abbrev pub entryMost : ℕ
 entryMost = 8589934606
 
 abbrev pub fieldsMost : ℕ
 fieldsMost = 549755814784
+
+abbrev pub headsMost : ℕ
+headsMost = 2199023259200
 
 abbrev pub partMost : ℕ
 partMost = 4294967303
