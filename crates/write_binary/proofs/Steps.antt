@@ -1,20 +1,21 @@
 -- Steps of the loops that measure, and of those that write.
 use Prim.Native.Nat.{ℕ, zero, suc, _+_, _-_, _*_, _<_, _≤_}
 use mathlib.Core.Path.{_≡_, refl, sym, ap, _∙_}
-use mathlib.Core.List.{List, [], _∷_, _++_}
+use mathlib.Core.List.{List, [], _∷_, _++_, map}
 use native.Mathlib.Nat.{add-zero, sub-zero}
 use native.Mathlib.Omega.{arith}
 use lib.ListN.{length, getD, length-append}
 use borrow.Author.Tests.{eq-eqb, ne-eqb}
 use Rattle.octets.specs.Ascii.{ascii}
+use Rattle.octets.specs.Text.{lowerOf}
 use Rattle.numbers.specs.Integer.{integerEnd, intLen, tagOf, intBytes}
 use Rattle.numbers.specs.Places.{push}
 use Rattle.numbers.proofs.IntegerLaws.{int-some}
 use Rattle.output.specs.Splice.{splice, part, Put, Left}
 use Rattle.output.proofs.Laws.{elements-length, put-then, left-start, left-step, left-end}
-use Rattle.messages.specs.Meaning.{contentOf}
-use Rattle.ranges.specs.Entries.{chunksIn, fieldsBefore}
-use Rattle.write_binary.specs.Write.{counted, schemeBytes}
+use Rattle.messages.specs.Meaning.{fieldMeans, contentOf}
+use Rattle.ranges.specs.Entries.{fieldIn, chunksIn, fieldsBefore}
+use Rattle.write_binary.specs.Write.{counted, fieldBytes, schemeBytes}
 use Rattle.write_binary.specs.Sizes.{countedSize, entrySize, fieldsSize, sectionSize, headSize, headsSize, schemeSize}
 
 -- ---- measuring
@@ -119,3 +120,11 @@ module _ (s cs : List ℕ) (i n : ℕ) {o₀ bs₀ o o₁ : List ℕ} {at₀ n�
       → Left o₀ at₀ bs₀ n₀ o a (contentOf (chunksIn s cs i (n - i))) (length (contentOf (chunksIn s cs i (n - i)))) → Put o a (part s from len) len o₁ r
       → Left o₀ at₀ bs₀ n₀ o₁ r (contentOf (chunksIn s cs (i + 1) (n - (i + 1)))) (length (contentOf (chunksIn s cs (i + 1) (n - (i + 1)))))
   left-chunk h e q l p = left-more (content-more s cs i n h) (content-room s cs i n h) l (rw (e, q) at p)
+
+-- name and value of an entry, one behind the other
+module _ (s ranges : List ℕ) (k : ℕ) {o o₁ o₂ : List ℕ} {at a r name nlen value vlen : ℕ} where
+  pub put-field : name ≡ getD ranges (k * 4) 0 → nlen ≡ getD ranges (k * 4 + 1) 0 → value ≡ getD ranges (k * 4 + 2) 0 → vlen ≡ getD ranges (k * 4 + 3) 0
+      → Put o at (counted (map lowerOf (part s name nlen))) (countedSize nlen) o₁ a → Put o₁ a (counted (part s value vlen)) (countedSize vlen) o₂ r
+      → Put o at (fieldBytes (fieldMeans (fieldIn s ranges k))) (entrySize ranges k) o₂ r
+  unfolding fieldBytes fieldMeans
+  put-field e f g h p q = put-then (rw (e, f) at p) (rw (g, h) at q)

@@ -60,3 +60,25 @@ fn put_scheme(out: &mut [u8], at: usize, scheme: u32) -> usize
     }
     put_text(out, at, b"\x05https")
 }
+
+// The field of the entry k.
+fn put_entry(out: &mut [u8], at: usize, s: &[u8], ranges: &[u32], k: usize) -> usize
+    requires { ⌜ (k * 4 + 4 ≤ length (now ranges)) × EntryWithin (length (now s)) (now ranges) k × (at + entrySize (now ranges) k ≤ length (now out)) ⌝ }
+    ensures { λ r. ⌜ Put (now (out .entry)) at (fieldBytes (fieldMeans (fieldIn (now (s .entry)) (now (ranges .entry)) k))) (entrySize (now (ranges .entry)) k) (now (out .exit)) r ⌝ }
+{
+    let name = number_at(ranges, k * 4);
+    let nlen = number_at(ranges, k * 4 + 1);
+    let value = number_at(ranges, k * 4 + 2);
+    let vlen = number_at(ranges, k * 4 + 3);
+    let a = put_counted_lower(out, at, s, name, nlen);
+    put_counted(out, a, s, value, vlen)
+}
+
+// The content: its chunks one behind the other, with their count in front.
+fn put_content(out: &mut [u8], at: usize, s: &[u8], chunks: &[u32], n: usize, len: usize) -> usize
+    requires { ⌜ ChunksWithin (length (now s)) (now chunks) n × (length (contentOf (chunksIn (now s) (now chunks) 0 n)) ≡ len) × (len < integerEnd) × (at + countedSize len ≤ length (now out)) ⌝ }
+    ensures { λ r. ⌜ Put (now (out .entry)) at (counted (contentOf (chunksIn (now (s .entry)) (now (chunks .entry)) 0 n))) (countedSize len) (now (out .exit)) r ⌝ }
+{
+    let a = put_int(out, at, len);
+    put_chunks(out, a, s, chunks, n)
+}
