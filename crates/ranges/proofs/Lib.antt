@@ -1,3 +1,4 @@
 pub mod Stored
 pub mod Outcomes
 pub mod ByValue
+pub mod Entries

@@ -1,0 +1,130 @@
+-- Steps of the loops that measure, and of those that write.
+use Prim.Native.Nat.{ℕ, zero, suc, _+_, _-_, _*_, _<_, _≤_}
+use mathlib.Core.Path.{_≡_, refl, sym, ap, _∙_}
+use mathlib.Core.List.{List, [], _∷_, _++_, map}
+use native.Mathlib.Nat.{add-zero, sub-zero}
+use native.Mathlib.Omega.{arith}
+use lib.ListN.{length, getD, length-append}
+use borrow.Author.Tests.{eq-eqb, ne-eqb}
+use Rattle.octets.specs.Ascii.{ascii}
+use Rattle.octets.specs.Text.{lowerOf}
+use Rattle.numbers.specs.Integer.{integerEnd, intLen, tagOf, intBytes}
+use Rattle.numbers.specs.Places.{push}
+use Rattle.numbers.proofs.IntegerLaws.{int-some}
+use Rattle.output.specs.Splice.{splice, part, Put, Left}
+use Rattle.output.proofs.Laws.{elements-length, put-then, left-start, left-step, left-end}
+use Rattle.messages.specs.Meaning.{fieldMeans, contentOf}
+use Rattle.ranges.specs.Entries.{fieldIn, chunksIn, fieldsBefore}
+use Rattle.write_binary.specs.Write.{counted, fieldBytes, schemeBytes}
+use Rattle.write_binary.specs.Sizes.{countedSize, entrySize, fieldsSize, sectionSize, headSize, headsSize, schemeSize}
+
+-- ---- measuring
+
+pub counted-most : (n : ℕ) → n < integerEnd → countedSize n ≤ n + 8
+counted-most n h = omega (arith, int-some n h)
+
+module _ (ranges : List ℕ) (k n : ℕ) where
+  pub size-start : 0 + fieldsSize ranges (k + 0) (n - 0) ≡ fieldsSize ranges k n
+  size-start = rw (add-zero k, sub-zero n) (omega arith)
+
+  pub size-more : (i : ℕ) → i < n → fieldsSize ranges (k + i) (n - i) ≡ entrySize ranges (k + i) + fieldsSize ranges (k + (i + 1)) (n - (i + 1))
+  unfolding fieldsSize
+  size-more i h =
+      let e : n - i ≡ suc (n - (i + 1)) = omega arith in
+      let a : k + (i + 1) ≡ k + i + 1 = omega arith in
+      rw (e, a)
+
+  pub size-none : (i : ℕ) → n ≤ i → fieldsSize ranges (k + i) (n - i) ≡ 0
+  unfolding fieldsSize
+  size-none i h = let e : n - i ≡ 0 = omega arith in rw e
+
+module _ (hs ns : List ℕ) (n : ℕ) where
+  pub heads-start : 0 + headsSize hs ns 0 (n - 0) ≡ headsSize hs ns 0 n
+  heads-start = rw (sub-zero n) (omega arith)
+
+  pub heads-size-more : (i : ℕ) → i < n → headsSize hs ns i (n - i) ≡ headSize hs ns i + headsSize hs ns (i + 1) (n - (i + 1))
+  unfolding headsSize
+  heads-size-more i h = let e : n - i ≡ suc (n - (i + 1)) = omega arith in rw e
+
+  pub heads-size-none : (i : ℕ) → n ≤ i → headsSize hs ns i (n - i) ≡ 0
+  unfolding headsSize
+  heads-size-none i h = let e : n - i ≡ 0 = omega arith in rw e
+
+pub scheme-http : (n : ℕ) → n ≡ 0 → schemeSize n ≡ 5
+unfolding schemeSize
+scheme-http n e = rw (eq-eqb n 0 e)
+
+pub scheme-https : (n : ℕ) → (n ≡ 0 → ⊥) → schemeSize n ≡ 6
+unfolding schemeSize
+scheme-https n e = rw (ne-eqb n 0 e)
+
+module _ (hs ns : List ℕ) (i : ℕ) where
+  pub head-as : {status k count x : ℕ} → status ≡ getD ns (i * 2) 0 → k ≡ fieldsBefore ns i → count ≡ getD ns (i * 2 + 1) 0
+      → x ≡ intLen status + sectionSize hs k count → x ≡ headSize hs ns i
+  head-as a b c e = e ∙ rw (a, b, c)
+
+-- ---- writing
+
+pub put-as : {o o₁ a b : List ℕ} {at n r : ℕ} → a ≡ b → Put o at a n o₁ r → Put o at b n o₁ r
+put-as e p = rw e at p
+
+http-is : 4 ∷ ascii "http" ≡ counted (ascii "http")
+unfolding counted intBytes intLen tagOf push
+http-is = refl
+
+https-is : 5 ∷ ascii "https" ≡ counted (ascii "https")
+unfolding counted intBytes intLen tagOf push
+https-is = refl
+
+module _ {o o₁ : List ℕ} {at r n : ℕ} where
+  pub put-http : n ≡ 0 → Put o at (4 ∷ ascii "http") 5 o₁ r → Put o at (counted (schemeBytes n)) (schemeSize n) o₁ r
+  unfolding schemeBytes
+  put-http e p = rw (scheme-http n e, eq-eqb n 0 e) (put-as http-is p)
+
+  pub put-https : (n ≡ 0 → ⊥) → Put o at (5 ∷ ascii "https") 6 o₁ r → Put o at (counted (schemeBytes n)) (schemeSize n) o₁ r
+  unfolding schemeBytes
+  put-https e p = rw (scheme-https n e, ne-eqb n 0 e) (put-as https-is p)
+
+-- what is left begins with what is put
+pub left-more : {o₀ bs₀ o o₁ a b bs : List ℕ} {at₀ n₀ at m n k r : ℕ} → bs ≡ a ++ b → k ≡ m + n
+    → Left o₀ at₀ bs₀ n₀ o at bs k → Put o at a m o₁ r → Left o₀ at₀ bs₀ n₀ o₁ r b n
+left-more e q l p = left-step (rw (e, q) at l) p
+
+-- nothing is left
+pub left-over : {o₀ bs₀ o bs : List ℕ} {at₀ n₀ at k : ℕ} → bs ≡ [] → k ≡ 0 → length bs₀ ≡ n₀ → Left o₀ at₀ bs₀ n₀ o at bs k → Put o₀ at₀ bs₀ n₀ o at
+left-over e z q l = left-end q (rw (e, z) at l)
+
+module _ (s cs : List ℕ) where
+  content-more : (i n : ℕ) → i < n
+      → contentOf (chunksIn s cs i (n - i)) ≡ part s (getD cs (i * 2) 0) (getD cs (i * 2 + 1) 0) ++ contentOf (chunksIn s cs (i + 1) (n - (i + 1)))
+  unfolding chunksIn contentOf
+  content-more i n h = let e : n - i ≡ suc (n - (i + 1)) = omega arith in rw e
+
+  pub content-room : (i n : ℕ) → i < n
+      → length (contentOf (chunksIn s cs i (n - i))) ≡ getD cs (i * 2 + 1) 0 + length (contentOf (chunksIn s cs (i + 1) (n - (i + 1))))
+  content-room i n h =
+      let rest : List ℕ = contentOf (chunksIn s cs (i + 1) (n - (i + 1))) in
+      ap length (content-more i n h) ∙ length-append (part s (getD cs (i * 2) 0) (getD cs (i * 2 + 1) 0)) rest
+      ∙ ap (λ (x : ℕ). x + length rest) (elements-length 0 s (getD cs (i * 2) 0) (getD cs (i * 2 + 1) 0))
+
+  pub content-none : (i n : ℕ) → n ≤ i → contentOf (chunksIn s cs i (n - i)) ≡ []
+  unfolding chunksIn contentOf
+  content-none i n h = let e : n - i ≡ 0 = omega arith in rw e
+
+  pub content-begin : (o : List ℕ) (at n : ℕ)
+      → Left o at (contentOf (chunksIn s cs 0 n)) (length (contentOf (chunksIn s cs 0 n))) o at (contentOf (chunksIn s cs 0 (n - 0))) (length (contentOf (chunksIn s cs 0 (n - 0))))
+  content-begin o at n = rw (sub-zero n) (left-start o at _ _)
+
+module _ (s cs : List ℕ) (i n : ℕ) {o₀ bs₀ o o₁ : List ℕ} {at₀ n₀ a r from len : ℕ} where
+  pub left-chunk : i < n → from ≡ getD cs (i * 2) 0 → len ≡ getD cs (i * 2 + 1) 0
+      → Left o₀ at₀ bs₀ n₀ o a (contentOf (chunksIn s cs i (n - i))) (length (contentOf (chunksIn s cs i (n - i)))) → Put o a (part s from len) len o₁ r
+      → Left o₀ at₀ bs₀ n₀ o₁ r (contentOf (chunksIn s cs (i + 1) (n - (i + 1)))) (length (contentOf (chunksIn s cs (i + 1) (n - (i + 1)))))
+  left-chunk h e q l p = left-more (content-more s cs i n h) (content-room s cs i n h) l (rw (e, q) at p)
+
+-- name and value of an entry, one behind the other
+module _ (s ranges : List ℕ) (k : ℕ) {o o₁ o₂ : List ℕ} {at a r name nlen value vlen : ℕ} where
+  pub put-field : name ≡ getD ranges (k * 4) 0 → nlen ≡ getD ranges (k * 4 + 1) 0 → value ≡ getD ranges (k * 4 + 2) 0 → vlen ≡ getD ranges (k * 4 + 3) 0
+      → Put o at (counted (map lowerOf (part s name nlen))) (countedSize nlen) o₁ a → Put o₁ a (counted (part s value vlen)) (countedSize vlen) o₂ r
+      → Put o at (fieldBytes (fieldMeans (fieldIn s ranges k))) (entrySize ranges k) o₂ r
+  unfolding fieldBytes fieldMeans
+  put-field e f g h p q = put-then (rw (e, f) at p) (rw (g, h) at q)

@@ -1,0 +1,33 @@
+use mathlib.Core.Path.{_≡_, refl, sym, ap, _∙_}
+use native.Mathlib.Omega.{arith}
+use borrow.Author.Needs.{needs}
+use Rattle.output.proofs.Laws.{put-then}
+use Rattle.write_binary.proofs.Lengths.{counted-is, part-length, lower-length}
+use Rattle.write_binary.proofs.Steps.{put-as}
+use borrow.Author.Needs.{needs}
+use Rattle.write_binary.proofs.put.put_counted_lower.Statement.{statement}
+use Rattle.write_binary.proofs.put.put_counted_lower.Tie as tie
+use Rattle.write_binary.proofs.put.put_counted_lower.Reads as reads
+use Rattle.write_binary.proofs.put.put_counted_lower.Lts as lts
+use Rattle.output.proofs.put_int.Reads as put-int-reads
+use Rattle.output.proofs.put_lower.Reads as put-lower-reads
+
+-- src/put.rt:38:9
+put-int-requires : tie.Need-put-int-requires
+put-int-requires c κs = search needs
+
+-- src/put.rt:39:5
+put-lower-requires : tie.Need-put-lower-requires
+put-lower-requires c κs = search needs
+
+-- src/put.rt:34:1
+same-length : tie.Need-same-length
+same-length c = search needs
+
+-- src/put.rt:34:1
+returns : tie.Need-returns
+returns c = put-as (counted-is _ _ (lower-length _ _ _)) (put-then (c .before .before .before .before .before .before .put-int .ensures) (c .before .before .put-lower .ensures))
+
+pub put-counted-lower-spec : {M : Type 1} → statement M
+put-counted-lower-spec =
+    tie.close (tie.spec put-int-requires put-lower-requires same-length returns)

@@ -1,0 +1,84 @@
+// The parts of a message written as Binary, each at a place of the lent octets; the answer is the place behind it.
+use output::put_int;
+use output::put_lower;
+use output::put_part;
+use output::put_text;
+use ranges::number_at;
+ghost use mathlib.Core.Path.{_≡_};
+ghost use mathlib.Core.List.{List, map, _++_};
+ghost use Prim.Native.Nat.{ℕ, _+_, _*_, _≤_, _<_};
+ghost use lib.ListN.{length};
+ghost use Rattle.octets.specs.Text.{lowerOf};
+ghost use Rattle.numbers.specs.Integer.{integerEnd, intLen, intBytes};
+ghost use Rattle.output.specs.Splice.{part, Put};
+ghost use Rattle.messages.specs.Meaning.{fieldMeans, contentOf};
+ghost use Rattle.ranges.specs.Entries.{fieldIn, fieldsIn, chunksIn, headsIn, partIn, controlIn, meaningIn, EntryWithin, FieldsWithin, HeadsWithin, ChunksWithin, MessageWithin};
+ghost use Rattle.write_binary.specs.Write.{counted, fieldBytes, fieldsBytes, sectionBytes, schemeBytes, informationalBytes, controlBytes, binaryOf};
+ghost use Rattle.write_binary.specs.Sizes.{countedSize, entrySize, fieldsSize, sectionSize, headsSize, schemeSize, controlSize, messageSize};
+
+// So many octets of the source with their count in front.
+fn put_counted(out: &mut [u8], at: usize, s: &[u8], from: usize, len: usize) -> usize
+    requires { ⌜ (len < integerEnd) × (from + len ≤ length (now s)) × (at + countedSize len ≤ length (now out)) ⌝ }
+    ensures { λ r. ⌜ Put (now (out .entry)) at (counted (part (now (s .entry)) from len)) (countedSize len) (now (out .exit)) r ⌝ }
+{
+    let a = put_int(out, at, len);
+    put_part(out, a, s, from, len)
+}
+
+// The same in lower case.
+fn put_counted_lower(out: &mut [u8], at: usize, s: &[u8], from: usize, len: usize) -> usize
+    requires { ⌜ (len < integerEnd) × (from + len ≤ length (now s)) × (at + countedSize len ≤ length (now out)) ⌝ }
+    ensures { λ r. ⌜ Put (now (out .entry)) at (counted (map lowerOf (part (now (s .entry)) from len))) (countedSize len) (now (out .exit)) r ⌝ }
+{
+    let a = put_int(out, at, len);
+    put_lower(out, a, s, from, len)
+}
+
+// The first n chunks one behind the other.
+fn put_chunks(out: &mut [u8], at: usize, s: &[u8], chunks: &[u32], n: usize) -> usize
+    requires { ⌜ ChunksWithin (length (now s)) (now chunks) n × (at + length (contentOf (chunksIn (now s) (now chunks) 0 n)) ≤ length (now out)) ⌝ }
+    ensures { λ r. ⌜ Put (now (out .entry)) at (contentOf (chunksIn (now (s .entry)) (now (chunks .entry)) 0 n)) (length (contentOf (chunksIn (now (s .entry)) (now (chunks .entry)) 0 n))) (now (out .exit)) r ⌝ }
+{
+    let mut i = 0;
+    let mut a = at;
+    while i < n {
+        let from = number_at(chunks, i * 2);
+        let len = number_at(chunks, i * 2 + 1);
+        a = put_part(out, a, s, from, len);
+        i += 1;
+    }
+    a
+}
+
+// The name of a scheme with its count: 0 is http, any other https.
+fn put_scheme(out: &mut [u8], at: usize, scheme: u32) -> usize
+    requires { ⌜ at + schemeSize scheme ≤ length (now out) ⌝ }
+    ensures { λ r. ⌜ Put (now (out .entry)) at (counted (schemeBytes scheme)) (schemeSize scheme) (now (out .exit)) r ⌝ }
+{
+    if scheme == 0 {
+        return put_text(out, at, b"\x04http");
+    }
+    put_text(out, at, b"\x05https")
+}
+
+// The field of the entry k.
+fn put_entry(out: &mut [u8], at: usize, s: &[u8], ranges: &[u32], k: usize) -> usize
+    requires { ⌜ (k * 4 + 4 ≤ length (now ranges)) × EntryWithin (length (now s)) (now ranges) k × (at + entrySize (now ranges) k ≤ length (now out)) ⌝ }
+    ensures { λ r. ⌜ Put (now (out .entry)) at (fieldBytes (fieldMeans (fieldIn (now (s .entry)) (now (ranges .entry)) k))) (entrySize (now (ranges .entry)) k) (now (out .exit)) r ⌝ }
+{
+    let name = number_at(ranges, k * 4);
+    let nlen = number_at(ranges, k * 4 + 1);
+    let value = number_at(ranges, k * 4 + 2);
+    let vlen = number_at(ranges, k * 4 + 3);
+    let a = put_counted_lower(out, at, s, name, nlen);
+    put_counted(out, a, s, value, vlen)
+}
+
+// The content: its chunks one behind the other, with their count in front.
+fn put_content(out: &mut [u8], at: usize, s: &[u8], chunks: &[u32], n: usize, len: usize) -> usize
+    requires { ⌜ ChunksWithin (length (now s)) (now chunks) n × (length (contentOf (chunksIn (now s) (now chunks) 0 n)) ≡ len) × (len < integerEnd) × (at + countedSize len ≤ length (now out)) ⌝ }
+    ensures { λ r. ⌜ Put (now (out .entry)) at (counted (contentOf (chunksIn (now (s .entry)) (now (chunks .entry)) 0 n))) (countedSize len) (now (out .exit)) r ⌝ }
+{
+    let a = put_int(out, at, len);
+    put_chunks(out, a, s, chunks, n)
+}
