@@ -1,10 +1,11 @@
 // Ranges of messages in lent arrays of numbers: what every reader stores and every writer finds.
 ghost use mathlib.Core.Path.{_≡_};
 ghost use mathlib.Core.List.{[], _∷_};
-ghost use Prim.Native.Nat.{_+_, _*_, _≤_};
-ghost use lib.ListN.{length};
+ghost use Prim.Native.Nat.{_+_, _*_, _≤_, _<_};
+ghost use lib.ListN.{length, getD};
 ghost use Rattle.output.specs.Splice.{splice};
-ghost use Rattle.ranges.specs.Ranges.{Kept};
+ghost use Rattle.ranges.specs.Ranges.{placesEnd, Kept};
+ghost use Rattle.ranges.specs.Entries.{fieldsBefore};
 
 // Two numbers are stored as the entry k: start and length of a chunk, or status and number of kept fields of an informational head.
 pub fn store(out: &mut [u32], k: usize, a: u32, b: u32)
@@ -36,6 +37,34 @@ pub fn keep(
         out[at + 1 + 1] = value;
         out[at + 1 + 1 + 1] = vlen;
         return k + 1;
+    }
+    k
+}
+
+fn wide(n: u32) -> usize
+    ensures { λ r. ⌜ (r ≡ n) × (r < placesEnd) ⌝ }
+{
+    n as usize
+}
+
+// The number at the place i of ranges.
+pub fn number_at(ranges: &[u32], i: usize) -> usize
+    requires { ⌜ i < length (now ranges) ⌝ }
+    ensures { λ r. ⌜ (r ≡ getD (now (ranges .entry)) i 0) × (r < placesEnd) ⌝ }
+{
+    wide(ranges[i])
+}
+
+// How many fields the first n informational heads have: the fields of the head behind them begin at that entry.
+pub fn fields_before(heads: &[u32], n: usize) -> usize
+    requires { ⌜ (n * 2 ≤ length (now heads)) × (n ≤ 4) ⌝ }
+    ensures { λ r. ⌜ r ≡ fieldsBefore (now (heads .entry)) n ⌝ }
+{
+    let mut i = 0;
+    let mut k = 0;
+    while i < n {
+        k += number_at(heads, i * 2 + 1);
+        i += 1;
     }
     k
 }

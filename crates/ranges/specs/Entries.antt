@@ -1,0 +1,108 @@
+-- A message by its numbers alone: what the entries of lent ranges name in the octets of a source, with a zero for each number past an end. Writers say by
+-- these what they write, and `Held` (Ranges) makes of it the message that was read.
+use Prim.Native.Nat.{ℕ, zero, suc, _+_, _*_, _<_, _≤_}
+use mathlib.Core.Path.{_≡_}
+use mathlib.Core.Bool.{Bool, true, false}
+use mathlib.Core.List.{List, [], _∷_, map}
+use lib.ListN.{length, getD}
+use Rattle.octets.specs.Limits.{linesMost, chunksMost, contentMost, informationalMost}
+use Rattle.script.specs.Do.{Piece, piece}
+use Rattle.output.specs.Splice.{part}
+use Rattle.messages.specs.Message.{FieldRead}
+use Rattle.messages.specs.Meaning.{Informational, Control, request, response, Meaning, fieldMeans, contentOf}
+use Rattle.messages.specs.declared.Part.{Part}
+use Rattle.messages.specs.declared.Record.{Record}
+
+-- ---- what the numbers name
+
+-- the field that the entry k names: start and length of its name, start and length of its value
+abbrev pub fieldIn : List ℕ → List ℕ → ℕ → FieldRead
+fieldIn s ranges k =
+    record {
+      name = piece (getD ranges (k * 4) 0) (part s (getD ranges (k * 4) 0) (getD ranges (k * 4 + 1) 0));
+      value = piece (getD ranges (k * 4 + 2) 0) (part s (getD ranges (k * 4 + 2) 0) (getD ranges (k * 4 + 3) 0));
+    }
+
+-- the fields of n entries from the entry k on
+unfoldable pub fieldsIn : List ℕ → List ℕ → ℕ → ℕ → List FieldRead
+fieldsIn s ranges k zero = []
+fieldsIn s ranges k (suc n) = fieldIn s ranges k ∷ fieldsIn s ranges (k + 1) n
+
+-- the chunk that the entry k names: start and length
+abbrev pub chunkIn : List ℕ → List ℕ → ℕ → Piece
+chunkIn s cs k = piece (getD cs (k * 2) 0) (part s (getD cs (k * 2) 0) (getD cs (k * 2 + 1) 0))
+
+-- the chunks of n entries from the entry k on
+unfoldable pub chunksIn : List ℕ → List ℕ → ℕ → ℕ → List Piece
+chunksIn s cs k zero = []
+chunksIn s cs k (suc n) = chunkIn s cs k ∷ chunksIn s cs (k + 1) n
+
+-- how many fields the first i informational heads have together: the fields of the head i begin at that entry
+unfoldable pub fieldsBefore : List ℕ → ℕ → ℕ
+fieldsBefore ns zero = 0
+fieldsBefore ns (suc i) = fieldsBefore ns i + getD ns (i * 2 + 1) 0
+
+-- the informational head i: its status, and as many fields as its entry says
+abbrev pub headIn : List ℕ → List ℕ → List ℕ → ℕ → Informational
+headIn s hs ns i = record { status = getD ns (i * 2) 0; fields = map fieldMeans (fieldsIn s hs (fieldsBefore ns i) (getD ns (i * 2 + 1) 0)) }
+
+-- n informational heads from the head i on
+unfoldable pub headsIn : List ℕ → List ℕ → List ℕ → ℕ → ℕ → List Informational
+headsIn s hs ns i zero = []
+headsIn s hs ns i (suc n) = headIn s hs ns i ∷ headsIn s hs ns (i + 1) n
+
+-- the octets of a part
+abbrev pub partIn : List ℕ → Part → List ℕ
+partIn s p = part s (p .start) (p .len)
+
+-- the control data: of a response, or of a request
+abbrev pub controlIn : Bool → List ℕ → Record → List ℕ → List ℕ → Control
+controlIn true s r hs ns = response (headsIn s hs ns 0 (r .informational)) (r .status)
+controlIn false s r hs ns = request (partIn s (r .method)) (r .scheme) (partIn s (r .authority)) (partIn s (r .path))
+
+-- the meaning of the message that a record and ranges name in s
+unfoldable pub meaningIn : List ℕ → Record → List ℕ → List ℕ → List ℕ → List ℕ → Meaning
+meaningIn s r hs ns cs ts =
+    record {
+      control = controlIn (r .response) s r hs ns;
+      headers = map fieldMeans (fieldsIn s hs (fieldsBefore ns (r .informational)) (r .headers));
+      content = contentOf (chunksIn s cs 0 (r .chunks));
+      trailers = map fieldMeans (fieldsIn s ts 0 (r .trailers));
+    }
+
+-- ---- that the numbers are within a source of n octets and within the lent entries
+
+-- name and value of the entry k
+pub record EntryWithin (n : ℕ) (ranges : List ℕ) (k : ℕ) : Type 0 where
+  pub name : getD ranges (k * 4) 0 + getD ranges (k * 4 + 1) 0 ≤ n
+  pub value : getD ranges (k * 4 + 2) 0 + getD ranges (k * 4 + 3) 0 ≤ n
+
+-- a section of c fields from the entry k on
+pub record FieldsWithin (n : ℕ) (ranges : List ℕ) (k c : ℕ) : Type 0 where
+  pub entries : (k + c) * 4 ≤ length ranges
+  pub few : c ≤ linesMost
+  pub each : (j : ℕ) → j < c → EntryWithin n ranges (k + j)
+
+-- the first c informational heads
+pub record HeadsWithin (n : ℕ) (hs ns : List ℕ) (c : ℕ) : Type 0 where
+  pub entries : c * 2 ≤ length ns
+  pub few : c ≤ informationalMost
+  pub each : (j : ℕ) → j < c → FieldsWithin n hs (fieldsBefore ns j) (getD ns (j * 2 + 1) 0)
+
+-- the first c chunks
+pub record ChunksWithin (n : ℕ) (cs : List ℕ) (c : ℕ) : Type 0 where
+  pub entries : c * 2 ≤ length cs
+  pub few : c ≤ chunksMost
+  pub each : (j : ℕ) → j < c → getD cs (j * 2) 0 + getD cs (j * 2 + 1) 0 ≤ n
+
+-- a whole message by its record and ranges
+pub record MessageWithin (s : List ℕ) (r : Record) (hs ns cs ts : List ℕ) : Type 0 where
+  pub method : r .method .start + r .method .len ≤ length s
+  pub authority : r .authority .start + r .authority .len ≤ length s
+  pub path : r .path .start + r .path .len ≤ length s
+  pub heads : HeadsWithin (length s) hs ns (r .informational)
+  pub headers : FieldsWithin (length s) hs (fieldsBefore ns (r .informational)) (r .headers)
+  pub chunks : ChunksWithin (length s) cs (r .chunks)
+  pub content : length (contentOf (chunksIn s cs 0 (r .chunks))) ≡ r .content
+  pub small : r .content ≤ contentMost
+  pub trailers : FieldsWithin (length s) ts 0 (r .trailers)
