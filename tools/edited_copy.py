@@ -84,9 +84,9 @@ class Copy:
     def restore(self, name):
         shutil.copy(os.path.join(ROOT, name), self.path(name))
 
-    def dev(self, *words):
-        """What `rt dev` prints of the crate, with paths from the copy's folder on, and its exit status."""
-        done = subprocess.run(["rt", "dev", self.crate, *words], cwd=self.folder, stdout=subprocess.PIPE, stderr=subprocess.STDOUT, text=True, env=dict(os.environ, RT_CUT="0"))
+    def rt(self, command, *words):
+        """What `rt` prints of a command on the crate, with paths from the copy's folder on, and its exit status."""
+        done = subprocess.run(["rt", command, self.crate, *words], cwd=self.folder, stdout=subprocess.PIPE, stderr=subprocess.STDOUT, text=True, env=dict(os.environ, RT_CUT="0"))
         return done.stdout.replace(self.folder + "/", ""), done.returncode
 
 
