@@ -44,12 +44,18 @@ def replace_once(text, old, new, where):
 
 
 def built_on(crate):
-    """What a crate is built on, by crates.txt."""
-    for line in open(os.path.join(ROOT, "crates.txt")):
-        name, colon, rest = line.partition(":")
-        if colon and name == crate:
-            return rest.split()
-    raise BadEdit(f"crates.txt has no crate {crate}")
+    """What a crate is built on by crates.txt, and what those are built on. (io, libc and os, of the toolchain, have no line.)"""
+    lines = (line.partition(":") for line in open(os.path.join(ROOT, "crates.txt")) if not line.startswith("#"))
+    below = {name: rest.split() for name, colon, rest in lines if colon}
+    if crate not in below:
+        raise BadEdit(f"crates.txt has no crate {crate}")
+    found, left = set(), [crate]
+    while left:
+        for name in below.get(left.pop(), []):
+            if name not in found:
+                found.add(name)
+                left.append(name)
+    return sorted(found)
 
 
 class Copy:
