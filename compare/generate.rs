@@ -1,16 +1,20 @@
 //! `generate SET COUNT SEED`: command lines of the comparing protocol, for `reference` and `probe` alike.
 //!
-//! SET is `h1`, `binary`, `turn`, `field` or `all` (COUNT random cases, the same for the same SEED),
-//! or `fixed` (COUNT and SEED are not used; a further argument `h1`, `binary`, `turn` or `field` picks a part).
+//! SET is `h1`, `binary`, `turn`, `field`, `stream` or `all` (COUNT random cases, the same for the same SEED), or
+//! `fixed` (COUNT and SEED are not used; a further argument `h1`, `binary`, `turn`, `field` or `stream` picks a part).
 //!
 //! Build: rustc -O -o target/compare/generate compare/generate.rs
 
+#[path = "generate/binary.rs"]
+mod binary;
 #[path = "generate/fixed.rs"]
 mod fixed;
 #[path = "generate/messages.rs"]
 mod messages;
 #[path = "reference/mod.rs"]
 mod reference;
+#[path = "generate/streams.rs"]
+mod streams;
 
 use messages::Maker;
 use std::io::{self, BufWriter, Write};
@@ -100,7 +104,7 @@ pub fn turn_line(turn: Turn, scheme: u64, room: usize, input: &[u8]) -> String {
     }
 }
 
-fn scheme(random: &mut Random) -> u64 {
+pub fn scheme(random: &mut Random) -> u64 {
     // numbers that would be 0 or 1 in a narrower type are among the others
     const OTHERS: [u64; 9] = [2, 3, 7, 10, 255, 256, 257, 65_536, 4_294_967_295];
     match random.below(40) {
@@ -190,7 +194,7 @@ fn field_case(maker: &mut Maker) -> String {
 }
 
 fn usage() -> ! {
-    eprintln!("usage: generate h1|binary|turn|field|all COUNT SEED | generate fixed 0 0 [h1|binary|turn|field]");
+    eprintln!("usage: generate h1|binary|turn|field|stream|all COUNT SEED | generate fixed 0 0 [h1|binary|turn|field|stream]");
     std::process::exit(2);
 }
 
@@ -205,7 +209,7 @@ fn main() {
 
     if arguments[0] == "fixed" {
         let part = arguments.get(3).map(|s| s.as_str());
-        if !matches!(part, None | Some("h1" | "binary" | "turn" | "field")) {
+        if !matches!(part, None | Some("h1" | "binary" | "turn" | "field" | "stream")) {
             usage();
         }
         for line in fixed::cases() {
@@ -224,10 +228,12 @@ fn main() {
         "binary" => binary_case,
         "turn" => turn_case,
         "field" => field_case,
+        "stream" => streams::case,
         "all" => |maker| match maker.random.below(20) {
             0..=7 => h1_case(maker),
             8..=11 => binary_case(maker),
-            12..=17 => turn_case(maker),
+            12..=16 => turn_case(maker),
+            17 => streams::case(maker),
             _ => field_case(maker),
         },
         _ => usage(),
@@ -248,6 +254,7 @@ fn part_of(line: &str) -> &'static str {
         "bin" => "binary",
         "h1req2bin" | "h1resp2bin" | "bin2h1" | "bin2bin" => "turn",
         "field_h1req" | "field_h1resp" | "field_bin" => "field",
+        "stream" => "stream",
         _ => "h1",
     }
 }

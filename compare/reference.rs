@@ -11,7 +11,7 @@ mod selftest;
 
 use reference::message::*;
 use reference::octets::*;
-use reference::{binary, http1, writing};
+use reference::{binary, http1, streams, writing};
 use std::io::{self, BufRead, BufReader, BufWriter, Write};
 
 // ---------------------------------------------------------------------------------------- the input's words
@@ -212,6 +212,27 @@ fn listing_answer(stream: &[u8]) -> String {
     format!("{{\"text\":\"{}\"}}", writing::listing(stream).replace('\n', "\\n"))
 }
 
+fn stream_answer(scheme: Option<Scheme>, room: u128, tail: &[u8], inputs: &[Vec<u8>]) -> String {
+    let written = streams::write(inputs, scheme, room);
+    let stream = [&written.octets[..], tail].concat();
+    let taken = streams::take_off(&stream, scheme);
+    let mut out = String::from("{\"calls\":");
+    push_list(&mut out, &written.calls, |out, call| match call {
+        Ok(length) => out.push_str(&format!("{{\"len\":{},\"n\":0}}", length)),
+        Err(refusal) => out.push_str(&refused(*refusal)),
+    });
+    out.push_str(&format!(",\"end\":{},", refused(taken.end)));
+    push_hex_member(&mut out, "out", &written.octets);
+    out.push_str(&format!(",\"rest\":{},\"taken\":", taken.rest));
+    push_list(&mut out, &taken.messages, |out, (start, message)| {
+        out.push_str(&format!("[{},", message.length));
+        push_meaning(out, &stream[*start..], message);
+        out.push(']');
+    });
+    out.push('}');
+    out
+}
+
 /// The answer to one command line; None if it is no command.
 fn command(line: &[u8]) -> Option<String> {
     let words: Vec<&[u8]> = line.split(|&b| b == b' ').collect();
@@ -252,6 +273,11 @@ fn command(line: &[u8]) -> Option<String> {
             field_answer(binary::read(&bytes_of(hex)?), &bytes_of(name)?, &bytes_of(default)?)
         }
         (b"listing", [hex]) => listing_answer(&bytes_of(hex)?),
+        (b"stream", [scheme, room, tail, inputs @ ..]) => {
+            let (scheme, room, tail) = (scheme_of(scheme)?, decimal(room)?, bytes_of(tail)?);
+            let inputs: Vec<Vec<u8>> = inputs.iter().map(|hex| bytes_of(hex)).collect::<Option<_>>()?;
+            stream_answer(scheme, room, &tail, &inputs)
+        }
         _ => return None,
     })
 }

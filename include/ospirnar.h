@@ -47,6 +47,10 @@ uint32_t ospirnar_read_request(const uint8_t *input, size_t input_len, uint32_t 
 /* The first HTTP/1.1 response of a stream. */
 uint32_t ospirnar_read_response(const uint8_t *input, size_t input_len, uint32_t *ranges, size_t ranges_len, size_t *place);
 
+/* The listing of an HTTP/1.1 request stream under http, as the listing program prints it, into `output`; *place is its length. All behind it stays as
+ * it was. 13 at 0 where it does not fit; nothing else is refused. */
+uint32_t ospirnar_listing(const uint8_t *input, size_t input_len, uint8_t *output, size_t output_len, size_t *place);
+
 #ifdef __cplusplus
 }
 #endif

@@ -1,12 +1,14 @@
 //! The fixed cases: figures, 01's examples, each size at its limit and next to it, truncations, each octet in each
 //! place, statuses, integers.
 
+use crate::binary;
 use crate::messages::push_form;
 use crate::reference::figures::*;
+use crate::streams;
 use crate::{hex, needed, turn_line, Turn};
 
-const A: &[u8] = b"POST /s HTTP/1.1\r\nHost: a\r\nContent-Length: 3\r\n\r\nabc";
-const P5: &str = "0004504f535404687474700161022f73000361626300";
+pub const A: &[u8] = b"POST /s HTTP/1.1\r\nHost: a\r\nContent-Length: 3\r\n\r\nabc";
+pub const P5: &str = "0004504f535404687474700161022f73000361626300";
 
 pub fn cases() -> Vec<String> {
     let mut out = Cases { lines: Vec::new() };
@@ -21,26 +23,28 @@ pub fn cases() -> Vec<String> {
     statuses(&mut out);
     integers(&mut out);
     told_schemes(&mut out);
+    binary::cases(&mut out);
+    streams::cases(&mut out);
     no_commands(&mut out);
     out.lines
 }
 
-fn unhex(text: &str) -> Vec<u8> {
+pub fn unhex(text: &str) -> Vec<u8> {
     let digits: Vec<u8> = text.bytes().filter_map(|b| (b as char).to_digit(16).map(|d| d as u8)).collect();
     digits.chunks(2).map(|pair| pair[0] * 16 + pair.get(1).copied().unwrap_or(0)).collect()
 }
 
-struct Cases {
-    lines: Vec<String>,
+pub struct Cases {
+    pub lines: Vec<String>,
 }
 
 impl Cases {
-    fn push(&mut self, line: String) {
+    pub fn push(&mut self, line: String) {
         self.lines.push(line);
     }
 
     /// A turning with rooms around what it needs.
-    fn turn(&mut self, turn: Turn, scheme: u64, input: &[u8]) {
+    pub fn turn(&mut self, turn: Turn, scheme: u64, input: &[u8]) {
         let rooms = match needed(turn, scheme, input) {
             Some(size) if size > 10_000 => vec![size - 1, size],
             Some(size) => vec![0, 1, size - 1, size, size + 1, size + 100],
@@ -52,7 +56,7 @@ impl Cases {
     }
 
     /// Every command that meets an HTTP/1.1 request.
-    fn request(&mut self, input: impl AsRef<[u8]>) {
+    pub fn request(&mut self, input: impl AsRef<[u8]>) {
         let input = input.as_ref();
         self.push(format!("h1req 0 {}", hex(input)));
         self.push(format!("listing {}", hex(input)));
@@ -63,7 +67,7 @@ impl Cases {
     }
 
     /// Every command that meets an HTTP/1.1 response.
-    fn response(&mut self, input: impl AsRef<[u8]>) {
+    pub fn response(&mut self, input: impl AsRef<[u8]>) {
         let input = input.as_ref();
         self.push(format!("h1resp {}", hex(input)));
         self.turn(Turn::ResponseToBinary, 0, input);
@@ -73,7 +77,7 @@ impl Cases {
     }
 
     /// Every command that meets Binary HTTP.
-    fn binary(&mut self, input: impl AsRef<[u8]>) {
+    pub fn binary(&mut self, input: impl AsRef<[u8]>) {
         let input = input.as_ref();
         self.push(format!("bin {}", hex(input)));
         self.turn(Turn::BinaryToHttp1, 0, input);
@@ -93,7 +97,7 @@ impl Cases {
 
 // ---------------------------------------------------------------------------------------- Binary messages by hand
 
-fn string(out: &mut Vec<u8>, bytes: &[u8]) {
+pub fn string(out: &mut Vec<u8>, bytes: &[u8]) {
     let form = if bytes.len() < 64 { 0 } else if bytes.len() < 16_384 { 1 } else { 2 };
     push_form(out, bytes.len() as u64, form);
     out.extend_from_slice(bytes);
@@ -109,21 +113,21 @@ fn lines_of(fields: &[(Vec<u8>, Vec<u8>)]) -> Vec<u8> {
 }
 
 #[derive(Clone)]
-struct Plan {
-    method: Vec<u8>,
-    scheme: Vec<u8>,
-    authority: Vec<u8>,
-    path: Vec<u8>,
+pub struct Plan {
+    pub method: Vec<u8>,
+    pub scheme: Vec<u8>,
+    pub authority: Vec<u8>,
+    pub path: Vec<u8>,
     /// None: a request.
-    statuses: Option<Vec<u64>>,
+    pub statuses: Option<Vec<u64>>,
     /// Of the informational heads.
-    early: Vec<(Vec<u8>, Vec<u8>)>,
-    headers: Vec<(Vec<u8>, Vec<u8>)>,
-    chunks: Vec<Vec<u8>>,
-    trailers: Vec<(Vec<u8>, Vec<u8>)>,
+    pub early: Vec<(Vec<u8>, Vec<u8>)>,
+    pub headers: Vec<(Vec<u8>, Vec<u8>)>,
+    pub chunks: Vec<Vec<u8>>,
+    pub trailers: Vec<(Vec<u8>, Vec<u8>)>,
 }
 
-fn request_plan() -> Plan {
+pub fn request_plan() -> Plan {
     Plan {
         method: b"GET".to_vec(),
         scheme: b"http".to_vec(),
@@ -137,23 +141,23 @@ fn request_plan() -> Plan {
     }
 }
 
-fn response_plan(statuses: &[u64]) -> Plan {
+pub fn response_plan(statuses: &[u64]) -> Plan {
     Plan { statuses: Some(statuses.to_vec()), ..request_plan() }
 }
 
-fn empty_fields(count: usize) -> Vec<(Vec<u8>, Vec<u8>)> {
+pub fn empty_fields(count: usize) -> Vec<(Vec<u8>, Vec<u8>)> {
     vec![(b"b".to_vec(), Vec::new()); count]
 }
 
-fn field(name: &str, size: usize) -> (Vec<u8>, Vec<u8>) {
+pub fn field(name: &str, size: usize) -> (Vec<u8>, Vec<u8>) {
     (name.as_bytes().to_vec(), vec![b'v'; size])
 }
 
 impl Plan {
-    fn known(&self) -> Vec<u8> {
+    pub fn known(&self) -> Vec<u8> {
         self.encode(true)
     }
-    fn indeterminate(&self) -> Vec<u8> {
+    pub fn indeterminate(&self) -> Vec<u8> {
         self.encode(false)
     }
     fn encode(&self, known: bool) -> Vec<u8> {
@@ -198,7 +202,7 @@ impl Plan {
     }
 }
 
-fn both_framings(out: &mut Cases, plan: &Plan) {
+pub fn both_framings(out: &mut Cases, plan: &Plan) {
     out.binary(plan.known());
     out.binary(plan.indeterminate());
 }
@@ -592,7 +596,7 @@ fn listings(out: &mut Cases) {
 
 // ---------------------------------------------------------------------------------------- truncations
 
-const REQUESTS: [&str; 11] = [
+pub const REQUESTS: [&str; 11] = [
     "POST /s HTTP/1.1\r\nHost: a\r\nContent-Length: 3\r\n\r\nabc",
     "GET /t HTTP/1.1\r\nHost: a\r\n\r\n",
     "PUT /a?b HTTP/1.1\r\nAccept: x\r\nHOST:\t[::1]:80 \r\nB: \r\nContent-Length: 0004\r\n\r\n\r\n\r\nGET / HTTP/1.1\r\n",

@@ -6,10 +6,12 @@ pub struct Maker {
     pub random: Random,
     /// Most messages valid, for the cases that need accepted ones.
     pub calm: bool,
+    /// Short contents and values, many of them looking like the framing of HTTP/1.1: for the lists of `stream`.
+    pub small: bool,
     /// How many of 1000 decisions go wrong in the message being made.
-    faults: usize,
+    pub faults: usize,
     /// The same for those that touch framing and meaning only: lengths, codings, hosts, chunk sizes, trailer names.
-    sharp_faults: usize,
+    pub sharp_faults: usize,
 }
 
 type Pair = (Vec<u8>, Vec<u8>);
@@ -21,7 +23,7 @@ const DROPPED_NAMES: [&str; 5] = ["connection", "keep-alive", "proxy-connection"
 
 impl Maker {
     pub fn new(random: Random) -> Maker {
-        Maker { random, calm: false, faults: 0, sharp_faults: 0 }
+        Maker { random, calm: false, small: false, faults: 0, sharp_faults: 0 }
     }
 
     fn bad(&mut self) -> bool {
@@ -154,7 +156,7 @@ impl Maker {
                 }
                 out
             }
-            2 => {
+            2 if !self.small => {
                 let size = [62, 63, 64, 65, 100, 127, 128, 255, 256, 300][self.random.below(10)];
                 vec![b'v'; size]
             }
@@ -166,6 +168,9 @@ impl Maker {
         let count = self.random.below(most + 1);
         (0..count)
             .map(|_| {
+                if self.small && self.random.chance(5) {
+                    return self.framing_look();
+                }
                 let name = match self.random.below(10) {
                     0 => self.token(12),
                     1 | 2 => DROPPED_NAMES[self.random.below(DROPPED_NAMES.len())].as_bytes().to_vec(),
@@ -183,7 +188,49 @@ impl Maker {
         }
     }
 
+    /// A kept field that looks like a statement of a length, a start line or a chunk.
+    fn framing_look(&mut self) -> Pair {
+        const LOOKS: [(&str, &str); 14] = [
+            ("x-content-length", "5"), ("content-length-x", "0"), ("content_length", "3"), ("transfer-encodings", "chunked"),
+            ("a", "content-length: 5"), ("b", "transfer-encoding: chunked"), ("get", "/ HTTP/1.1"), ("0", ""), ("5", "abcde"),
+            ("http-1.1", "200"), ("trailer", "content-length"), ("hosts", "b"), ("x-host", "host: b"), ("content-lengt", "h: 5"),
+        ];
+        let (name, value) = LOOKS[self.random.below(LOOKS.len())];
+        (name.as_bytes().to_vec(), value.as_bytes().to_vec())
+    }
+
+    /// Short contents, many of which look like requests, chunks or statements of a length.
+    fn framing_content(&mut self) -> Vec<u8> {
+        const LOOKS: [&[u8]; 14] = [
+            b"GET /x HTTP/1.1\r\nHost: evil\r\n\r\n",
+            b"POST /x HTTP/1.1\r\nHost: evil\r\nContent-Length: 500\r\n\r\n",
+            b"GET /x HTTP/1.1\r\nHost: ev",
+            b"0\r\n\r\n",
+            b"\r\n0\r\n\r\n",
+            b"0\r\n\r\nGET / HTTP/1.1\r\nHost: a\r\n\r\n",
+            b"3\r\nabc\r\n0\r\n\r\n",
+            b"\r\n0\r\nt: u\r\n\r\n",
+            b"5\r\nab",
+            b"\r\n",
+            b"\n",
+            b"HTTP/1.1 200 OK\r\n\r\n",
+            b"content-length: 5\r\n\r\n",
+            b"\r\n\r\n",
+        ];
+        match self.random.below(6) {
+            0 | 1 => Vec::new(),
+            2 | 3 => LOOKS[self.random.below(LOOKS.len())].to_vec(),
+            _ => {
+                let size = 1 + self.random.below(20);
+                (0..size).map(|_| self.random.octet()).collect()
+            }
+        }
+    }
+
     fn content(&mut self) -> Vec<u8> {
+        if self.small {
+            return self.framing_content();
+        }
         match self.random.below(8) {
             0 => Vec::new(),
             1 => b"GET /x HTTP/1.1\r\nHost: evil\r\n\r\n".to_vec(),
@@ -200,7 +247,7 @@ impl Maker {
     }
 
     /// Octets flipped, put in, taken out, doubled or swapped for those that matter.
-    fn mutate(&mut self, bytes: &mut Vec<u8>) {
+    pub fn mutate(&mut self, bytes: &mut Vec<u8>) {
         const SHARP: &[u8] = b"\r\n\r\n \t:;,0159afAF/#\x00\x01\x3f\x40\x7f\x80\xc0\xff";
         let times = 1 + self.random.below(3);
         for _ in 0..times {
@@ -447,7 +494,7 @@ impl Maker {
         out
     }
 
-    fn request(&mut self) -> Vec<u8> {
+    pub fn request(&mut self) -> Vec<u8> {
         let mut out = Vec::new();
         if self.bad() {
             out.extend_from_slice(self.random.pick(&["\r\n", "\n", " ", "\r", "\r\n\r\n"]).as_bytes());
@@ -512,7 +559,7 @@ impl Maker {
         out.extend_from_slice(self.line_end());
     }
 
-    fn response(&mut self) -> Vec<u8> {
+    pub fn response(&mut self) -> Vec<u8> {
         let mut out = Vec::new();
         if self.bad() {
             out.extend_from_slice(self.random.pick(&["\r\n", "\n", " ", "\r"]).as_bytes());
@@ -824,16 +871,22 @@ impl Maker {
                 fields.push((b"content-length".to_vec(), text.into_bytes()));
             }
         }
-        if self.random.chance(10) {
-            let value = self.value();
+        if self.random.chance(if self.small { 4 } else { 10 }) {
+            let value = if self.small && self.random.chance(2) { b"chunked".to_vec() } else { self.value() };
             fields.push((b"transfer-encoding".to_vec(), value));
         }
         fields
     }
 
     fn binary(&mut self) -> Vec<u8> {
+        let framing = self.random.below(4) as u64;
+        self.binary_of(framing, None)
+    }
+
+    /// A message of this framing and, if it is a request, of this scheme (0 http, 1 https).
+    pub fn binary_of(&mut self, framing: u64, wanted: Option<u64>) -> Vec<u8> {
         let mut out = Vec::new();
-        let mut framing = self.random.below(4) as u64;
+        let mut framing = framing;
         let (request, known) = (framing & 1 == 0, framing < 2);
         if self.bad() {
             framing = [4, 5, 63, 64, 1 << 32, (1 << 62) - 1][self.random.below(6)];
@@ -848,7 +901,9 @@ impl Maker {
             let scheme: &[u8] = if self.bad() {
                 let bad: [&[u8]; 7] = [b"", b"ftp", b"HTTP", b"httpss", b"htt", b"http ", b"https:"];
                 self.random.pick(&bad)
-            } else if self.random.chance(3) {
+            } else if wanted == Some(0) {
+                b"http"
+            } else if wanted == Some(1) || self.random.chance(3) {
                 b"https"
             } else {
                 b"http"
@@ -969,7 +1024,7 @@ impl Maker {
     }
 
     /// Binary messages at the sizes of 01, and those whose turning passes a size.
-    fn big_binary(&mut self) -> Vec<u8> {
+    pub fn big_binary(&mut self) -> Vec<u8> {
         let known = self.random.chance(2);
         let mut out = Vec::new();
         let mut fields: Vec<Pair> = Vec::new();
@@ -1028,8 +1083,11 @@ impl Maker {
                 // indeterminate, of which the known length is longer
                 let total = self.near(65_535);
                 self.faults = 0;
-                push_form(&mut out, 3, 0);
-                push_form(&mut out, 200, 1);
+                if self.random.chance(2) {
+                    out.extend_from_slice(b"\x03\x40\xc8");
+                } else {
+                    out.extend_from_slice(b"\x02\x03GET\x04http\x01a\x01/");
+                }
                 push_form(&mut out, 1, 0);
                 out.push(b'a');
                 let value = total - out.len() - 4 - [1, 3][self.random.below(2)];

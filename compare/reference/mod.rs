@@ -11,4 +11,5 @@ pub mod figures;
 pub mod http1;
 pub mod message;
 pub mod octets;
+pub mod streams;
 pub mod writing;

@@ -64,6 +64,7 @@ pub fn run(answer: fn(&[u8]) -> String) -> usize {
     http1(&mut t);
     binary(&mut t);
     writing(&mut t);
+    streams(&mut t);
     protocol(&mut t);
     println!("{} passed, {} failed", t.passed, t.failed);
     t.failed
@@ -460,6 +461,124 @@ fn writing(t: &mut Tests) {
     );
     t.says("R30 trailer is no header", &format!("field_bin 747261696c6572 - {}", FIGURE_13), &field(0, "default", 0, 0, 0));
     t.says("R30 Figure 8", &format!("field_bin 6163636570742d6c616e6775616765 - {}", FIGURE_8), &field(0, "message", 6, 0, 127));
+}
+
+/// The command `stream`: the calls' answers, the end and what is left there, the written text, the meanings taken off.
+fn streams(t: &mut Tests) {
+    let answer = |calls: &str, end: (u32, usize), out: &str, rest: usize, taken: &str| {
+        let (n, at) = end;
+        let out = if out.is_empty() { String::new() } else { hex(out.as_bytes()) };
+        format!(
+            "{{\"calls\":[{calls}],\"end\":{{\"at\":{at},\"n\":{n}}},\"out\":\"{out}\",\"rest\":{rest},\"taken\":[{taken}]}}"
+        )
+    };
+    let meaning = |method: &str, path: &str, content: &str, headers: &str, trailers: &str| {
+        let (method, path) = (hex(method.as_bytes()), hex(path.as_bytes()));
+        let content = if content.is_empty() { String::new() } else { hex(content.as_bytes()) };
+        format!(
+            "{{\"authority\":\"61\",\"content\":\"{content}\",\"headers\":[{headers}],\"k\":\"req\",\"method\":\"{method}\",\
+             \"path\":\"{path}\",\"scheme\":\"http\",\"trailers\":[{trailers}]}}"
+        )
+    };
+    let post = "POST /s HTTP/1.1\r\nhost: a\r\ncontent-length: 3\r\n\r\nabc";
+    let get = "GET / HTTP/1.1\r\nhost: a\r\n\r\n"; // 16 + 9 + 2
+    let post_meaning = meaning("POST", "/s", "abc", "", "");
+    let get_meaning = meaning("GET", "/", "", "", "");
+    let short = "000347455404687474700161012f00";
+    let yes = |length: usize| format!("{{\"len\":{length},\"n\":0}}");
+    let no = |number: u32, place: usize| format!("{{\"at\":{place},\"n\":{number}}}");
+
+    t.says("stream of no call", "stream 0 0 -", &answer("", (1, 0), "", 0, ""));
+    t.says("stream of no call, scheme 2", "stream 2 9 6162", &answer("", (4, 0), "", 2, ""));
+    t.says("stream of no call, cut", "stream 1 0 474554", &answer("", (1, 3), "", 3, ""));
+    t.says(
+        "stream of no call, A, then LF",
+        &format!("stream 0 0 {}0a0d", hex(A.as_bytes())),
+        &answer("", (2, 0), "", 2, &format!("[51,{post_meaning}]")),
+    );
+    t.says(
+        "stream, exact",
+        &format!("stream 0 78 - {P5} {short}"),
+        &answer(
+            &[yes(51), yes(27)].join(","),
+            (1, 0),
+            &[post, get].concat(),
+            0,
+            &format!("[51,{post_meaning}],[27,{get_meaning}]"),
+        ),
+    );
+    t.says(
+        "stream, one too small",
+        &format!("stream 0 77 78 {P5} {short}"),
+        &answer(&[yes(51), no(13, 0)].join(","), (1, 1), post, 1, &format!("[51,{post_meaning}]")),
+    );
+    // the second does not fit behind the first, the third does; the last has no room left
+    t.says(
+        "stream, later ones go on",
+        &format!("stream 0 54 0d0a {short} {P5} {short} {short}"),
+        &answer(
+            &[yes(27), no(13, 0), yes(27), no(13, 0)].join(","),
+            (2, 0),
+            &[get, get].concat(),
+            2,
+            &format!("[27,{get_meaning}],[27,{get_meaning}]"),
+        ),
+    );
+    // refused for their own sake: framing 4, empty, the other scheme, a wrong content-length
+    let other = short.replace("0468747470", "056874747073");
+    let wrong = "000347455404687474700161012f110e636f6e74656e742d6c656e6774680131";
+    t.says(
+        "stream, refused calls",
+        &format!("stream 0 999 - 04 - {other} {short} {wrong} {P5}01"),
+        &answer(
+            &[no(10, 0), no(9, 0), no(14, 0), yes(27), no(7, 32), no(12, 22)].join(","),
+            (1, 0),
+            get,
+            0,
+            &format!("[27,{get_meaning}]"),
+        ),
+    );
+    t.says(
+        "stream, the tail is a request",
+        &format!("stream 0 27 {}47 {short}", hex(A.as_bytes())),
+        &answer(&yes(27), (1, 1), get, 1, &format!("[27,{get_meaning}],[51,{post_meaning}]")),
+    );
+    // a response is written, and no request: version 3
+    t.says(
+        "stream, a response",
+        &format!("stream 0 99 - {short} 0140cc00 {short}"),
+        &answer(
+            &[yes(27), yes(17), yes(27)].join(","),
+            (3, 0),
+            &[get, "HTTP/1.1 204 \r\n\r\n", get].concat(),
+            44,
+            &format!("[27,{get_meaning}]"),
+        ),
+    );
+    // chunked-looking content that is written as a chunk, beside a dropped statement of a coding
+    let coding = "117472616e736665722d656e636f64696e67076368756e6b6564";
+    let headers = format!("1d{coding}017800");
+    let input = format!("0003505554 0468747470 0161 012f {headers} 05300d0a0d0a 03017400").replace(' ', "");
+    let text = "PUT / HTTP/1.1\r\nhost: a\r\ntransfer-encoding: chunked\r\nx: \r\n\r\n5\r\n0\r\n\r\n\r\n0\r\nt: \r\n\r\n";
+    let content = "0\r\n\r\n";
+    t.says(
+        "stream, chunked-looking content",
+        &format!("stream 0 999 31 {input}"),
+        &answer(
+            &yes(text.len()),
+            (1, 1),
+            text,
+            1,
+            &format!("[{},{}]", text.len(), meaning("PUT", "/", content, "[\"78\",\"\"]", "[\"74\",\"\"]")),
+        ),
+    );
+    t.says("stream, scheme 2", &format!("stream 2 999 - {P5} -"), &answer(&[no(4, 0), no(4, 0)].join(","), (4, 0), "", 0, ""));
+    for line in [
+        "stream", "stream 0", "stream 0 0", "stream 0 0 ", "stream 0 0 0", "stream 0 0 zz", "stream a 0 -", "stream 0 a -", "stream 0 -1 -",
+        "stream 0 0 - 0", "stream 0 0 - - AA", "stream 0 0 - ", "stream 0 0 -  -", "stream  0 0 -",
+    ] {
+        t.says(&format!("bad command '{}'", line), line, "{\"error\":\"bad command\"}");
+    }
 }
 
 fn section_length(lines: usize) -> String {

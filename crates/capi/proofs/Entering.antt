@@ -1,144 +1,20 @@
 -- From a reader's outcome and ranges to an entry's answer.
-use Prim.Native.Nat.{ℕ, zero, suc, _+_, _-_, _*_, _<_, _≤_}
+use Prim.Native.Nat.{ℕ, _*_, _≤_}
 use mathlib.Core.Path.{_≡_, refl, sym, ap, ap₂, _∙_, subst}
-use mathlib.Core.List.{List, [], _∷_, _++_}
-use mathlib.Core.Bool.{Bool, true, false, cond, _&&_}
-use native.Mathlib.Omega.{arith}
-use borrow.Author.Tests.{leb-true}
-use lib.Dec.{leb}
-use lib.ListN.{length, take, drop, length-append, length-map}
-use lib.Seq.{take-append-seam}
-use Rattle.octets.specs.Limits.{linesMost, chunksMost, contentMost}
-use Rattle.octets.proofs.Kit.{and-split}
-use Rattle.script.specs.Script.{Answer, accepted, refused, more}
-use Rattle.output.specs.Splice.{splice, part}
-use Rattle.output.proofs.Laws.{splice-is, splice-length, elements-take}
+use mathlib.Core.List.{List, _++_}
+use lib.ListN.{length}
 use Rattle.octets.specs.Refusals.{moreNeeded}
-use Rattle.script.specs.Do.{Piece}
-use Rattle.messages.specs.Message.{FieldRead, Start, requestStart, responseStart, isResponse, Message}
+use Rattle.script.specs.Script.{Answer, refused, more}
+use Rattle.output.specs.Splice.{part}
+use Rattle.messages.specs.Message.{FieldRead, isResponse, Message}
 use Rattle.messages.specs.Names.{kept, keptTrailers}
-use Rattle.messages.specs.Meaning.{contentOf, meaning}
-use Rattle.messages.specs.Valid.{valid}
-use Rattle.messages.specs.Answers.{fieldsNumbers, chunksNumbers, informationalNumbers, informationalLines, informationalIn, padded, recordFrom, recordOf}
-use Rattle.messages.proofs.Noting.{kept-few}
-use Rattle.messages.proofs.Valid.{meaning-ok}
-use Rattle.sound.specs.Sound.{Sound, GoodHeads}
-use Rattle.read_http1.proofs.Stored.{numbers-length}
-use Rattle.capi.specs.Entries.{recordNumbers, SmallRecord, entryNumbers, Entered, Numbered}
+use Rattle.messages.specs.Answers.{fieldsNumbers, chunksNumbers, informationalNumbers, informationalLines, informationalIn, padded, recordOf}
 use Rattle.messages.specs.declared.Record.{Record}
-use Rattle.messages.specs.declared.Outcome.{Outcome}
-use Rattle.messages.specs.declared.Outcome.the-variants as outcome
-use Rattle.readers.specs.Readers.{OutcomeSays, Outcomed}
+use Rattle.ranges.proofs.Stored.{numbers-length}
+use Rattle.ranges.proofs.Outcomes.{Given, front-part, chunks-size, record-length, record-chunks, record-trailers}
+use Rattle.capi.specs.Entries.{recordNumbers, entryNumbers, Entered, Numbered}
 
--- what was stored at the front is what is taken from there
-pub front-part : (o l : List ℕ) (n : ℕ) → length l ≡ n → n ≤ length o → part (splice o 0 l) 0 n ≡ l
-front-part o l n e h =
-    let z : 0 + length l ≤ length o = omega (arith, e, h) in
-    let g : 0 + n ≤ length (splice o 0 l) = omega (arith, splice-length o 0 l, h) in
-    elements-take 0 (splice o 0 l) 0 n g ∙ ap (λ (x : List ℕ). take n x) (splice-is o 0 l z) ∙ rw (sym e) (take-append-seam l (drop (0 + length l) o))
-
--- a message that was read
-pub record Given (x : Answer Message) (hs hs′ cs cs′ ts ts′ : List ℕ) (r : Record) : Type 0 where
-  pub long : ℕ
-  pub message : Message
-  pub taken : x ≡ accepted long message
-  pub numbers : r ≡ recordOf long message
-  pub fields : hs′ ≡ splice hs 0 (fieldsNumbers (informationalLines (informationalIn (message .start)) ++ kept (isResponse (message .start)) (message .lines)))
-  pub pieces : cs′ ≡ splice cs 0 (chunksNumbers (message .chunks))
-  pub trailers : ts′ ≡ splice ts 0 (fieldsNumbers (keptTrailers (message .trailers)))
-
-no-message : {A : Type 0} {k p : ℕ} {r : Record} → outcome.Refusal k p ≡ outcome.Message r → A
-no-message e = let z : _≡_ {A = ℕ} 0 1 = cc in absurd (omega arith)
-
-no-more : {A : Type 0} {r : Record} → outcome.More ≡ outcome.Message r → A
-no-more e = let z : _≡_ {A = ℕ} 0 1 = cc in absurd (omega arith)
-
-module _ {x : Answer Message} {hs hs′ cs cs′ ts ts′ : List ℕ} {o : Outcome} (h : Outcomed x hs hs′ cs cs′ ts ts′ o) where
-  pub given-message : (r : Record) → o ≡ outcome.Message r → Given x hs hs′ cs cs′ ts ts′ r
-  given-message r e = go x (h .says)
-    where
-      go : (y : Answer Message) → OutcomeSays y hs hs′ cs cs′ ts ts′ o → Given y hs hs′ cs cs′ ts ts′ r
-      go (accepted n m) q =
-          let z : outcome.Message r ≡ outcome.Message (recordOf n m) = sym e ∙ q .0 in
-          record { long = n; message = m; taken = refl; numbers = cc; fields = q .1; pieces = q .2; trailers = q .3 }
-      go (refused k p) q = no-message (sym q ∙ e)
-      go more q = no-more (sym q ∙ e)
-
-  pub given-refusal : (k p : ℕ) → o ≡ outcome.Refusal k p → x ≡ refused k p
-  given-refusal k p e = go x (h .says)
-    where
-      go : (y : Answer Message) → OutcomeSays y hs hs′ cs cs′ ts ts′ o → y ≡ refused k p
-      go (accepted n m) q = no-message (sym e ∙ q .0)
-      go (refused i j) q = let z : outcome.Refusal i j ≡ outcome.Refusal k p = sym q ∙ e in cc
-      go more q = let z : outcome.More ≡ outcome.Refusal k p = sym q ∙ e in cc
-
-  pub given-more : o ≡ outcome.More → x ≡ more
-  given-more e = go x (h .says)
-    where
-      go : (y : Answer Message) → OutcomeSays y hs hs′ cs cs′ ts ts′ o → y ≡ more
-      go (accepted n m) q = no-more (sym e ∙ q .0)
-      go (refused i j) q = let z : outcome.Refusal i j ≡ outcome.More = sym q ∙ e in cc
-      go more q = refl
-
--- ---- counts
-
-chunks-size : (cs : List Piece) → length (chunksNumbers cs) ≡ length cs * 2
-unfolding chunksNumbers
-chunks-size [] = refl
-chunks-size (c ∷ cs) = omega (arith, chunks-size cs)
-
-record-length : (n : ℕ) (m : Message) → recordOf n m .length ≡ n
-unfolding recordOf
-record-length n m = go (m .start)
-  where
-    go : (st : Start) → recordFrom st n m .length ≡ n
-    go (requestStart q s a p) = refl
-    go (responseStart hs s) = refl
-
-record-chunks : (n : ℕ) (m : Message) → recordOf n m .chunks ≡ length (m .chunks)
-unfolding recordOf
-record-chunks n m = go (m .start)
-  where
-    go : (st : Start) → recordFrom st n m .chunks ≡ length (m .chunks)
-    go (requestStart q s a p) = refl
-    go (responseStart hs s) = refl
-
-record-trailers : (n : ℕ) (m : Message) → recordOf n m .trailers ≡ length (keptTrailers (m .trailers))
-unfolding recordOf
-record-trailers n m = go (m .start)
-  where
-    go : (st : Start) → recordFrom st n m .trailers ≡ length (keptTrailers (m .trailers))
-    go (requestStart q s a p) = refl
-    go (responseStart hs s) = refl
-
-content-small : (m : Message) → valid (meaning m) ≡ true → length (contentOf (m .chunks)) ≤ contentMost
-unfolding meaning
-content-small m v = meaning-ok (meaning m) v .content
-
--- the counts of a sound message are within the sizes
-pub sound-small : (s : List ℕ) (n : ℕ) (m : Message) → Sound s m → SmallRecord (recordOf n m)
-unfolding recordOf keptTrailers
-sound-small s n m h = go (m .start) (h .heads)
-  where
-    go : (st : Start) → GoodHeads st → SmallRecord (recordFrom st n m)
-    go (requestStart q c a p) g =
-        record {
-          heads = omega arith;
-          headers = omega (arith, kept-few false (m .lines), h .lines .few);
-          chunks = h .chunks .few;
-          content = content-small m (h .valid);
-          trailers = omega (arith, kept-few false (m .trailers), h .trailers .few);
-        }
-    go (responseStart hs c) g =
-        record {
-          heads = g .1;
-          headers = omega (arith, kept-few true (m .lines), h .lines .few);
-          chunks = h .chunks .few;
-          content = content-small m (h .valid);
-          trailers = omega (arith, kept-few false (m .trailers), h .trailers .few);
-        }
-
--- ---- an accepted message, given by its numbers
+-- an accepted message, given by its numbers
 
 module _ {x : Answer Message} {hs hs′ cs cs′ ts ts′ : List ℕ} {r : Record} (g : Given x hs hs′ cs cs′ ts ts′ r) where
   unfoldable pub all-fields : List FieldRead

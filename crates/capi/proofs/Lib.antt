@@ -2,3 +2,4 @@ pub mod Giving
 pub mod Entering
 pub mod RequestEntry
 pub mod ResponseEntry
+pub mod Serving

@@ -16,8 +16,10 @@ use Rattle.messages.specs.declared.Record.{Record}
 use Rattle.http1.specs.Read.{readRequest}
 use Rattle.http1_laws.specs.Read.{IsRequest, SoundRequest}
 use Rattle.http1_laws.proofs.Sound.{request-sound}
-use Rattle.capi.specs.Entries.{recordNumbers, SmallRecord, Entered, Numbered}
-use Rattle.capi.proofs.Entering.{Given, all-fields, sound-small, entered}
+use Rattle.ranges.specs.Ranges.{SmallRecord}
+use Rattle.ranges.proofs.Outcomes.{Given, sound-small}
+use Rattle.capi.specs.Entries.{recordNumbers, Entered, Numbered}
+use Rattle.capi.proofs.Entering.{all-fields, entered}
 
 module _ (t : Told) (s : List ℕ) {hs hs′ cs cs′ ts ts′ : List ℕ} {r : Record} (g : Given (readRequest t s) hs hs′ cs cs′ ts ts′ r) where
   is-sound : SoundRequest t s (g .long) (g .message)

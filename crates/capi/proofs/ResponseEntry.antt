@@ -18,12 +18,11 @@ use Rattle.messages.proofs.Noting.{kept-few}
 use Rattle.http1.specs.Read.{readResponse}
 use Rattle.http1_laws.specs.Read.{IsResponse, SoundResponse}
 use Rattle.http1_laws.proofs.Sound.{response-sound}
-use Rattle.sound.specs.Placed.{Each}
-use Rattle.sound.specs.Sound.{Sound, GoodHeads, GoodSection}
-use Rattle.readers.specs.Readers.{OutcomeSays, Outcomed}
-use Rattle.readers.specs.Responses.{InformationalSays, Responded}
-use Rattle.capi.specs.Entries.{recordNumbers, SmallRecord, Entered, Numbered, noHeads, headsFields}
-use Rattle.capi.proofs.Entering.{Given, all-fields, sound-small, entered}
+use Rattle.sound.specs.Sound.{Sound, GoodHeads}
+use Rattle.ranges.specs.Ranges.{InformationalSays, Responded, SmallRecord}
+use Rattle.ranges.proofs.Outcomes.{Given, sound-small, heads-few}
+use Rattle.capi.specs.Entries.{recordNumbers, Entered, Numbered, noHeads, headsFields}
+use Rattle.capi.proofs.Entering.{all-fields, entered}
 
 few-none : {A : Type 0} {n : ℕ} → suc (suc (suc (suc (suc n)))) ≤ 4 → A
 few-none h = absurd (omega (arith, h))
@@ -60,17 +59,6 @@ heads-stand (a ∷ b ∷ []) h = refl
 heads-stand (a ∷ b ∷ c ∷ []) h = refl
 heads-stand (a ∷ b ∷ c ∷ d ∷ []) h = refl
 heads-stand (a ∷ b ∷ c ∷ d ∷ e ∷ hs) h = few-none h
-
--- each head has 64 fields at most
-heads-few : (hs : List InformationalRead) → Each (λ h. GoodSection (h .lines)) hs → length (informationalLines hs) ≤ length hs * 64
-unfolding informationalLines
-heads-few [] g = omega arith
-heads-few (a ∷ hs) g =
-    omega (arith, heads-few hs (g .1), g .0 .few, kept-few true (a .lines), length-append (kept true (a .lines)) (informationalLines hs))
-
--- the outcome, without the informational heads
-pub response-outcomed : {x : Answer Message} {hs hs′ ns ns′ cs cs′ ts ts′ : List ℕ} {o : Outcome} → Responded x hs hs′ ns ns′ cs cs′ ts ts′ o → Outcomed x hs hs′ cs cs′ ts ts′ o
-response-outcomed h = record { says = h .says }
 
 module _ (s : List ℕ) {hs hs′ ns ns′ cs cs′ ts ts′ : List ℕ} {r : Record} (g : Given (readResponse s) hs hs′ cs cs′ ts ts′ r) {o : Outcome}
     (w : Responded (readResponse s) hs hs′ ns ns′ cs cs′ ts ts′ o) (z : ns ≡ noHeads) where

@@ -5,15 +5,15 @@ use mathlib.Core.Bool.{Bool, true, false, cond}
 use mathlib.Core.List.{List, [], _∷_, _++_}
 use lib.Dec.{leb}
 use lib.ListN.{length, getD, replicate}
-use Rattle.octets.specs.Limits.{linesMost, chunksMost, contentMost, informationalMost}
 use Rattle.octets.specs.Refusals.{moreNeeded, noRoom}
 use Rattle.script.specs.Script.{Answer, accepted, refused, more}
 use Rattle.output.specs.Splice.{splice}
-use Rattle.messages.specs.Message.{isResponse, Message}
-use Rattle.messages.specs.Names.{kept, keptTrailers}
-use Rattle.messages.specs.Answers.{fieldsNumbers, chunksNumbers, informationalNumbers, informationalLines, informationalIn, padded, recordOf}
+use Rattle.output.specs.Reply.{Reply, answerOf, afterOf, writtenNumber, writtenPlace}
+use Rattle.messages.specs.Message.{Message}
+use Rattle.messages.specs.Answers.{chunksNumbers, informationalNumbers, informationalIn, padded, recordOf}
 use Rattle.messages.specs.declared.Part.{Part}
 use Rattle.messages.specs.declared.Record.{Record}
+use Rattle.ranges.specs.Ranges.{headNumbers, trailerNumbers}
 
 abbrev pub partNumbers : Part → List ℕ
 partNumbers p = p .start ∷ p .len ∷ []
@@ -30,20 +30,11 @@ countNumbers r = (r .status ∷ r .informational ∷ []) ++ (r .headers ∷ r .c
 unfoldable pub recordNumbers : Record → List ℕ
 recordNumbers r = controlNumbers r ++ countNumbers r
 
--- the counts of a record are within the sizes
-pub record SmallRecord (r : Record) : Type 0 where
-  pub heads : r .informational ≤ informationalMost
-  pub headers : r .headers ≤ linesMost
-  pub chunks : r .chunks ≤ chunksMost
-  pub content : r .content ≤ contentMost
-  pub trailers : r .trailers ≤ linesMost
-
 -- the numbers that describe an accepted message of length n, one behind the other
 unfoldable pub entryNumbers : ℕ → Message → List ℕ
 entryNumbers n m =
     (recordNumbers (recordOf n m) ++ padded 8 (informationalNumbers (informationalIn (m .start))))
-    ++ (fieldsNumbers (informationalLines (informationalIn (m .start)) ++ kept (isResponse (m .start)) (m .lines)) ++ chunksNumbers (m .chunks)
-    ++ fieldsNumbers (keptTrailers (m .trailers)))
+    ++ (headNumbers m ++ chunksNumbers (m .chunks) ++ trailerNumbers m)
 
 -- ---- the answer of a reading entry that was lent ranges o, on an input of so many octets
 
@@ -86,3 +77,11 @@ noHeads = replicate 8 0
 -- how many fields the informational heads have, by their numbers
 unfoldable pub headsFields : List ℕ → ℕ
 headsFields l = getD l 1 0 + getD l 3 0 + getD l 5 0 + getD l 7 0
+
+-- ---- the answer of a writing entry that was lent octets o, where y is to be written
+
+-- 01's number, the length written or the refusal's place, and the octets afterwards: a refusal alters none
+pub record EntryServed (y : Reply) (o o′ : List ℕ) (place number : ℕ) : Type 0 where
+  pub answers : number ≡ writtenNumber (answerOf y (length o))
+  pub places : place ≡ writtenPlace (answerOf y (length o))
+  pub after : o′ ≡ afterOf y o

@@ -1,5 +1,7 @@
-// The reading entries.
+// The entries.
 use crate::numbers_out::give_message;
+use crate::written::give_written;
+use listing::listing;
 use messages::Outcome;
 use octets::Refusals;
 use octets::class_table;
@@ -11,7 +13,9 @@ ghost use lib.ListN.{length};
 ghost use Rattle.octets.specs.Table.{classes};
 ghost use Rattle.http1.specs.Read.{readRequest, readResponse};
 ghost use Rattle.readers.specs.Readers.{told};
-ghost use Rattle.capi.specs.Entries.{Entered, noHeads, headsFields};
+ghost use Rattle.output.specs.Reply.{octets};
+ghost use Rattle.listing.specs.Listing.{listingOf};
+ghost use Rattle.capi.specs.Entries.{Entered, EntryServed, noHeads, headsFields};
 
 // The request reader's answer, through working space for its ranges.
 fn enter_request(
@@ -148,4 +152,13 @@ pub extern "C" fn ospirnar_read_response(input: &[u8], ranges: &mut [u32], place
         &mut chunks,
         &mut trailers,
     )
+}
+
+// The listing of an HTTP/1.1 request stream under http.
+#[no_mangle]
+pub extern "C" fn ospirnar_listing(input: &[u8], output: &mut [u8], place: &mut usize) -> u32
+    ensures { λ r. ⌜ EntryServed (octets (listingOf (now (input .entry)))) (now (output .entry)) (now (output .exit)) (now (place .exit)) r ⌝ }
+{
+    let w = listing(input, output);
+    give_written(w, place)
 }

@@ -2,3 +2,4 @@
 
 pub mod entries;
 pub mod numbers_out;
+pub mod written;

@@ -8,7 +8,8 @@ ghost use mathlib.Core.Bool.{cond};
 ghost use Prim.Native.Nat.{_+_, _*_, _≤_};
 ghost use lib.ListN.{length};
 ghost use Rattle.output.specs.Splice.{part, Put};
-ghost use Rattle.capi.specs.Entries.{partNumbers, controlNumbers, recordNumbers, SmallRecord, Numbered};
+ghost use Rattle.ranges.specs.Ranges.{SmallRecord};
+ghost use Rattle.capi.specs.Entries.{partNumbers, controlNumbers, recordNumbers, Numbered};
 
 // The first `len` numbers of src, from `at` on in out.
 pub fn put_numbers(out: &mut [u32], at: usize, src: &[u32], len: usize) -> usize

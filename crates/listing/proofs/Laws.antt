@@ -22,7 +22,9 @@ use Rattle.messages.specs.declared.Record.{Record}
 use Rattle.messages.specs.declared.Outcome.{Outcome}
 use Rattle.messages.specs.declared.Outcome.the-variants as outcome
 use Rattle.http1.specs.Read.{readRequest}
-use Rattle.readers.specs.Readers.{told, OutcomeSays, Outcomed}
+use Rattle.ranges.specs.Ranges.{Outcomed}
+use Rattle.ranges.proofs.Outcomes.{given-message, given-refusal, given-more}
+use Rattle.readers.specs.Readers.{told}
 use Rattle.readers.proofs.Requests.{first-more}
 use Rattle.http1_laws.proofs.Front.{request-within}
 use Rattle.numbers.specs.Digits.{digits}
@@ -61,33 +63,11 @@ counts-are n m = go (m .start)
     go (requestStart a b c d) = rw (length-map, length-map)
     go (responseStart a b) = rw (length-map, length-map)
 
-module _ {x : Answer Message} {hs hs′ cs cs′ ts ts′ : List ℕ} {o : Outcome} (h : Outcomed x hs hs′ cs cs′ ts ts′ o) where
-  of-message : (at : ℕ) (r : List ℕ) (z : Record) → o ≡ outcome.Message z → at-row.Message (z .length) (z .headers) (z .content) (z .trailers) ≡ rowOf at r x
-  of-message at r z e = go x (h .says)
-    where
-      go : (y : Answer Message) → OutcomeSays y hs hs′ cs cs′ ts ts′ o → at-row.Message (z .length) (z .headers) (z .content) (z .trailers) ≡ rowOf at r y
-      go (accepted n m) g =
-          let q : outcome.Message (recordOf n m) ≡ outcome.Message z = sym (g .0) ∙ e in
-          let w : recordOf n m ≡ z = cc in
-          subst (λ (y : Record). at-row.Message (y .length) (y .headers) (y .content) (y .trailers) ≡ rowOf at r (accepted n m)) w (counts-are n m)
-      go (refused k p) g = let w : _≡_ {A = ℕ} 0 1 = cc in absurd (omega arith)
-      go more g = let w : _≡_ {A = ℕ} 0 1 = cc in absurd (omega arith)
-
-  of-refusal : (k p : ℕ) → o ≡ outcome.Refusal k p → x ≡ refused k p
-  of-refusal k p e = go x (h .says)
-    where
-      go : (y : Answer Message) → OutcomeSays y hs hs′ cs cs′ ts ts′ o → y ≡ refused k p
-      go (accepted n m) g = let q = g .0 in let w : _≡_ {A = ℕ} 0 1 = cc in absurd (omega arith)
-      go (refused i j) g = let w : outcome.Refusal i j ≡ outcome.Refusal k p = sym g ∙ e in cc
-      go more g = let w : _≡_ {A = ℕ} 0 1 = cc in absurd (omega arith)
-
-  of-more : o ≡ outcome.More → x ≡ more
-  of-more e = go x (h .says)
-    where
-      go : (y : Answer Message) → OutcomeSays y hs hs′ cs cs′ ts ts′ o → y ≡ more
-      go (accepted n m) g = let q = g .0 in let w : _≡_ {A = ℕ} 0 1 = cc in absurd (omega arith)
-      go (refused i j) g = let w : _≡_ {A = ℕ} 0 1 = cc in absurd (omega arith)
-      go more g = refl
+of-message : {x : Answer Message} {hs hs′ cs cs′ ts ts′ : List ℕ} {o : Outcome} → Outcomed x hs hs′ cs cs′ ts ts′ o → (at : ℕ) (r : List ℕ) (z : Record)
+    → o ≡ outcome.Message z → at-row.Message (z .length) (z .headers) (z .content) (z .trailers) ≡ rowOf at r x
+of-message h at r z e =
+    let g = given-message h z e in
+    ap (λ (y : Record). at-row.Message (y .length) (y .headers) (y .content) (y .trailers)) (g .numbers) ∙ counts-are (g .long) (g .message) ∙ ap (rowOf at r) (sym (g .taken))
 
 module _ (s : List ℕ) (at : ℕ) {hs hs′ cs cs′ ts ts′ : List ℕ} {o : Outcome}
     (h : Outcomed (readRequest (told 0) (take (length s - at) (drop at s))) hs hs′ cs cs′ ts ts′ o) where
@@ -100,7 +80,7 @@ module _ (s : List ℕ) (at : ℕ) {hs hs′ cs cs′ ts ts′ : List ℕ} {o : 
 
   module _ (k p : ℕ) (e : o ≡ outcome.Refusal k p) where
     is-refused : readRequest (told 0) (drop at s) ≡ refused k p
-    is-refused = of-refusal whole k p e
+    is-refused = given-refusal whole k p e
 
     pub row-refused : at-row.Stop (at + p) k ≡ rowAt s at
     unfolding rowAt
@@ -115,7 +95,7 @@ module _ (s : List ℕ) (at : ℕ) {hs hs′ cs cs′ ts ts′ : List ℕ} {o : 
       let l : length (drop at s) ≡ length s - at = length-drop at s in
       let n : at + length (drop at s) ≡ length s = omega arith in
       let z : length (drop at s) ≡ 0 → ⊥ = λ (w : length (drop at s) ≡ 0). absurd (omega arith) in
-      rw (of-more whole e, n, ne-eqb _ _ z)
+      rw (given-more whole e, n, ne-eqb _ _ z)
 
 -- ---- the rows from a place on
 

@@ -5,14 +5,17 @@ use mathlib.Core.Path.{_≡_}
 use mathlib.Core.Bool.{Bool, true, false, cond}
 use mathlib.Core.List.{List, [], _∷_, _++_}
 use lib.ListN.{length}
+use Rattle.octets.specs.Limits.{linesMost, chunksMost, contentMost, informationalMost}
 use Rattle.script.specs.Script.{Answer, accepted, refused, more}
 use Rattle.output.specs.Splice.{splice}
 use Rattle.messages.specs.Message.{FieldRead, isResponse, Message}
 use Rattle.messages.specs.Names.{kept, keptTrailers}
-use Rattle.messages.specs.Answers.{fieldsNumbers, chunksNumbers, informationalNumbers, informationalLines, informationalIn, recordOf}
+use Rattle.messages.specs.Answers.{fieldsNumbers, chunksNumbers, informationalNumbers, informationalLines, informationalIn, recordOf, readingOf}
 use Rattle.messages.specs.declared.Outcome.{Outcome}
 use Rattle.messages.specs.declared.Outcome.the-variants as outcome
 use Rattle.messages.specs.declared.Record.{Record}
+use Rattle.messages.specs.declared.Ranges.{Ranges}
+use Rattle.messages.specs.declared.Reading.{Reading}
 use Rattle.sound.specs.Sound.{Sound}
 
 -- every place in a message is below this (01, "Sizes": heads, chunk lines, content and trailers together are far below)
@@ -55,7 +58,24 @@ pub record Responded (x : Answer Message) (hs hs′ ns ns′ cs cs′ ts ts′ :
   pub says : OutcomeSays x hs hs′ cs cs′ ts ts′ r
   pub informational : InformationalSays x ns ns′
 
+abbrev pub rangesWith : List ℕ → List ℕ → List ℕ → List ℕ → Ranges
+rangesWith ns hs ts cs = record { informational = ns; headers = hs; trailers = ts; chunks = cs }
+
+-- a reader's answer by value, from its outcome and the ranges that it left: informational heads, header fields, trailer fields, chunks
+abbrev pub readingFrom : Outcome → List ℕ → List ℕ → List ℕ → List ℕ → Reading
+readingFrom (outcome.Message r) ns hs ts cs = record { outcome = outcome.Message r; ranges = rangesWith ns hs ts cs }
+readingFrom (outcome.Refusal k p) ns hs ts cs = readingOf (refused k p)
+readingFrom outcome.More ns hs ts cs = readingOf more
+
 -- ---- what a writer finds
+
+-- the counts of a record are within the sizes
+pub record SmallRecord (r : Record) : Type 0 where
+  pub heads : r .informational ≤ informationalMost
+  pub headers : r .headers ≤ linesMost
+  pub chunks : r .chunks ≤ chunksMost
+  pub content : r .content ≤ contentMost
+  pub trailers : r .trailers ≤ linesMost
 
 -- the numbers l stand at the front of o
 pub record Begins (l o : List ℕ) : Type 0 where

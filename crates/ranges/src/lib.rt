@@ -1,10 +1,15 @@
 // Ranges of messages in lent arrays of numbers: what every reader stores and every writer finds.
+use messages::Outcome;
+use messages::Ranges;
+use messages::Reading;
+use messages::answers::more;
+use messages::answers::refusal;
 ghost use mathlib.Core.Path.{_≡_};
 ghost use mathlib.Core.List.{[], _∷_};
 ghost use Prim.Native.Nat.{_+_, _*_, _≤_};
 ghost use lib.ListN.{length};
 ghost use Rattle.output.specs.Splice.{splice};
-ghost use Rattle.ranges.specs.Ranges.{Kept};
+ghost use Rattle.ranges.specs.Ranges.{Kept, readingFrom};
 
 // Two numbers are stored as the entry k: start and length of a chunk, or status and number of kept fields of an informational head.
 pub fn store(out: &mut [u32], k: usize, a: u32, b: u32)
@@ -38,4 +43,32 @@ pub fn keep(
         return k + 1;
     }
     k
+}
+
+// A reader's answer by value, from its outcome and the ranges that it left; only a message has ranges.
+pub fn reading(
+    o: Outcome,
+    informational: [u32; 8],
+    headers: [u32; 1280],
+    trailers: [u32; 256],
+    chunks: [u32; 512],
+) -> Reading
+    ensures { λ r. ⌜ r ≡ readingFrom o informational headers trailers chunks ⌝ }
+{
+    match o {
+        Outcome::More => return more(),
+        Outcome::Refusal { number, place } => return refusal(number, place),
+        Outcome::Message(record) => {
+            let ranges = Ranges {
+                informational,
+                headers,
+                trailers,
+                chunks,
+            };
+            return Reading {
+                outcome: Outcome::Message(record),
+                ranges,
+            };
+        }
+    }
 }

@@ -1,6 +1,5 @@
 pub mod Parts
 pub mod Line
-pub mod Stored
 pub mod Turns
 pub mod ChunkTurns
 pub mod Outcomes

@@ -21,7 +21,8 @@ use Rattle.http1.specs.Lines.{onField, fieldLens, fieldOf}
 use Rattle.http1.specs.declared.FieldLine.{FieldLine}
 use Rattle.http1.specs.declared.FieldLine.the-variants as field
 use Rattle.http1.proofs.Views.{field-within}
-use Rattle.read_http1.specs.Section.{Kept, lineRead, LineSays, Lined}
+use Rattle.ranges.specs.Ranges.{Kept}
+use Rattle.read_http1.specs.Section.{lineRead, LineSays, Lined}
 use Rattle.read_http1.specs.declared.LineRead.{LineRead}
 use Rattle.read_http1.proofs.Parts.{part-front, part-inner, part-long}
 

@@ -1,7 +1,7 @@
 -- What the code that reads sections promises, in terms of the readers' scripts.
 use Prim.Native.Nat.{ℕ, _+_, _-_, _*_, _≤_}
 use mathlib.Core.Path.{_≡_}
-use mathlib.Core.Bool.{Bool, true, false, cond}
+use mathlib.Core.Bool.{Bool, true, false}
 use mathlib.Core.List.{List, [], _∷_, _++_}
 use lib.ListN.{length}
 use Rattle.script.specs.Script.{Answer, accepted, refused, more}
@@ -16,15 +16,6 @@ use Rattle.http1.specs.Read.{Lines}
 use Rattle.read_http1.specs.declared.LineRead.{LineRead}
 use Rattle.read_http1.specs.declared.Section.{Section}
 use Rattle.read_http1.specs.declared.Section.the-variants.{Done, Refused, More}
-
--- every place in a message is below this (01, "Sizes": heads, chunk lines, content and trailers together are far below)
-abbrev pub placesEnd : ℕ
-placesEnd = 4294967296
-
--- the numbers of a field are stored as the entry k of o, or nothing is
-pub record Kept (travels : Bool) (k : ℕ) (numbers o o′ : List ℕ) (r : ℕ) : Type 0 where
-  pub count : r ≡ cond travels (k + 1) k
-  pub stored : o′ ≡ cond travels (splice o (k * 4) numbers) o
 
 abbrev pub lineRead : Bool → ℕ → Notes → LineRead
 lineRead g k n = record { good = g; kept = k; notes = n }

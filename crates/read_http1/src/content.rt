@@ -9,31 +9,20 @@ use messages::Body;
 use messages::sections::are_trailers;
 use octets::Limits;
 use octets::Refusals;
+use ranges::store;
 use script::Line;
 use script::line_end;
 ghost use mathlib.Core.Path.{_≡_};
-ghost use mathlib.Core.List.{[], _∷_};
 ghost use Prim.Native.Nat.{_+_, _-_, _*_, _≤_, _<_};
 ghost use lib.ListN.{length, take, drop};
 ghost use Rattle.octets.specs.Table.{classes};
 ghost use Rattle.octets.specs.Limits.{headMost, trailerMost, chunksMost, contentMost};
 ghost use Rattle.script.specs.Script.{run};
-ghost use Rattle.output.specs.Splice.{splice};
 ghost use Rattle.messages.specs.declared.Body.the-variants.{InChunks};
 ghost use Rattle.http1.specs.Read.{content};
-ghost use Rattle.read_http1.specs.Section.{placesEnd};
+ghost use Rattle.ranges.specs.Ranges.{placesEnd};
 ghost use Rattle.read_http1.specs.Content.{SizedWithin, Contented};
 ghost use Rattle.read_http1.specs.Chunk.{DataRead, Chunked, Trailed, SizedRead};
-
-// Start and length of a chunk are stored as the entry k.
-fn store(out: &mut [u32], k: usize, start: u32, len: u32)
-    requires { ⌜ k * 2 + 2 ≤ length (now out) ⌝ }
-    ensures { λ _. ⌜ now (out .exit) ≡ splice (now (out .entry)) (k * 2) (start ∷ len ∷ []) ⌝ }
-{
-    let at = k * 2;
-    out[at] = start;
-    out[at + 1] = len;
-}
 
 // The trailer section from `from` on, behind `count` chunks of `total` octets.
 fn read_trailers(

@@ -10,44 +10,19 @@ use messages::sections::no_notes;
 use messages::sections::note;
 use octets::Limits;
 use octets::Refusals;
+use ranges::keep;
 use script::Line;
 use script::line_end;
 ghost use mathlib.Core.Path.{_≡_};
-ghost use mathlib.Core.Bool.{cond};
-ghost use mathlib.Core.List.{[], _∷_};
 ghost use Prim.Native.Nat.{_+_, _-_, _*_, _≤_, _<_};
 ghost use lib.ListN.{length, take, drop};
 ghost use Rattle.octets.specs.Table.{classes};
 ghost use Rattle.script.specs.Script.{run};
 ghost use Rattle.script.specs.Do.{piece};
-ghost use Rattle.output.specs.Splice.{splice};
 ghost use Rattle.http1.specs.Lines.{fieldOf};
 ghost use Rattle.http1.specs.Read.{section};
-ghost use Rattle.read_http1.specs.Section.{placesEnd, Kept, Lined, Sectioned};
-
-// A field that travels is stored as the entry k: start and length of its name, start and length of its value.
-fn keep(
-    out: &mut [u32],
-    k: usize,
-    travels: bool,
-    name: u32,
-    nlen: u32,
-    value: u32,
-    vlen: u32,
-) -> usize
-    requires { ⌜ k * 4 + 4 ≤ length (now out) ⌝ }
-    ensures { λ r. ⌜ Kept travels k (name ∷ nlen ∷ value ∷ vlen ∷ []) (now (out .entry)) (now (out .exit)) r ⌝ }
-{
-    if travels {
-        let at = k * 4;
-        out[at] = name;
-        out[at + 1] = nlen;
-        out[at + 1 + 1] = value;
-        out[at + 1 + 1 + 1] = vlen;
-        return k + 1;
-    }
-    k
-}
+ghost use Rattle.ranges.specs.Ranges.{placesEnd};
+ghost use Rattle.read_http1.specs.Section.{Lined, Sectioned};
 
 // The field line from i to e, without its CR LF: judged, noted and, where it travels, stored.
 fn take_line(

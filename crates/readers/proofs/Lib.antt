@@ -6,3 +6,4 @@ pub mod RequestHeads
 pub mod ResponseHeads
 pub mod ResponseTurns
 pub mod ResponseLaws
+pub mod Values

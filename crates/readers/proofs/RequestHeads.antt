@@ -24,7 +24,8 @@ use Rattle.messages.specs.declared.Outcome.the-variants as outcome
 use Rattle.http1.specs.Lines.{RequestRead}
 use Rattle.http1.specs.Read.{Lines, section, content, afterHead, readRequest}
 use Rattle.sound.specs.Placed.{Each}
-use Rattle.readers.specs.Readers.{told, partAt, requestIs, Before, HeadFacts, RestSays, RestRead, OutcomeSays, Outcomed}
+use Rattle.ranges.specs.Ranges.{OutcomeSays, Outcomed}
+use Rattle.readers.specs.Readers.{told, partAt, requestIs, Before, HeadFacts, RestSays, RestRead}
 use Rattle.readers.proofs.Facts.{SectionFacts, section-facts}
 use Rattle.readers.proofs.Outcomes.{SectionDone, behind-more, behind-refused, behind-done}
 

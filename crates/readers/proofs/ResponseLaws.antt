@@ -26,8 +26,9 @@ use Rattle.http1.specs.Read.{Lines, Content, content, afterFinal}
 use Rattle.http1_laws.proofs.Rules.{Fits, response-framed}
 use Rattle.read_http1.specs.Content.{SizedWithin, ContentSays, Contented}
 use Rattle.read_http1.specs.declared.ContentRead.{ContentRead}
-use Rattle.readers.specs.Readers.{RestSays, OutcomeSays}
-use Rattle.readers.specs.Responses.{HeadsFacts, HeadsSays, HeadsTaken, responseOutcome, FinalRead, InformationalSays, Responded}
+use Rattle.ranges.specs.Ranges.{OutcomeSays, InformationalSays, Responded}
+use Rattle.readers.specs.Readers.{RestSays}
+use Rattle.readers.specs.Responses.{HeadsFacts, HeadsSays, HeadsTaken, responseOutcome, FinalRead}
 use Rattle.readers.specs.declared.HeadsRead.{HeadsRead}
 use Rattle.readers.specs.declared.HeadsRead.the-variants as heads-read
 use Rattle.readers.proofs.ResponseHeads.{framing-noted}

@@ -15,7 +15,7 @@ use Rattle.messages.specs.Answers.{fieldsNumbers, informationalNumbers, informa
 use Rattle.messages.specs.declared.Notes.{Notes}
 use Rattle.messages.proofs.Noting.{kept-few}
 use Rattle.http1.specs.Read.{Lines, heads, readResponse}
-use Rattle.read_http1.proofs.Stored.{numbers-append, numbers-length}
+use Rattle.ranges.proofs.Stored.{numbers-append, numbers-length}
 use Rattle.readers.specs.Responses.{informationalRead, HeadStored, SoManyHeads, HeadSays, Headed, HeadsFacts, HeadsSays, HeadsTaken}
 use Rattle.readers.specs.declared.HeadRead.{HeadRead}
 use Rattle.readers.specs.declared.HeadRead.the-variants as head

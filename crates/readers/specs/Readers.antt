@@ -8,12 +8,12 @@ use Rattle.script.specs.Script.{Answer, accepted, refused, more, Script, run}
 use Rattle.messages.specs.Told.{Told}
 use Rattle.script.specs.Do.{_>>=_, Piece, piece, Judged, good, wrong}
 use Rattle.output.specs.Splice.{splice}
-use Rattle.messages.specs.Message.{FieldRead, isResponse, Message}
+use Rattle.messages.specs.Message.{FieldRead, Message}
 use Rattle.messages.specs.Names.{kept, keptTrailers}
 use Rattle.messages.specs.Notes.{notesOf, AllLie}
 use Rattle.messages.specs.Rules.{authorityIn, framingOf, requestBody}
 use Rattle.messages.specs.declared.Notes.{Notes}
-use Rattle.messages.specs.Answers.{fieldsNumbers, chunksNumbers, informationalNumbers, informationalLines, informationalIn, partOf, recordOf}
+use Rattle.messages.specs.Answers.{fieldsNumbers, chunksNumbers, partOf, recordOf}
 use Rattle.messages.specs.declared.Part.{Part}
 use Rattle.messages.specs.declared.Record.{Record}
 use Rattle.http1.specs.Lines.{RequestRead}
@@ -106,17 +106,3 @@ RestSays more cs cs′ ts ts′ r = r ≡ outcome.More
 pub record RestRead (s : List ℕ) (scheme method path end fields : ℕ) (notes : Notes) (cs cs′ ts ts′ : List ℕ) (r : Outcome) : Type 0 where
   pub by : (q : RequestRead) (h : Lines) → HeadFacts s q h method path end fields notes
       → RestSays (run (afterHead (told scheme) q h) end (drop end s)) cs cs′ ts ts′ r
-
--- ---- whole messages
-
--- an answer, and the ranges of an accepted message in the lent space: hs of header fields, cs of chunks, ts of trailer fields
-abbrev pub OutcomeSays : Answer Message → List ℕ → List ℕ → List ℕ → List ℕ → List ℕ → List ℕ → Outcome → Type 0
-OutcomeSays (accepted n m) hs hs′ cs cs′ ts ts′ r =
-    (r ≡ outcome.Message (recordOf n m))
-    × (hs′ ≡ splice hs 0 (fieldsNumbers (informationalLines (informationalIn (m .start)) ++ kept (isResponse (m .start)) (m .lines))))
-    × (cs′ ≡ splice cs 0 (chunksNumbers (m .chunks))) × (ts′ ≡ splice ts 0 (fieldsNumbers (keptTrailers (m .trailers))))
-OutcomeSays (refused k p) hs hs′ cs cs′ ts ts′ r = r ≡ outcome.Refusal k p
-OutcomeSays more hs hs′ cs cs′ ts ts′ r = r ≡ outcome.More
-
-pub record Outcomed (x : Answer Message) (hs hs′ cs cs′ ts ts′ : List ℕ) (r : Outcome) : Type 0 where
-  pub says : OutcomeSays x hs hs′ cs cs′ ts ts′ r

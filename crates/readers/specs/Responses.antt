@@ -12,7 +12,7 @@ use Rattle.messages.specs.Message.{InformationalRead, Message}
 use Rattle.messages.specs.Names.{kept}
 use Rattle.messages.specs.Notes.{notesOf}
 use Rattle.messages.specs.Rules.{framingOf, nothingStated}
-use Rattle.messages.specs.Answers.{fieldsNumbers, informationalNumbers, informationalLines, informationalIn, noPart}
+use Rattle.messages.specs.Answers.{fieldsNumbers, informationalNumbers, informationalLines, noPart}
 use Rattle.messages.specs.declared.Notes.{Notes}
 use Rattle.messages.specs.declared.Outcome.{Outcome}
 use Rattle.messages.specs.declared.Outcome.the-variants as outcome
@@ -20,7 +20,7 @@ use Rattle.messages.specs.declared.Record.{Record}
 use Rattle.http1.specs.Read.{Lines, section, afterFinal, heads}
 use Rattle.read_http1.specs.declared.ContentRead.{ContentRead}
 use Rattle.read_http1.specs.declared.ContentRead.the-variants as content
-use Rattle.readers.specs.Readers.{RestSays, OutcomeSays}
+use Rattle.readers.specs.Readers.{RestSays}
 use Rattle.readers.specs.declared.HeadRead.{HeadRead}
 use Rattle.readers.specs.declared.HeadRead.the-variants as head
 use Rattle.readers.specs.declared.HeadsRead.{HeadsRead}
@@ -132,14 +132,3 @@ responseOutcome status count fields content.More = outcome.More
 pub record FinalRead (s : List ℕ) (status end count fields : ℕ) (notes : Notes) (cs cs′ ts ts′ : List ℕ) (r : Outcome) : Type 0 where
   pub by : (is : List InformationalRead) (h : Lines) → HeadsFacts s is h end count fields notes
       → RestSays (run (afterFinal is status h) end (drop end s)) cs cs′ ts ts′ r
-
--- status and number of kept fields of each informational head of an accepted message, in the lent space
-abbrev pub InformationalSays : Answer Message → List ℕ → List ℕ → Type 0
-InformationalSays (accepted n m) ns ns′ = ns′ ≡ splice ns 0 (informationalNumbers (informationalIn (m .start)))
-InformationalSays (refused k p) ns ns′ = Unit {0}
-InformationalSays more ns ns′ = Unit {0}
-
--- an answer, and the ranges of an accepted response in the lent space
-pub record Responded (x : Answer Message) (hs hs′ ns ns′ cs cs′ ts ts′ : List ℕ) (r : Outcome) : Type 0 where
-  pub says : OutcomeSays x hs hs′ cs cs′ ts ts′ r
-  pub informational : InformationalSays x ns ns′

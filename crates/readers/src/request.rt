@@ -6,10 +6,13 @@ use http1::lines::request_line;
 use messages::Notes;
 use messages::Outcome;
 use messages::Part;
+use messages::Reading;
 use messages::Record;
 use messages::parts::is_scheme;
 use octets::Limits;
 use octets::Refusals;
+use octets::class_table;
+use ranges::reading;
 use read_http1::ContentRead;
 use read_http1::Section;
 use read_http1::content::read_content;
@@ -22,10 +25,11 @@ ghost use lib.ListN.{length, drop};
 ghost use Rattle.octets.specs.Table.{classes};
 ghost use Rattle.octets.specs.Limits.{headMost};
 ghost use Rattle.script.specs.Script.{run};
+ghost use Rattle.messages.specs.Answers.{readingOf};
 ghost use Rattle.http1.specs.Lines.{RequestRead};
 ghost use Rattle.http1.specs.Read.{Lines, readRequest};
-ghost use Rattle.read_http1.specs.Section.{placesEnd};
-ghost use Rattle.readers.specs.Readers.{told, requestIs, fieldsOnward, requestOutcome, HeadFacts, RestRead, Outcomed};
+ghost use Rattle.ranges.specs.Ranges.{placesEnd, Outcomed};
+ghost use Rattle.readers.specs.Readers.{told, requestIs, fieldsOnward, requestOutcome, HeadFacts, RestRead};
 
 // The outcome of a request whose content was read.
 fn request_outcome(
@@ -187,4 +191,17 @@ pub fn request_in(
         number: Refusals::NOT_SUPPORTED,
         place: 0,
     }
+}
+
+// The first request of a stream, under the scheme told: its answer by value.
+pub fn read_request(input: &[u8], scheme: u32) -> Reading
+    ensures { λ r. ⌜ r ≡ readingOf (readRequest (told scheme) (now (input .entry))) ⌝ }
+{
+    let t = class_table();
+    let informational = [0u32; 8];
+    let mut headers = [0u32; 1280];
+    let mut chunks = [0u32; 512];
+    let mut trailers = [0u32; 256];
+    let o = request_in(&t, input, scheme, &mut headers, &mut chunks, &mut trailers);
+    reading(o, informational, headers, trailers, chunks)
 }

@@ -7,12 +7,16 @@ use messages::BodyAnswer;
 use messages::Notes;
 use messages::Outcome;
 use messages::Part;
+use messages::Reading;
 use messages::Record;
 use messages::parts::is_informational;
 use messages::sections::nothing_stated;
 use messages::sections::response_body;
 use octets::Limits;
 use octets::Refusals;
+use octets::class_table;
+use ranges::reading;
+use ranges::store;
 use read_http1::ContentRead;
 use read_http1::Section;
 use read_http1::content::read_content;
@@ -20,15 +24,15 @@ use read_http1::lines::read_section;
 use script::Line;
 use script::line_end;
 ghost use mathlib.Core.Path.{_≡_};
-ghost use mathlib.Core.List.{[], _∷_};
 ghost use Prim.Native.Nat.{suc, _+_, _-_, _*_, _≤_, _<_};
 ghost use lib.ListN.{length, drop};
 ghost use Rattle.octets.specs.Table.{classes};
 ghost use Rattle.octets.specs.Limits.{headMost};
 ghost use Rattle.script.specs.Script.{run};
-ghost use Rattle.output.specs.Splice.{splice};
+ghost use Rattle.messages.specs.Answers.{readingOf};
 ghost use Rattle.http1.specs.Read.{heads, readResponse};
-ghost use Rattle.readers.specs.Responses.{informationalRest, finalRest, AnyHeads, FewHeads, SoManyHeads, Headed, HeadsTaken, responseOutcome, FinalRead, Responded};
+ghost use Rattle.ranges.specs.Ranges.{Responded};
+ghost use Rattle.readers.specs.Responses.{informationalRest, finalRest, AnyHeads, FewHeads, SoManyHeads, Headed, HeadsTaken, responseOutcome, FinalRead};
 
 // The section of an informational head, behind its status line that ends at `next`.
 fn informational_head(
@@ -147,16 +151,6 @@ pub fn next_head(
     }
 }
 
-// Status and number of kept fields of an informational head are stored as the entry k.
-fn store_head(out: &mut [u32], k: usize, status: u32, fields: u32)
-    requires { ⌜ k * 2 + 2 ≤ length (now out) ⌝ }
-    ensures { λ _. ⌜ now (out .exit) ≡ splice (now (out .entry)) (k * 2) (status ∷ fields ∷ []) ⌝ }
-{
-    let at = k * 2;
-    out[at] = status;
-    out[at + 1] = fields;
-}
-
 // The heads of the first response of s, up to the final one: kept fields are stored in `headers`, those of informational heads first, and status and
 // number of kept fields of each informational head in `informational`.
 pub fn read_heads(
@@ -195,7 +189,7 @@ pub fn read_heads(
                 left: rest,
                 kept,
             } => {
-                store_head(informational, count, status, (kept - base) as u32);
+                store(informational, count, status, (kept - base) as u32);
                 base = kept;
                 count += 1;
                 left = rest;
@@ -284,4 +278,24 @@ pub fn response_in(
             notes,
         } => return after_final(t, s, status, end, heads, kept, notes, chunks, trailers),
     }
+}
+
+// The first response of a stream: its answer by value.
+pub fn read_response(input: &[u8]) -> Reading
+    ensures { λ r. ⌜ r ≡ readingOf (readResponse (now (input .entry))) ⌝ }
+{
+    let t = class_table();
+    let mut informational = [0u32; 8];
+    let mut headers = [0u32; 1280];
+    let mut chunks = [0u32; 512];
+    let mut trailers = [0u32; 256];
+    let o = response_in(
+        &t,
+        input,
+        &mut headers,
+        &mut informational,
+        &mut chunks,
+        &mut trailers,
+    );
+    reading(o, informational, headers, trailers, chunks)
 }

@@ -2,7 +2,8 @@ use mathlib.Core.Path.{_≡_, refl, sym, ap, _∙_}
 use native.Mathlib.Omega.{arith}
 use lib.ListN.{length}
 use Rattle.readers.specs.Readers.{told}
-use Rattle.capi.proofs.Entering.{given-message, given-refusal, given-more, entered-refused, entered-more}
+use Rattle.ranges.proofs.Outcomes.{given-message, given-refusal, given-more}
+use Rattle.capi.proofs.Entering.{entered-refused, entered-more}
 use Rattle.capi.proofs.RequestEntry.{request-small, request-room, request-entered}
 use borrow.Author.Needs.{needs}
 use Rattle.capi.proofs.entries.enter_request.Statement.{statement}

@@ -1,8 +1,9 @@
 use mathlib.Core.Path.{_≡_, refl, sym, ap, _∙_}
 use native.Mathlib.Omega.{arith}
 use lib.ListN.{length}
-use Rattle.capi.proofs.Entering.{given-message, given-refusal, given-more, entered-refused, entered-more}
-use Rattle.capi.proofs.ResponseEntry.{response-outcomed, response-small, response-room, response-entered}
+use Rattle.ranges.proofs.Outcomes.{given-message, given-refusal, given-more, response-outcomed}
+use Rattle.capi.proofs.Entering.{entered-refused, entered-more}
+use Rattle.capi.proofs.ResponseEntry.{response-small, response-room, response-entered}
 use borrow.Author.Needs.{needs}
 use Rattle.capi.proofs.entries.enter_response.Statement.{statement}
 use Rattle.capi.proofs.entries.enter_response.Tie as tie

@@ -20,7 +20,7 @@ use Rattle.read_http1.proofs.content.read_chunks.Reads as reads
 use Rattle.read_http1.proofs.content.read_chunks.Lts as lts
 use Rattle.read_http1.proofs.content.next_chunk.Reads as next-chunk-reads
 use Rattle.read_http1.proofs.content.read_trailers.Reads as read-trailers-reads
-use Rattle.read_http1.proofs.content.store.Reads as store-reads
+use Rattle.ranges.proofs.store.Reads as store-reads
 
 abbrev Inv-loop : tie.InvT-loop
 Inv-loop t s from chunks₀ trailers₀ i₀ count₀ total₀ chunks trailers i count total = (cs : List Piece) × (length cs ≡ count) × (count ≤ chunksMost) × (length (contentOf cs) ≡ total) × (total ≤ contentMost) × (i ≤ length s) × (i ≤ from + count * 258 + total) × (t ≡ classes) × (length chunks ≡ length chunks₀) × (trailers ≡ trailers₀) × (chunks ≡ splice chunks₀ 0 (chunksNumbers cs)) × (run (content InChunks) from (drop from s) ≡ run (chunksFrom (suc (chunksMost - count)) cs total) i (drop i s))

@@ -5,7 +5,7 @@ use Rattle.read_http1.proofs.content.read_sized.Statement.{statement}
 use Rattle.read_http1.proofs.content.read_sized.Tie as tie
 use Rattle.read_http1.proofs.content.read_sized.Reads as reads
 use Rattle.read_http1.proofs.content.read_sized.Lts as lts
-use Rattle.read_http1.proofs.content.store.Reads as store-reads
+use Rattle.ranges.proofs.store.Reads as store-reads
 
 -- src/content.rt:179:8
 sub-if1 : tie.Need-sub-if1

@@ -17,7 +17,7 @@ use Rattle.messages.specs.Answers.{fieldsNumbers}
 use Rattle.messages.proofs.Noting.{notes-none, notes-more, kept-few}
 use Rattle.http1.specs.Read.{fieldLines, section}
 use Rattle.read_http1.proofs.Line.{lined-good, lined-wrong, GoodLined}
-use Rattle.read_http1.proofs.Stored.{stored-next, count-next}
+use Rattle.ranges.proofs.Stored.{stored-next, count-next}
 use Rattle.read_http1.proofs.Turns.{sectioned-as, turn-more, turn-bad, turn-long, turn-done, turn-full, turn-wrong, turn-field}
 use mathlib.Core.Bool.{true}
 use Rattle.messages.specs.Notes.{noteLine}

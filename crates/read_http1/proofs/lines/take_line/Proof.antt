@@ -11,7 +11,7 @@ use Rattle.http1.proofs.lines.field_line.Reads as field-line-reads
 use Rattle.messages.proofs.parts.does_travel.Reads as does-travel-reads
 use Rattle.messages.proofs.parts.kind_of.Reads as kind-of-reads
 use Rattle.messages.proofs.sections.note.Reads as note-reads
-use Rattle.read_http1.proofs.lines.keep.Reads as keep-reads
+use Rattle.ranges.proofs.keep.Reads as keep-reads
 
 -- src/lines.rt:45:27
 sub-field-line : tie.Need-sub-field-line

@@ -9,7 +9,7 @@ use Rattle.readers.proofs.response.read_heads.Tie as tie
 use Rattle.readers.proofs.response.read_heads.Reads as reads
 use Rattle.readers.proofs.response.read_heads.Lts as lts
 use Rattle.readers.proofs.response.next_head.Reads as next-head-reads
-use Rattle.readers.proofs.response.store_head.Reads as store-head-reads
+use Rattle.ranges.proofs.store.Reads as store-reads
 
 abbrev Inv-loop : tie.InvT-loop
 Inv-loop t s headers₀ informational₀ i₀ left₀ count₀ base₀ headers informational i left count base =
@@ -84,16 +84,16 @@ enum-known-h-3 : tie.Need-enum-known-h-3 Inv-loop μ-loop
 enum-known-h-3 c = omega arith
 
 -- src/response.rt:141:59
-sub-store-head : tie.Need-sub-store-head Inv-loop μ-loop
-sub-store-head c = omega (arith, informational-some (c .before .before .before .before .before .before .before .before .loop .inv .3) (c .before .before .before .before .before .before .next-head .ensures) _ _ _ _ (c .before .before .h3 .given .1))
+sub-store : tie.Need-sub-store Inv-loop μ-loop
+sub-store c = omega (arith, informational-some (c .before .before .before .before .before .before .before .before .loop .inv .3) (c .before .before .before .before .before .before .next-head .ensures) _ _ _ _ (c .before .before .h3 .given .1))
 
 -- src/response.rt:141:58
-cast-store-head : tie.Need-cast-store-head Inv-loop μ-loop
-cast-store-head c = omega (arith, informational-some (c .before .before .before .before .before .before .before .before .loop .inv .3) (c .before .before .before .before .before .before .next-head .ensures) _ _ _ _ (c .before .before .h3 .given .1))
+cast-store : tie.Need-cast-store Inv-loop μ-loop
+cast-store c = omega (arith, informational-some (c .before .before .before .before .before .before .before .before .loop .inv .3) (c .before .before .before .before .before .before .next-head .ensures) _ _ _ _ (c .before .before .h3 .given .1))
 
 -- src/response.rt:141:17
-store-head-requires : tie.Need-store-head-requires Inv-loop μ-loop
-store-head-requires c κs = omega (arith, informational-some (c .before .before .before .before .before .before .before .before .loop .inv .3) (c .before .before .before .before .before .before .next-head .ensures) _ _ _ _ (c .before .before .h3 .given .1), c .before .before .before .before .before .before .before .before .loop .inv .2, c .before .before .before .before .before .before .before .before .before .before .before .before .pre .2)
+store-requires : tie.Need-store-requires Inv-loop μ-loop
+store-requires c κs = omega (arith, informational-some (c .before .before .before .before .before .before .before .before .loop .inv .3) (c .before .before .before .before .before .before .next-head .ensures) _ _ _ _ (c .before .before .h3 .given .1), c .before .before .before .before .before .before .before .before .loop .inv .2, c .before .before .before .before .before .before .before .before .before .before .before .before .pre .2)
 
 -- src/response.rt:143:17
 add-count : tie.Need-add-count Inv-loop μ-loop
@@ -105,7 +105,7 @@ loop-less c = omega (arith, c .before .before .before .before .before .before .b
 
 -- src/response.rt:134:5
 loop-again : tie.Need-loop-again Inv-loop μ-loop
-loop-again c = (c .before .before .before .before .before .before .before .before .before .before .before .loop .inv .0, omega arith, omega arith, heads-next (c .before .before .before .before .before .before .before .before .before .before .before .loop .inv .3) (c .before .before .before .before .before .before .before .before .before .next-head .ensures) _ _ _ _ (c .before .before .before .before .before .h3 .given .1) _ (c .before .before .store-head .ensures))
+loop-again c = (c .before .before .before .before .before .before .before .before .before .before .before .loop .inv .0, omega arith, omega arith, heads-next (c .before .before .before .before .before .before .before .before .before .before .before .loop .inv .3) (c .before .before .before .before .before .before .before .before .before .next-head .ensures) _ _ _ _ (c .before .before .before .before .before .h3 .given .1) _ (c .before .before .store .ensures))
 
 pub read-heads-spec : {M : Type 1} → statement M
 read-heads-spec =
@@ -129,9 +129,9 @@ read-heads-spec =
     same-length-6
     returns-3
     enum-known-h-3
-    sub-store-head
-    cast-store-head
-    store-head-requires
+    sub-store
+    cast-store
+    store-requires
     add-count
     loop-less
     loop-again)

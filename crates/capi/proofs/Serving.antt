@@ -1,0 +1,12 @@
+-- From a writer's answer to a writing entry's.
+use Prim.Native.Nat.{ℕ}
+use mathlib.Core.Path.{_≡_, ap, _∙_}
+use mathlib.Core.List.{List}
+use Rattle.output.specs.Reply.{Reply, Served, writtenNumber, writtenPlace}
+use Rattle.output.specs.declared.Written.{Written}
+use Rattle.capi.specs.Entries.{EntryServed}
+
+-- what give_written ensures is taken as it stands
+pub entry-served : {y : Reply} {o o′ : List ℕ} {w : Written} {place number : ℕ} → Served y o o′ w → (number ≡ writtenNumber w) × (place ≡ writtenPlace w)
+    → EntryServed y o o′ place number
+entry-served h g = record { answers = g .0 ∙ ap writtenNumber (h .answer); places = g .1 ∙ ap writtenPlace (h .answer); after = h .after }

@@ -1,0 +1,197 @@
+-- Demand 2: from soundness of each reader and the round trip of each form. Assumes nothing.
+use Prim.Native.Nat.{ℕ, _+_, _<_, _≤_}
+use mathlib.Core.Path.{_≡_, refl, sym, ap, _∙_}
+use mathlib.Core.Bool.{Bool, true, false, cond}
+use mathlib.Core.List.{List, [], _++_, append-nil}
+use native.Mathlib.Omega.{arith}
+use borrow.Author.Tests.{le-leb, lt-leb, leb-false, eq-eqb}
+use lib.Dec.{leb}
+use lib.ListN.{length, drop}
+use Rattle.octets.specs.Refusals.{notSupported, tooLarge, noRoom, otherScheme}
+use Rattle.script.specs.Script.{Answer, accepted, refused, more, means, run}
+use Rattle.messages.specs.Told.{Told}
+use Rattle.messages.specs.Message.{FieldRead, Start, requestStart, responseStart, Message}
+use Rattle.messages.specs.Meaning.{Control, request, response, Meaning, controlMeans, meaning}
+use Rattle.messages.specs.Valid.{isScheme, ofResponse, valid}
+use Rattle.http1.specs.Read as script
+use Rattle.http1.specs.Read.{readRequest, readResponse}
+use Rattle.binary.specs.Read.{readBinary}
+use Rattle.write_binary.specs.Write.{binaryOf, binaryFits, toBinary}
+use Rattle.write_http1.specs.Write.{http1Of, http1Fits, onConnection, toHttp1}
+use Rattle.output.specs.Splice.{splice}
+use Rattle.output.specs.Reply.{Reply, octets, wrong, answerOf, afterOf}
+use Rattle.output.specs.declared.Written.the-variants.{Done, Refused}
+use Rattle.output.proofs.Laws.{splice-is}
+use Rattle.turn.specs.Turn as turn
+use Rattle.turn.specs.Turn.{requestToBinary, responseToBinary, binaryToBinary, binaryToHttp1}
+use Rattle.http1_laws.specs.Read.{IsRequest, IsResponse}
+use Rattle.http1_laws.proofs.Sound.{request-sound, response-sound}
+use Rattle.binary_sound.proofs.Sound.{binary-sound}
+use Rattle.binary_laws.proofs.Back.{round-trip-of-meanings}
+use Rattle.http1_round.specs.RoundTrip.{isRequestOf}
+use Rattle.http1_round.proofs.Back.{request-meanings, response-meanings}
+use Rattle.demands.specs.Demand2.{Turning, http1Reader, intoBinary, requestsAsBinary, responsesAsBinary, binaryAnew, binaryAsHttp1, replyFor, replyTo, behind, Kept, Lent, Turns, Demand2}
+
+pub no : {A : Type 0} → _≡_ {A = ℕ} 0 1 → A
+no z = absurd (omega arith)
+
+-- ---- room
+
+splice-front : (o b : List ℕ) → length b ≤ length o → splice o 0 b ≡ b ++ drop (length b) o
+splice-front o b h =
+    let z : 0 + length b ≡ length b = omega arith in
+    splice-is o 0 b (omega arith) ∙ ap (λ (n : ℕ). b ++ drop n o) z
+
+octets-lent : (bs : List ℕ) → Lent (octets bs)
+unfolding answerOf afterOf
+octets-lent bs = record {
+  done = λ o b e h. let z : bs ≡ b = cc in rw z (fit o b h);
+  small = λ o b e. let z : bs ≡ b = cc in rw z ((λ g. by-test o b (leb (length b) (length o)) refl g), (λ g. rw (lt-leb (length b) (length o) g)));
+  stands = λ o k p e. no cc;
+  unaltered = λ o k p e. kept o k p (leb (length bs) (length o)) e;
+}
+  where
+    fit : (o b : List ℕ) → length b ≤ length o
+        → (cond (leb (length b) (length o)) (Done (length b)) (Refused noRoom 0) ≡ Done (length b)) × (cond (leb (length b) (length o)) (splice o 0 b) o ≡ b ++ drop (length b) o)
+    fit o b h = rw (le-leb (length b) (length o) h) (refl, splice-front o b h)
+
+    by-test : (o b : List ℕ) (x : Bool) → leb (length b) (length o) ≡ x → cond x (Done (length b)) (Refused noRoom 0) ≡ Refused noRoom 0 → length o < length b
+    by-test o b true e g = no cc
+    by-test o b false e g = leb-false (length b) (length o) e
+
+    kept : (o : List ℕ) (k p : ℕ) (x : Bool) → cond x (Done (length bs)) (Refused noRoom 0) ≡ Refused k p → cond x (splice o 0 bs) o ≡ o
+    kept o k p true g = no cc
+    kept o k p false g = refl
+
+wrong-lent : (j q : ℕ) → Lent (wrong j q)
+unfolding answerOf afterOf
+wrong-lent j q = record {
+  done = λ o b e h. no cc;
+  small = λ o b e. no cc;
+  stands = λ o k p e. cc;
+  unaltered = λ o k p e. refl;
+}
+
+pub lent : (y : Reply) → Lent y
+lent (octets bs) = octets-lent bs
+lent (wrong j q) = wrong-lent j q
+
+-- ---- any turning that replies so, and whose written messages are read back
+
+module _ (w : Turning) (turn : List ℕ → Reply) (replies : (s : List ℕ) → turn s ≡ replyTo w s)
+    (back : (s : List ℕ) (n : ℕ) (m : Message) → w .read s ≡ accepted n m → w .goes (meaning m) ≡ true → w .fits (meaning m) ≡ true
+    → (rest : List ℕ) → means meaning (w .back (meaning m .control) (w .write (meaning m) ++ behind (w .streams) rest)) ≡ accepted (length (w .write (meaning m))) (meaning m)) where
+  is-turned : (s : List ℕ) (n : ℕ) (m : Message) → w .told ≡ true → w .read s ≡ accepted n m → w .goes (meaning m) ≡ true → w .fits (meaning m) ≡ true
+      → turn s ≡ octets (w .write (meaning m))
+  is-turned s n m e r g f = replies s ∙ rw (e, r, g, f)
+
+  is-kept : (s b : List ℕ) → turn s ≡ octets b → Kept w s b
+  is-kept s b e = first (w .told) (sym (replies s) ∙ e)
+    where
+      on : (n : ℕ) (m : Message) → w .read s ≡ accepted n m → (g f : Bool) → w .goes (meaning m) ≡ g → w .fits (meaning m) ≡ f
+          → cond g (cond f (octets (w .write (meaning m))) (wrong tooLarge 0)) (wrong otherScheme 0) ≡ octets b → Kept w s b
+      on n m r true true p q h =
+          let z : w .write (meaning m) ≡ b = cc in
+          record { long = n; message = m; read = r; goes = p; fits = q; written = sym z; same = λ rest. rw (← z) (back s n m r p q rest) }
+      on n m r true false p q h = no cc
+      on n m r false f p q h = no cc
+
+      go : (x : Answer Message) → w .read s ≡ x → replyFor w (length s) x ≡ octets b → Kept w s b
+      go (accepted n m) r h = on n m r (w .goes (meaning m)) (w .fits (meaning m)) refl refl h
+      go (refused k p) r h = no cc
+      go more r h = no cc
+
+      first : (x : Bool) → cond x (replyFor w (length s) (w .read s)) (wrong notSupported 0) ≡ octets b → Kept w s b
+      first true h = go (w .read s) refl h
+      first false h = no cc
+
+  turns : Turns w turn
+  turns = record { reply = replies; turned = is-turned; kept = is-kept; room = λ s. lent (turn s) }
+
+-- ---- into Binary
+
+binary-reply : (told : Bool) (read : List ℕ → Answer Message) (n : ℕ) (x : Answer Message) → turn.replyTo n x toBinary ≡ replyFor (intoBinary told read) n x
+unfolding toBinary
+binary-reply told read n (accepted k m) = refl
+binary-reply told read n (refused k p) = refl
+binary-reply told read n more = refl
+
+-- from any reader whose messages are valid
+module _ (told : Bool) (read : List ℕ → Answer Message) (sound : (s : List ℕ) (n : ℕ) (m : Message) → read s ≡ accepted n m → valid (meaning m) ≡ true) where
+  binary-back : (s : List ℕ) (n : ℕ) (m : Message) → read s ≡ accepted n m → true ≡ true → binaryFits (meaning m) ≡ true
+      → (rest : List ℕ) → means meaning (readBinary (binaryOf (meaning m) ++ [])) ≡ accepted (length (binaryOf (meaning m))) (meaning m)
+  binary-back s n m r g f rest = rw (append-nil (binaryOf (meaning m))) (round-trip-of-meanings (meaning m) (sound s n m r) f)
+
+  binary-turns : (turn : List ℕ → Reply) → ((s : List ℕ) → turn s ≡ replyTo (intoBinary told read) s) → Turns (intoBinary told read) turn
+  binary-turns turn replies = turns (intoBinary told read) turn replies binary-back
+
+request-replies : (t : Told) (s : List ℕ) → requestToBinary t s ≡ replyTo (requestsAsBinary t) s
+unfolding requestToBinary readRequest
+request-replies t s = go (isScheme (t .scheme)) (run (script.request t) 0 s)
+  where
+    go : (b : Bool) (x : Answer Message)
+        → turn.replyTo (length s) (cond b x (refused notSupported 0)) toBinary
+        ≡ cond b (replyFor (requestsAsBinary t) (length s) (cond b x (refused notSupported 0))) (wrong notSupported 0)
+    go true x = binary-reply _ _ (length s) x
+    go false x = refl
+
+response-replies : (s : List ℕ) → responseToBinary s ≡ replyTo responsesAsBinary s
+unfolding responseToBinary
+response-replies s = binary-reply _ _ (length s) (readResponse s)
+
+anew-replies : (s : List ℕ) → binaryToBinary s ≡ replyTo binaryAnew s
+unfolding binaryToBinary
+anew-replies s = binary-reply _ _ (length s) (readBinary s)
+
+-- ---- into HTTP/1.1
+
+pub binary-valid : (s : List ℕ) (n : ℕ) (m : Message) → readBinary s ≡ accepted n m → valid (meaning m) ≡ true
+binary-valid s n m e = binary-sound s n m e .sound .valid
+
+http1-reply : (t : Told) (n : ℕ) (x : Answer Message) → turn.replyTo n x (toHttp1 t) ≡ replyFor (binaryAsHttp1 t) n x
+unfolding toHttp1
+http1-reply t n (accepted k m) = refl
+http1-reply t n (refused k p) = refl
+http1-reply t n more = refl
+
+http1-replies : (t : Told) (s : List ℕ) → binaryToHttp1 t s ≡ replyTo (binaryAsHttp1 t) s
+unfolding binaryToHttp1
+http1-replies t s = ap (λ (y : Reply). cond (isScheme (t .scheme)) y (wrong notSupported 0)) (http1-reply t (length s) (readBinary s))
+
+-- a valid meaning that goes on the connection and fits is read back by the reader of its kind
+http1-meanings : (t : Told) (m : Meaning) (c : Control) → m .control ≡ c → valid m ≡ true → onConnection t c ≡ true → http1Fits m ≡ true
+    → (rest : List ℕ) → means meaning (http1Reader t c (http1Of m ++ rest)) ≡ accepted (length (http1Of m)) m
+http1-meanings t m (request x s a p) e v g f rest = request-meanings t m (v, f, rw e g) rest
+http1-meanings t m (response hs s) e v g f rest = response-meanings m (v, f, rw e refl) rest
+
+http1-turns : (t : Told) → Turns (binaryAsHttp1 t) (binaryToHttp1 t)
+http1-turns t = turns (binaryAsHttp1 t) (binaryToHttp1 t) (http1-replies t)
+    (λ s n m r g f rest. http1-meanings t (meaning m) (meaning m .control) refl (binary-valid s n m r) g f rest)
+
+-- ---- the kinds of messages
+
+request-kind : (t : Told) (lines : List FieldRead) (x : Start) → IsRequest t lines x → isRequestOf t (controlMeans x) ≡ true
+request-kind t lines (requestStart m s a p) h = eq-eqb s (t .scheme) (h .0)
+request-kind t lines (responseStart hs s) h = absurd h
+
+response-kind : (x : Start) → IsResponse x → ofResponse (controlMeans x) ≡ true
+response-kind (requestStart m s a p) h = absurd h
+response-kind (responseStart hs s) h = refl
+
+of-requests : (t : Told) (s : List ℕ) (n : ℕ) (m : Message) → readRequest t s ≡ accepted n m → isRequestOf t (meaning m .control) ≡ true
+unfolding meaning
+of-requests t s n m e = request-kind t (m .lines) (m .start) (request-sound t s n m e .request)
+
+of-responses : (s : List ℕ) (n : ℕ) (m : Message) → readResponse s ≡ accepted n m → ofResponse (meaning m .control) ≡ true
+unfolding meaning
+of-responses s n m e = response-kind (m .start) (response-sound s n m e .response)
+
+pub demand2 : Demand2
+demand2 = record {
+  ofRequests = of-requests;
+  ofResponses = of-responses;
+  requests = λ t. binary-turns (isScheme (t .scheme)) (readRequest t) (λ s n m r. request-sound t s n m r .sound .valid) (requestToBinary t) (request-replies t);
+  responses = binary-turns true readResponse (λ s n m r. response-sound s n m r .sound .valid) responseToBinary response-replies;
+  binaries = binary-turns true readBinary binary-valid binaryToBinary anew-replies;
+  http1 = http1-turns;
+}

@@ -1,0 +1,28 @@
+use Rattle.messages.proofs.Picks.{picks}
+use borrow.Author.Needs.{needs}
+use Rattle.read_binary.proofs.lines.is_line.Statement.{statement}
+use Rattle.read_binary.proofs.lines.is_line.Tie as tie
+use Rattle.read_binary.proofs.lines.is_line.Reads as reads
+use Rattle.read_binary.proofs.lines.is_line.Lts as lts
+use Rattle.messages.proofs.parts.is_lower_name.Reads as is-lower-name-reads
+use Rattle.messages.proofs.parts.is_trimmed_value.Reads as is-trimmed-value-reads
+
+-- src/lines.rt:46:8
+is-lower-name-requires : tie.Need-is-lower-name-requires
+is-lower-name-requires c κs = search needs
+
+-- src/lines.rt:47:9
+is-trimmed-value-requires : tie.Need-is-trimmed-value-requires
+is-trimmed-value-requires c κs = search needs
+
+-- src/lines.rt:47:9
+returns : tie.Need-returns
+returns c = search picks
+
+-- src/lines.rt:42:1
+returns-2 : tie.Need-returns-2
+returns-2 c = search picks
+
+pub is-line-spec : {M : Type 1} → statement M
+is-line-spec =
+    tie.close (tie.spec is-lower-name-requires is-trimmed-value-requires returns returns-2)
