@@ -1,8 +1,8 @@
 -- The judges of lines, by what the code finds.
-use Prim.Native.Nat.{ℕ, _+_, _-_, _<_, _≤_}
+use Prim.Native.Nat.{ℕ, zero, suc, _+_, _-_, _<_, _≤_}
 use mathlib.Core.Path.{_≡_, refl, sym, ap, _∙_}
 use mathlib.Core.Bool.{Bool, true, false, cond}
-use mathlib.Core.List.{List}
+use mathlib.Core.List.{List, [], _∷_}
 use native.Mathlib.Omega.{arith}
 use borrow.Author.Tests.{eq-eqb, ne-eqb, lt-leb, le-leb, lt-ltb, le-ltb, leb-true, ltb-false}
 use lib.Dec.{ltb, leb}
@@ -11,6 +11,7 @@ use lib.Seq.{length-take-le}
 use Rattle.octets.specs.Class.{hasClass, token, value, isBlank}
 use Rattle.octets.specs.Text.{spanLen, all, sameText, trimBack}
 use Rattle.octets.specs.Refusals.{badSyntax, badVersion}
+use Rattle.octets.proofs.Kit.{and-split}
 use Rattle.octets.proofs.Texts.{part-all}
 use Rattle.http1.specs.Lines.{isOther, valueFrom, valueIn, nameTo, fieldLens, chunkLens}
 use Rattle.http1.specs.Lines.{version, statusAt, statusVersion, isStatusShape, statusLens, requestParts, requestVersion, requestTarget, requestLens}
@@ -58,10 +59,34 @@ module _ (w : List ℕ) (name from : ℕ) {d : ℕ} (e : d ≡ from + spanLen (h
   unfolding valueIn
   value-bad h = rw (← e, ne-eqb _ _ h)
 
-  pub value-good : {b len : ℕ} → d ≡ length w → b ≡ from + spanLen isBlank (drop from w)
-      → len ≡ trimBack isBlank (take (length w - b) (drop b w)) (length (take (length w - b) (drop b w))) → field.Of name b len ≡ valueIn w name from
-  unfolding valueIn valueFrom
-  value-good {b} {len} h eb el = rw (← e, eq-eqb _ _ h, ← eb) (ap (field.Of name b) (el ∙ rw (part-all w b, length-drop b w)))
+  pub value-good : {r : FieldLine} → d ≡ length w → r ≡ valueFrom w name (from + spanLen isBlank (drop from w)) → r ≡ valueIn w name from
+  unfolding valueIn
+  value-good h q = rw (← e, eq-eqb _ _ h) q
+
+pub value-trimmed : (w : List ℕ) (name from : ℕ) {b len : ℕ} → b ≡ from + spanLen isBlank (drop from w)
+    → len ≡ trimBack isBlank (take (length w - b) (drop b w)) (length (take (length w - b) (drop b w)))
+    → field.Of name b len ≡ valueFrom w name (from + spanLen isBlank (drop from w))
+unfolding valueFrom
+value-trimmed w name from {b} {len} eb el = rw (← eb) (ap (field.Of name b) (el ∙ rw (part-all w b, length-drop b w)))
+
+-- a run over octets that all pass goes to the end, from any place on
+span-all : (p : ℕ → Bool) (l : List ℕ) → all p l ≡ true → spanLen p l ≡ length l
+unfolding all spanLen
+span-all p [] h = refl
+span-all p (x ∷ l) h =
+    let z = and-split (p x) (all p l) h in
+    rw (z .0) (ap suc (span-all p l (z .1)))
+
+all-rest : (p : ℕ → Bool) (l : List ℕ) (n : ℕ) → all p l ≡ true → all p (drop n l) ≡ true
+unfolding all
+all-rest p l zero h = h
+all-rest p [] (suc n) h = h
+all-rest p (x ∷ l) (suc n) h = all-rest p l n (and-split (p x) (all p l) h .1)
+
+pub value-plain : (w : List ℕ) (name from : ℕ) {r : FieldLine} → from ≤ length w → all (hasClass value) w ≡ true
+    → r ≡ valueFrom w name (from + spanLen isBlank (drop from w)) → r ≡ valueIn w name from
+value-plain w name from g h q =
+    value-good w name from refl (ap (λ (n : ℕ). from + n) (span-all (hasClass value) (drop from w) (all-rest (hasClass value) w from h)) ∙ omega (arith, length-drop from w)) q
 
 module _ (w : List ℕ) {n : ℕ} (e : n ≡ 0 + spanLen (hasClass token) (drop 0 w)) where
   run-is : spanLen (hasClass token) w ≡ n

@@ -1,16 +1,19 @@
 // The judges of single lines, without their CR LF.
 ghost use mathlib.Core.Path.{_≡_};
-ghost use Prim.Native.Nat.{_+_, _≤_, _<_};
-ghost use lib.ListN.{length, drop};
+ghost use mathlib.Core.Bool.{true};
+ghost use Prim.Native.Nat.{_+_, _-_, _≤_, _<_};
+ghost use lib.ListN.{length, take, drop};
 ghost use Rattle.octets.specs.Table.{classes};
-ghost use Rattle.octets.specs.Class.{hasClass, value};
+ghost use Rattle.octets.specs.Class.{hasClass, value, isBlank};
 ghost use Rattle.octets.specs.Text.{spanLen, all};
 ghost use Rattle.numbers.specs.Digits.{digitOf};
-ghost use Rattle.http1.specs.Lines.{isOther, valueIn, fieldLens, chunkLens};
+ghost use Rattle.http1.specs.Next.{ofField, lineJudged, nextLine};
+ghost use Rattle.http1.specs.Lines.{isOther, valueFrom, valueIn, fieldLens, chunkLens};
 ghost use Rattle.http1.specs.Lines.{statusAt, statusVersion, isStatusShape, statusLens};
 ghost use Rattle.http1.specs.Lines.{requestParts, requestVersion, requestLens};
 use super::ChunkLine;
 use super::FieldLine;
+use super::NextLine;
 use super::RequestLine;
 use super::StatusLine;
 use messages::parts::method_verdict;
@@ -25,6 +28,8 @@ use octets::blank_end;
 use octets::equal;
 use octets::span;
 use octets::trim_len;
+use script::Line;
+use script::line_end;
 
 // The place of the first d from `from` on, or the end.
 fn find(s: &[u8], from: usize, d: u8) -> usize
@@ -58,15 +63,23 @@ fn value_in(t: &[u8; 256], w: &[u8], name: usize, from: usize) -> FieldLine
     ensures { λ r. ⌜ r ≡ valueIn (now (w .entry)) name from ⌝ }
 {
     if span(t, w, from, 2) == w.len() {
-        let b = blank_end(w, from);
-        let len = trim_len(&w[b..]);
-        return FieldLine::Of {
-            name: name,
-            value: b,
-            len: len,
-        };
+        return trimmed(w, name, from);
     }
     FieldLine::Bad
+}
+
+// The field whose name has `name` octets and whose value stands from `from` on, blanks around it.
+fn trimmed(w: &[u8], name: usize, from: usize) -> FieldLine
+    requires { ⌜ from ≤ length (now w) ⌝ }
+    ensures { λ r. ⌜ r ≡ valueFrom (now (w .entry)) name (from + spanLen isBlank (drop from (now (w .entry)))) ⌝ }
+{
+    let b = blank_end(w, from);
+    let len = trim_len(&w[b..]);
+    FieldLine::Of {
+        name: name,
+        value: b,
+        len: len,
+    }
 }
 
 pub fn field_line(t: &[u8; 256], w: &[u8]) -> FieldLine
@@ -84,6 +97,91 @@ pub fn field_line(t: &[u8; 256], w: &[u8]) -> FieldLine
         return value_in(t, w, n, n + 1);
     }
     FieldLine::Bad
+}
+
+// The same of a line whose octets are all those of a value.
+fn plain_line(t: &[u8; 256], w: &[u8]) -> FieldLine
+    requires { ⌜ (now t ≡ classes) × (all (hasClass value) (now w) ≡ true) ⌝ }
+    ensures { λ r. ⌜ r ≡ fieldLens (now (w .entry)) ⌝ }
+{
+    let n = span(t, w, 0, 1);
+    if n == 0 {
+        return FieldLine::Bad;
+    }
+    if w.len() <= n {
+        return FieldLine::Bad;
+    }
+    if w[n] == 58 {
+        return trimmed(w, n, n + 1);
+    }
+    FieldLine::Bad
+}
+
+// A field line as the next one, which ends at `next`.
+fn of_field(line: FieldLine, next: usize) -> NextLine
+    ensures { λ r. ⌜ r ≡ ofField next line ⌝ }
+{
+    match line {
+        FieldLine::Of { name, value, len } => NextLine::Field {
+            name,
+            value,
+            len,
+            next,
+        },
+        FieldLine::Bad => NextLine::NoField,
+    }
+}
+
+// The line from i to e, whose octets are all those of a value.
+fn value_line(t: &[u8; 256], s: &[u8], i: usize, e: usize) -> NextLine
+    requires { ⌜ (now t ≡ classes) × (i ≤ e) × (e + 2 ≤ length (now s)) × (all (hasClass value) (take (e - i) (drop i (now s))) ≡ true) ⌝ }
+    ensures { λ r. ⌜ r ≡ lineJudged (take (e - i) (drop i (now (s .entry)))) (e + 2) ⌝ }
+{
+    let next = e + 2;
+    if e == i {
+        return NextLine::Empty { next };
+    }
+    let f = plain_line(t, &s[i..e]);
+    of_field(f, next)
+}
+
+// The line at i, within what is left of its allowance.
+fn any_line(t: &[u8; 256], s: &[u8], i: usize, left: usize) -> NextLine
+    requires { ⌜ (now t ≡ classes) × (i ≤ length (now s)) ⌝ }
+    ensures { λ r. ⌜ r ≡ nextLine (now (s .entry)) i left ⌝ }
+{
+    let l = line_end(s, i, left);
+    match l {
+        Line::More => return NextLine::More,
+        Line::Bad => return NextLine::Bad,
+        Line::Long => return NextLine::Long,
+        Line::Ends(next) => {
+            let e = next - 2;
+            if e == i {
+                return NextLine::Empty { next };
+            }
+            let f = field_line(t, &s[i..e]);
+            return of_field(f, next);
+        }
+    }
+}
+
+// The same in one walk over a line of which nothing but its end is to be refused.
+pub fn next_line(t: &[u8; 256], s: &[u8], i: usize, left: usize) -> NextLine
+    requires { ⌜ (now t ≡ classes) × (i ≤ length (now s)) ⌝ }
+    ensures { λ r. ⌜ r ≡ nextLine (now (s .entry)) i left ⌝ }
+{
+    let e = span(t, s, i, 2);
+    if 2 <= s.len() - e {
+        if s[e] == 13 {
+            if s[e + 1] == 10 {
+                if e + 2 - i <= left {
+                    return value_line(t, s, i, e);
+                }
+            }
+        }
+    }
+    any_line(t, s, i, left)
 }
 
 pub fn chunk_line(t: &[u8; 256], w: &[u8]) -> ChunkLine

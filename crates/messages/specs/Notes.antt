@@ -88,6 +88,14 @@ noteOf coded n k p a v =
       trailers = cond (refusedInTrailers k) false (n .trailers);
     }
 
+-- kinds of lines of which something is noted
+abbrev pub isNoted : Kind → Bool
+isNoted kind.Ordinary = false
+isNoted kind.HopByHop = false
+isNoted kind.Host = true
+isNoted kind.ContentLength = true
+isNoted kind.TransferEncoding = true
+
 -- the same from a line as read
 abbrev pub noteLine : Bool → Notes → FieldRead → Notes
 noteLine coded n f = noteOf coded n (lineKind f) (f .name .place) (f .value .place) (f .value .text)

@@ -16,7 +16,7 @@ ghost use Rattle.octets.specs.Table.{classes};
 ghost use Rattle.messages.specs.Names.{refusedInTrailers};
 ghost use Rattle.messages.specs.Rules.{requestBody, nothingStated, contentBody, responseBody, agrees};
 ghost use Rattle.messages.specs.Notes.{bodyAnswer, isClashing};
-ghost use Rattle.messages.specs.Notes.{noNotes, noteOf, noteHost, anotherHost, noteLength, anotherLength, anotherCoding};
+ghost use Rattle.messages.specs.Notes.{noNotes, isNoted, noteOf, noteHost, anotherHost, noteLength, anotherLength, anotherCoding};
 ghost use Rattle.messages.specs.Notes.{isInside, hostAt, hostIn, isSameHost, givenIn, authorityNoted};
 
 // One host line more.
@@ -112,6 +112,19 @@ pub fn no_notes() -> Notes
         hosts: Hosts::Nothing,
         framing: Framing::Unstated,
         trailers: true,
+    }
+}
+
+// Whether anything is noted of lines of a kind.
+pub fn is_noted(kind: Kind) -> bool
+    ensures { λ r. ⌜ r ≡ isNoted kind ⌝ }
+{
+    match kind {
+        Kind::Ordinary => false,
+        Kind::HopByHop => false,
+        Kind::Host => true,
+        Kind::ContentLength => true,
+        Kind::TransferEncoding => true,
     }
 }
 

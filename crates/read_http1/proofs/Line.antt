@@ -1,111 +1,228 @@
--- A field line that was taken, as the code makes it.
+-- A field line that was taken, as the code makes it, and what the next line of a section tells.
 use Prim.Native.Nat.{ℕ, zero, suc, _+_, _-_, _*_, _<_, _≤_}
 use mathlib.Core.Path.{_≡_, refl, sym, ap, _∙_}
 use mathlib.Core.List.{List, [], _∷_, _++_, map}
 use mathlib.Core.Bool.{Bool, true, false, cond}
 use native.Mathlib.Omega.{arith}
+use borrow.Author.Tests.{eqb-true, eqb-false}
+use lib.Dec.{eqb}
 use lib.ListN.{length, take, drop, length-drop}
 use lib.Seq.{length-take-le}
-use Rattle.octets.specs.Text.{lowerOf}
+use Rattle.octets.specs.Text.{lowerOf, isEmpty}
 use Rattle.output.specs.Splice.{splice}
 use Rattle.output.proofs.Laws.{splice-length}
+use Rattle.script.specs.Script.{lineOf}
 use Rattle.script.specs.Do.{Piece, piece, Judged, good, wrong}
+use Rattle.script.specs.declared.Line.{Line}
+use Rattle.script.specs.declared.Line.the-variants.{Ends, Bad, Long, More}
 use Rattle.messages.specs.Message.{FieldRead}
 use Rattle.messages.specs.Names.{kindOf, lineKind, kept, travels}
-use Rattle.messages.specs.Notes.{noteOf, noteLine}
+use Rattle.messages.specs.Notes.{isNoted, noteOf, noteLine}
 use Rattle.messages.specs.Answers.{fieldsNumbers}
-use Rattle.messages.specs.declared.Kind.{Kind}
 use Rattle.messages.specs.declared.Notes.{Notes}
+use Rattle.messages.proofs.Noting.{noted-nothing}
+use Rattle.messages.specs.declared.Kind.{Kind}
 use Rattle.octets.specs.Refusals.{badSyntax}
 use Rattle.http1.specs.Lines.{onField, fieldLens, fieldOf}
+use Rattle.http1.specs.Next.{ofField, lineJudged, onLine, nextLine}
 use Rattle.http1.specs.declared.FieldLine.{FieldLine}
 use Rattle.http1.specs.declared.FieldLine.the-variants as field
+use Rattle.http1.specs.declared.NextLine.{NextLine}
+use Rattle.http1.specs.declared.NextLine.the-variants as line
 use Rattle.http1.proofs.Views.{field-within}
 use Rattle.ranges.specs.Ranges.{Kept}
-use Rattle.read_http1.specs.Section.{lineRead, LineSays, Lined}
+use Rattle.read_http1.specs.Section.{lineAt, lineRead, LineTaken}
 use Rattle.read_http1.specs.declared.LineRead.{LineRead}
 use Rattle.read_http1.proofs.Parts.{part-front, part-inner, part-long}
 
--- a line that is none
-pub line-wrong : (w : List ℕ) (i : ℕ) (host : Bool) (k : ℕ) (n : Notes) (o o′ : List ℕ) (m : Notes) (j : ℕ)
-    → fieldLens w ≡ field.Bad → Lined (fieldOf (piece i w)) host k n o o′ (lineRead false j m)
-unfolding fieldOf
-line-wrong w i host k n o o′ m j e = record { says = rw e refl }
+-- ---- a line that is taken
 
-module _ (s : List ℕ) (i e n b l : ℕ) (h : i ≤ e) (g : e ≤ length s) (q : fieldLens (take (e - i) (drop i s)) ≡ field.Of n b l) where
-  -- where the name and the value end
-  pub line-bounds : (n ≤ e - i) × (b + l ≤ e - i)
-  line-bounds =
-      let v = field-within (take (e - i) (drop i s)) n b l q in
-      (omega (arith, v, part-long s i e h g), omega (arith, v, part-long s i e h g))
+pub line-taken : (s : List ℕ) (i n v l : ℕ) (host : Bool) (k : ℕ) (o o′ : List ℕ) (kind : Kind) (t : Bool) (r : ℕ) → i + n ≤ length s → v + l ≤ length s
+    → kind ≡ kindOf (map lowerOf (take (i + n - i) (drop i s))) → t ≡ travels host kind → Kept t k (i ∷ n ∷ v ∷ l ∷ []) o o′ r
+    → LineTaken (lineAt s i n v l) host k o o′ (lineRead kind r)
+unfolding kept fieldsNumbers lineKind
+line-taken s i n v l host k o o′ kind t r a b ek et p =
+    let z : i + n - i ≡ n = omega arith in
+    let e : kind ≡ kindOf (map lowerOf (take n (drop i s))) = ek ∙ rw z refl in
+    pick t p (et ∙ ap (travels host) e) e
+  where
+    name-long : length (take n (drop i s)) ≡ n
+    name-long = length-take-le n (drop i s) (omega (arith, length-drop i s))
 
-  -- the line as read
-  line : FieldRead
-  line = record { name = piece i (take n (take (e - i) (drop i s))); value = piece (i + b) (take l (drop b (take (e - i) (drop i s)))) }
+    value-long : length (take l (drop v s)) ≡ l
+    value-long = length-take-le l (drop v s) (omega (arith, length-drop v s))
 
-  name-long : length (take n (take (e - i) (drop i s))) ≡ n
-  name-long = length-take-le n (take (e - i) (drop i s)) (omega (arith, line-bounds, part-long s i e h g))
+    pick : (x : Bool) → Kept x k (i ∷ n ∷ v ∷ l ∷ []) o o′ r → x ≡ travels host (kindOf (map lowerOf (take n (drop i s))))
+        → kind ≡ kindOf (map lowerOf (take n (drop i s))) → LineTaken (lineAt s i n v l) host k o o′ (lineRead kind r)
+    pick true u q e = record { read = rw (← q, u .count, e); stored = rw (← q, name-long, value-long) (u .stored) }
+    pick false u q e =
+        let z : k + 0 ≡ k = omega arith in
+        record { read = rw (← q, u .count, e, z); stored = rw (← q) (u .stored) }
 
-  value-long : length (take l (drop b (take (e - i) (drop i s)))) ≡ l
-  value-long =
-      length-take-le l (drop b (take (e - i) (drop i s)))
-      (omega (arith, line-bounds, part-long s i e h g, length-drop b (take (e - i) (drop i s))))
+module _ (s : List ℕ) (i n v l : ℕ) {k : Kind} (notes : Notes) (e : k ≡ lineKind (lineAt s i n v l)) where
+  -- a line that was noted, and one of which nothing is noted
+  pub note-taken : {noted : Notes} → noted ≡ noteOf true notes k i v (take (v + l - v) (drop v s)) → noted ≡ noteLine true notes (lineAt s i n v l)
+  note-taken q =
+      let z : v + l - v ≡ l = omega arith in
+      q ∙ ap (λ (x : ℕ). noteOf true notes k i v (take x (drop v s))) z ∙ ap (λ (x : Kind). noteOf true notes x i v (take l (drop v s))) e
 
-  pub line-good : (host : Bool) (k : ℕ) (notes noted : Notes) (o o′ : List ℕ) (kind : Kind) (t : Bool) (r : ℕ)
-      → kind ≡ kindOf (map lowerOf (take (i + n - i) (drop i s)))
-      → noted ≡ noteOf true notes kind i (i + b) (take (i + b + l - (i + b)) (drop (i + b) s))
-      → t ≡ travels host kind
-      → Kept t k (i ∷ n ∷ (i + b) ∷ l ∷ []) o o′ r
-      → Lined (fieldOf (piece i (take (e - i) (drop i s)))) host k notes o o′ (lineRead true r noted)
-  unfolding fieldOf kept fieldsNumbers lineKind line
-  line-good host k notes noted o o′ kind t r ek en et p =
-      let bs = line-bounds in
-      let a : kind ≡ kindOf (map lowerOf (take n (take (e - i) (drop i s)))) = ek ∙ ap (λ (x : List ℕ). kindOf (map lowerOf x)) (part-front s i e n (bs .0)) in
-      let d : noted ≡ noteOf true notes kind i (i + b) (take l (drop b (take (e - i) (drop i s)))) =
-      en ∙ ap (λ (x : List ℕ). noteOf true notes kind i (i + b) x) (part-inner s i e b l (bs .1)) in
-      record { says = rw (q, ← a, ← et) (pick t p d) }
+  pub note-passed : isNoted k ≡ false → notes ≡ noteLine true notes (lineAt s i n v l)
+  note-passed q = sym (noted-nothing true notes k i v (take l (drop v s)) q) ∙ ap (λ (x : Kind). noteOf true notes x i v (take l (drop v s))) e
+
+pub taken-same : {f : FieldRead} {host : Bool} {k : ℕ} {o o′ : List ℕ} {r : LineRead} → LineTaken f host k o o′ r → length o′ ≡ length o
+taken-same {f} {host} {k} {o} h = ap length (h .stored) ∙ splice-length o (k * 4) (fieldsNumbers (kept host (f ∷ [])))
+
+-- ---- what the next line tells
+
+-- the outcomes of the next line, by number
+abbrev tag : NextLine → ℕ
+tag (line.Field n v l next) = 0
+tag (line.Empty next) = 1
+tag line.NoField = 2
+tag line.Bad = 3
+tag line.Long = 4
+tag line.More = 5
+
+tag-field : (next : ℕ) (f : FieldLine) → tag (ofField next f) ≤ 2
+tag-field next (field.Of n v l) = omega arith
+tag-field next field.Bad = omega arith
+
+tag-judged : (w : List ℕ) (next : ℕ) → tag (lineJudged w next) ≤ 2
+unfolding lineJudged
+tag-judged w next = go (isEmpty w)
+  where
+    go : (b : Bool) → tag (cond b (line.Empty next) (ofField next (fieldLens w))) ≤ 2
+    go true = omega arith
+    go false = tag-field next (fieldLens w)
+
+pub record EmptyLine (s : List ℕ) (i left next : ℕ) : Type 0 where
+  pub ends : lineOf (drop i s) left i 0 ≡ Ends next
+  pub none : length (take (next - 2 - i) (drop i s)) ≡ 0
+
+pub record FieldAt (s : List ℕ) (i left n v l next : ℕ) : Type 0 where
+  pub ends : lineOf (drop i s) left i 0 ≡ Ends next
+  pub field : fieldLens (take (next - 2 - i) (drop i s)) ≡ field.Of n v l
+
+pub record NoFieldAt (s : List ℕ) (i left : ℕ) : Type 0 where
+  pub next : ℕ
+  pub ends : lineOf (drop i s) left i 0 ≡ Ends next
+  pub some : length (take (next - 2 - i) (drop i s)) ≡ 0 → ⊥
+  pub bad : fieldLens (take (next - 2 - i) (drop i s)) ≡ field.Bad
+
+module _ (s : List ℕ) (i left : ℕ) where
+  pub tells-more : nextLine s i left ≡ line.More → lineOf (drop i s) left i 0 ≡ More
+  unfolding nextLine
+  tells-more q = go (lineOf (drop i s) left i 0) q
     where
-      pick : (x : Bool) → Kept x k (i ∷ n ∷ (i + b) ∷ l ∷ []) o o′ r → noted ≡ noteOf true notes kind i (i + b) (take l (drop b (take (e - i) (drop i s))))
-          → (lineRead true r noted ≡ lineRead true (k + length (cond x (line ∷ []) [])) (noteOf true notes kind i (i + b) (take l (drop b (take (e - i) (drop i s))))))
-          × (o′ ≡ splice o (k * 4) (fieldsNumbers (cond x (line ∷ []) [])))
-      pick true u d = (rw (u .count, d), rw (name-long, value-long) (u .stored))
-      pick false u d =
-          let z : k + 0 ≡ k = omega arith in
-          (rw (u .count, d, z), u .stored)
+      go : (l : Line) → onLine s i l ≡ line.More → l ≡ More
+      go (Ends e) q = absurd (omega (arith, tag-judged (take (e - 2 - i) (drop i s)) e, ap tag q))
+      go Bad q = absurd (omega (arith, ap tag q))
+      go Long q = absurd (omega (arith, ap tag q))
+      go More q = refl
 
--- ---- what the caller learns
+  pub tells-bad : nextLine s i left ≡ line.Bad → lineOf (drop i s) left i 0 ≡ Bad
+  unfolding nextLine
+  tells-bad q = go (lineOf (drop i s) left i 0) q
+    where
+      go : (l : Line) → onLine s i l ≡ line.Bad → l ≡ Bad
+      go (Ends e) q = absurd (omega (arith, tag-judged (take (e - 2 - i) (drop i s)) e, ap tag q))
+      go Bad q = refl
+      go Long q = absurd (omega (arith, ap tag q))
+      go More q = absurd (omega (arith, ap tag q))
 
--- a line that is none is refused at its first octet, with one number
-pub field-wrong : (l : Piece) {x p : ℕ} → fieldOf l ≡ wrong x p → fieldOf l ≡ wrong badSyntax (l .place)
+  pub tells-long : nextLine s i left ≡ line.Long → lineOf (drop i s) left i 0 ≡ Long
+  unfolding nextLine
+  tells-long q = go (lineOf (drop i s) left i 0) q
+    where
+      go : (l : Line) → onLine s i l ≡ line.Long → l ≡ Long
+      go (Ends e) q = absurd (omega (arith, tag-judged (take (e - 2 - i) (drop i s)) e, ap tag q))
+      go Bad q = absurd (omega (arith, ap tag q))
+      go Long q = refl
+      go More q = absurd (omega (arith, ap tag q))
+
+  pub tells-empty : (next : ℕ) → nextLine s i left ≡ line.Empty next → EmptyLine s i left next
+  unfolding nextLine lineJudged isEmpty
+  tells-empty next q = go (lineOf (drop i s) left i 0) refl q
+    where
+      in-field : (e : ℕ) (f : FieldLine) → ofField e f ≡ line.Empty next → ⊥
+      in-field e (field.Of n v l) q = omega (arith, ap tag q)
+      in-field e field.Bad q = omega (arith, ap tag q)
+
+      pick : (e : ℕ) (b : Bool) → eqb (length (take (e - 2 - i) (drop i s))) 0 ≡ b → lineOf (drop i s) left i 0 ≡ Ends e
+          → cond b (line.Empty e) (ofField e (fieldLens (take (e - 2 - i) (drop i s)))) ≡ line.Empty next → EmptyLine s i left next
+      pick e true h k q =
+          let z : e ≡ next = cc in
+          rw (← z) (record { ends = k; none = eqb-true (length (take (e - 2 - i) (drop i s))) 0 h })
+      pick e false h k q = absurd (in-field e (fieldLens (take (e - 2 - i) (drop i s))) q)
+
+      go : (l : Line) → lineOf (drop i s) left i 0 ≡ l → onLine s i l ≡ line.Empty next → EmptyLine s i left next
+      go (Ends e) k q = pick e (eqb (length (take (e - 2 - i) (drop i s))) 0) refl k q
+      go Bad k q = absurd (omega (arith, ap tag q))
+      go Long k q = absurd (omega (arith, ap tag q))
+      go More k q = absurd (omega (arith, ap tag q))
+
+  pub tells-field : (n v l next : ℕ) → nextLine s i left ≡ line.Field n v l next → FieldAt s i left n v l next
+  unfolding nextLine lineJudged
+  tells-field n v l next q = go (lineOf (drop i s) left i 0) refl q
+    where
+      in-field : (e : ℕ) (f : FieldLine) → fieldLens (take (e - 2 - i) (drop i s)) ≡ f → lineOf (drop i s) left i 0 ≡ Ends e → ofField e f ≡ line.Field n v l next
+          → FieldAt s i left n v l next
+      in-field e (field.Of m w k) h p q =
+          let z : e ≡ next = cc in
+          let y : field.Of m w k ≡ field.Of n v l = cc in
+          rw (← z) (record { ends = p; field = h ∙ y })
+      in-field e field.Bad h p q = absurd (omega (arith, ap tag q))
+
+      pick : (e : ℕ) (b : Bool) → lineOf (drop i s) left i 0 ≡ Ends e
+          → cond b (line.Empty e) (ofField e (fieldLens (take (e - 2 - i) (drop i s)))) ≡ line.Field n v l next → FieldAt s i left n v l next
+      pick e true k q = absurd (omega (arith, ap tag q))
+      pick e false k q = in-field e (fieldLens (take (e - 2 - i) (drop i s))) refl k q
+
+      go : (x : Line) → lineOf (drop i s) left i 0 ≡ x → onLine s i x ≡ line.Field n v l next → FieldAt s i left n v l next
+      go (Ends e) k q = pick e (isEmpty (take (e - 2 - i) (drop i s))) k q
+      go Bad k q = absurd (omega (arith, ap tag q))
+      go Long k q = absurd (omega (arith, ap tag q))
+      go More k q = absurd (omega (arith, ap tag q))
+
+  pub tells-none : nextLine s i left ≡ line.NoField → NoFieldAt s i left
+  unfolding nextLine lineJudged isEmpty
+  tells-none q = go (lineOf (drop i s) left i 0) refl q
+    where
+      in-field : (e : ℕ) (f : FieldLine) → fieldLens (take (e - 2 - i) (drop i s)) ≡ f → lineOf (drop i s) left i 0 ≡ Ends e
+          → (length (take (e - 2 - i) (drop i s)) ≡ 0 → ⊥) → ofField e f ≡ line.NoField → NoFieldAt s i left
+      in-field e (field.Of m w k) h p x q = absurd (omega (arith, ap tag q))
+      in-field e field.Bad h p x q = record { next = e; ends = p; some = x; bad = h }
+
+      pick : (e : ℕ) (b : Bool) → eqb (length (take (e - 2 - i) (drop i s))) 0 ≡ b → lineOf (drop i s) left i 0 ≡ Ends e
+          → cond b (line.Empty e) (ofField e (fieldLens (take (e - 2 - i) (drop i s)))) ≡ line.NoField → NoFieldAt s i left
+      pick e true h k q = absurd (omega (arith, ap tag q))
+      pick e false h k q = in-field e (fieldLens (take (e - 2 - i) (drop i s))) refl k (eqb-false (length (take (e - 2 - i) (drop i s))) 0 h) q
+
+      go : (x : Line) → lineOf (drop i s) left i 0 ≡ x → onLine s i x ≡ line.NoField → NoFieldAt s i left
+      go (Ends e) k q = pick e (eqb (length (take (e - 2 - i) (drop i s))) 0) refl k q
+      go Bad k q = absurd (omega (arith, ap tag q))
+      go Long k q = absurd (omega (arith, ap tag q))
+      go More k q = absurd (omega (arith, ap tag q))
+
+-- ---- the line as the definitions judge it
+
+pub field-bad : (w : List ℕ) (i : ℕ) → fieldLens w ≡ field.Bad → fieldOf (piece i w) ≡ wrong badSyntax i
 unfolding fieldOf
-field-wrong l e = go (fieldLens (l .text)) e
-  where
-    go : (y : FieldLine) {x p : ℕ} → onField l y ≡ wrong x p → onField l y ≡ wrong badSyntax (l .place)
-    go (field.Of n b v) e = cc
-    go field.Bad e = refl
+field-bad w i e = rw e refl
 
-pub record GoodLined (j : Judged FieldRead) (host : Bool) (k : ℕ) (n : Notes) (o o′ : List ℕ) (r : LineRead) : Type 0 where
-  pub line : FieldRead
-  pub judged : j ≡ good line
-  pub read : r ≡ lineRead true (k + length (kept host (line ∷ []))) (noteLine true n line)
-  pub stored : o′ ≡ splice o (k * 4) (fieldsNumbers (kept host (line ∷ [])))
-  pub same : length o′ ≡ length o
+module _ (s : List ℕ) (i e n v l : ℕ) (h : i ≤ e) (g : e ≤ length s) (q : fieldLens (take (e - i) (drop i s)) ≡ field.Of n v l) where
+  -- where the name and the value end
+  pub line-bounds : (1 ≤ n) × (n ≤ e - i) × (v + l ≤ e - i)
+  line-bounds =
+      let b = field-within (take (e - i) (drop i s)) n v l q in
+      (b .0, omega (arith, b, part-long s i e h g), omega (arith, b, part-long s i e h g))
 
-no-good : {A : Type 0} {b : Bool} → b ≡ false → b ≡ true → A
-no-good e h = let z : _≡_ {A = ℕ} 0 1 = cc in absurd (omega arith)
-
-pub lined-good : {j : Judged FieldRead} {host : Bool} {k : ℕ} {n : Notes} {o o′ : List ℕ} {r : LineRead} → Lined j host k n o o′ r → r .good ≡ true
-    → GoodLined j host k n o o′ r
-lined-good {j} {host} {k} {n} {o} {o′} {r} h e = go j (h .says)
-  where
-    go : (x : Judged FieldRead) → LineSays x host k n o o′ r → GoodLined x host k n o o′ r
-    go (good f) q = record { line = f; judged = refl; read = q .0; stored = q .1; same = ap length (q .1) ∙ splice-length o (k * 4) (fieldsNumbers (kept host (f ∷ []))) }
-    go (wrong x p) q = no-good q e
-
-pub lined-wrong : (l : Piece) {host : Bool} {k : ℕ} {n : Notes} {o o′ : List ℕ} {r : LineRead} → Lined (fieldOf l) host k n o o′ r → r .good ≡ false
-    → fieldOf l ≡ wrong badSyntax (l .place)
-lined-wrong l {host} {k} {n} {o} {o′} {r} h e = go (fieldOf l) refl (h .says)
-  where
-    go : (j : Judged FieldRead) → fieldOf l ≡ j → LineSays j host k n o o′ r → fieldOf l ≡ wrong badSyntax (l .place)
-    go (good f) q h = no-good e (ap (λ (x : LineRead). x .good) (h .0))
-    go (wrong x p) q h = field-wrong l q
+  pub field-good : fieldOf (piece i (take (e - i) (drop i s))) ≡ good (lineAt s i n (i + v) l)
+  unfolding fieldOf
+  field-good =
+      let b = line-bounds in
+      let x : i + n - i ≡ n = omega arith in
+      let y : i + v + l - (i + v) ≡ l = omega arith in
+      let a : take n (take (e - i) (drop i s)) ≡ take n (drop i s) = sym (part-front s i e n (b .1)) ∙ rw x refl in
+      let d : take l (drop v (take (e - i) (drop i s))) ≡ take l (drop (i + v) s) = sym (part-inner s i e v l (b .2)) ∙ rw y refl in
+      rw (q, a, d) refl

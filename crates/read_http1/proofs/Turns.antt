@@ -4,7 +4,7 @@ use mathlib.Core.Path.{_≡_, refl, sym, ap, _∙_, subst}
 use mathlib.Core.List.{List, [], _∷_, _++_, append-assoc}
 use mathlib.Core.Bool.{Bool, true, false, cond}
 use native.Mathlib.Omega.{arith}
-use borrow.Author.Tests.{eq-eqb, ne-eqb, le-leb, lt-leb}
+use borrow.Author.Tests.{eq-eqb, ne-eqb, le-leb, lt-leb, leb-true, leb-false}
 use lib.Dec.{eqb, leb}
 use lib.ListN.{length, take, drop, length-append, length-drop}
 use lib.Seq.{length-take-le}
@@ -19,7 +19,8 @@ use Rattle.script.proofs.Places.{line-more, line-bad, line-long, line-ends, lin
 use Rattle.messages.specs.Message.{FieldRead}
 use Rattle.http1.specs.Lines.{fieldOf}
 use Rattle.http1.specs.Read.{Lines, lineWithin, fieldLines}
-use Rattle.read_http1.specs.Section.{SectionSays, Sectioned}
+use Rattle.read_http1.specs.Section.{noField, lineAt, SectionSays, Sectioned}
+use Rattle.read_http1.proofs.Line.{EmptyLine, FieldAt, NoFieldAt, field-bad, field-good, line-bounds}
 use Rattle.read_http1.specs.declared.Section.{Section}
 
 -- an answer that equals another promises the same
@@ -70,3 +71,42 @@ module _ (s : List ℕ) (i left f : ℕ) (fs : List FieldRead) where
         turn-field g′ z q =
             let l : left - (length (take (next - 2 - i) (drop i s)) + 2) ≡ left - (next - i) = omega (arith, line-within s left i next within e, long-as) in
             line-ends _ _ _ _ s i next e ∙ rw (some-text, lt-leb _ _ g, q, l, z)
+
+-- ---- by what the next line tells
+
+module _ (s : List ℕ) (i left f : ℕ) (fs : List FieldRead) (within : i ≤ length s) where
+  empty-at : {next : ℕ} (x : EmptyLine s i left next) → next - 2 ≡ i
+  empty-at {next} x = omega (arith, x .none, long-as s i left f fs next (x .ends) within, line-within s left i next within (x .ends))
+
+  pub turn-empty : {next : ℕ} → EmptyLine s i left next → run (fieldLines (suc f) left fs) i (drop i s) ≡ accepted next (record { lines = fs; end = next; left = left - 2 })
+  turn-empty {next} x = turn-done s i left f fs next (x .ends) within (empty-at x)
+
+  pub turn-none : NoFieldAt s i left → run (fieldLines (suc f) left fs) i (drop i s) ≡ refused (noField (length fs)) i
+  unfolding noField
+  turn-none x = go (leb linesMost (length fs)) refl
+    where
+      some : x .next - 2 ≡ i → ⊥
+      some q = x .some (long-as s i left f fs (x .next) (x .ends) within ∙ omega (arith, line-within s left i (x .next) within (x .ends)))
+
+      go : (b : Bool) → leb linesMost (length fs) ≡ b → run (fieldLines (suc f) left fs) i (drop i s) ≡ refused (cond b tooLarge badSyntax) i
+      go true e = turn-full s i left f fs (x .next) (x .ends) within some (leb-true _ _ e)
+      go false e = turn-wrong s i left f fs (x .next) (x .ends) within some (leb-false _ _ e) (field-bad _ i (x .bad))
+
+  module _ {n v l next : ℕ} (x : FieldAt s i left n v l next) where
+    pub field-bounds : (1 ≤ n) × (i + n ≤ next - 2) × (i + v + l ≤ next - 2) × (i + 2 ≤ next) × (next ≤ length s) × (next - i ≤ left)
+    field-bounds =
+        let w = line-within s left i next within (x .ends) in
+        let b = line-bounds s i (next - 2) n v l (omega (arith, w)) (omega (arith, w)) (x .field) in
+        (b .0, omega (arith, w, b), omega (arith, w, b), w .0, w .1, w .2)
+
+    not-empty : next - 2 ≡ i → ⊥
+    not-empty q = omega (arith, field-bounds)
+
+    pub turn-over : linesMost ≤ length fs → run (fieldLines (suc f) left fs) i (drop i s) ≡ refused tooLarge i
+    turn-over g = turn-full s i left f fs next (x .ends) within not-empty g
+
+    pub turn-taken : (g′ : ℕ) → f ≡ suc g′ → length fs < linesMost
+        → run (fieldLines (suc f) left fs) i (drop i s) ≡ run (fieldLines (suc g′) (left - (next - i)) (fs ++ lineAt s i n (i + v) l ∷ [])) next (drop next s)
+    turn-taken g′ z g =
+        let w = field-bounds in
+        turn-field s i left f fs next (x .ends) within not-empty g g′ z (field-good s i (next - 2) n v l (omega (arith, w)) (omega (arith, w)) (x .field))

@@ -1,34 +1,40 @@
 -- What the code that reads sections promises, in terms of the readers' scripts.
 use Prim.Native.Nat.{ℕ, _+_, _-_, _*_, _≤_}
 use mathlib.Core.Path.{_≡_}
-use mathlib.Core.Bool.{Bool, true, false}
+use mathlib.Core.Bool.{Bool, true, cond}
 use mathlib.Core.List.{List, [], _∷_, _++_}
-use lib.ListN.{length}
+use lib.Dec.{leb}
+use lib.ListN.{length, take, drop}
+use Rattle.octets.specs.Limits.{linesMost}
+use Rattle.octets.specs.Refusals.{badSyntax, tooLarge}
 use Rattle.script.specs.Script.{Answer, accepted, refused, more}
-use Rattle.script.specs.Do.{Piece, Judged, good, wrong}
+use Rattle.script.specs.Do.{piece}
 use Rattle.output.specs.Splice.{splice}
 use Rattle.messages.specs.Message.{FieldRead}
-use Rattle.messages.specs.Names.{kept}
-use Rattle.messages.specs.Notes.{notesOf, noteLine}
+use Rattle.messages.specs.Names.{lineKind, kept}
+use Rattle.messages.specs.Notes.{notesOf}
 use Rattle.messages.specs.Answers.{fieldsNumbers}
-use Rattle.messages.specs.declared.Notes.{Notes}
+use Rattle.messages.specs.declared.Kind.{Kind}
 use Rattle.http1.specs.Read.{Lines}
 use Rattle.read_http1.specs.declared.LineRead.{LineRead}
 use Rattle.read_http1.specs.declared.Section.{Section}
 use Rattle.read_http1.specs.declared.Section.the-variants.{Done, Refused, More}
 
-abbrev pub lineRead : Bool → ℕ → Notes → LineRead
-lineRead g k n = record { good = g; kept = k; notes = n }
+-- a line that is no field line, behind so many lines: a 65th is refused before it is judged
+unfoldable pub noField : ℕ → ℕ
+noField lines = cond (leb linesMost lines) tooLarge badSyntax
 
--- a line that was judged: it is noted and, where it travels, stored behind the k entries of o
-abbrev pub LineSays : Judged FieldRead → Bool → ℕ → Notes → List ℕ → List ℕ → LineRead → Type 0
-LineSays (good f) host k n o o′ r =
-    (r ≡ lineRead true (k + length (kept host (f ∷ []))) (noteLine true n f))
-    × (o′ ≡ splice o (k * 4) (fieldsNumbers (kept host (f ∷ []))))
-LineSays (wrong x p) host k n o o′ r = r .good ≡ false
+-- a field line of s by places and lengths: its name has n octets from i on, its value l from v on
+abbrev pub lineAt : List ℕ → ℕ → ℕ → ℕ → ℕ → FieldRead
+lineAt s i n v l = record { name = piece i (take n (drop i s)); value = piece v (take l (drop v s)) }
 
-pub record Lined (j : Judged FieldRead) (host : Bool) (k : ℕ) (n : Notes) (o o′ : List ℕ) (r : LineRead) : Type 0 where
-  pub says : LineSays j host k n o o′ r
+abbrev pub lineRead : Kind → ℕ → LineRead
+lineRead k n = record { kind = k; kept = n }
+
+-- a line that was taken: where it travels it is stored behind the k entries of o
+pub record LineTaken (f : FieldRead) (host : Bool) (k : ℕ) (o o′ : List ℕ) (r : LineRead) : Type 0 where
+  pub read : r ≡ lineRead (lineKind f) (k + length (kept host (f ∷ [])))
+  pub stored : o′ ≡ splice o (k * 4) (fieldsNumbers (kept host (f ∷ [])))
 
 -- a section that was read behind the k entries of o
 abbrev pub SectionSays : Answer Lines → Bool → ℕ → List ℕ → List ℕ → Section → Type 0

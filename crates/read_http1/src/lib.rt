@@ -2,6 +2,7 @@
 pub mod content;
 pub mod lines;
 
+use messages::Kind;
 use messages::Notes;
 
 // A section that was read: the place behind it, what is left of its allowance, how many kept fields stand in the lent ranges now, and what its
@@ -20,11 +21,10 @@ pub enum Section {
     More,
 }
 
-// A field line that was read: whether it is one, and then the count of kept fields and the notes with it.
+// A field line that was taken: its kind, and the count of kept fields with it.
 pub struct LineRead {
-    pub good: bool,
+    pub kind: Kind,
     pub kept: usize,
-    pub notes: Notes,
 }
 
 // A chunk that was read: where its data start and how many octets they are; or the end of the last chunk line, which has size zero.
