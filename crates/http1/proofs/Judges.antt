@@ -5,7 +5,7 @@ use mathlib.Core.Bool.{Bool, true, false, cond}
 use mathlib.Core.List.{List, [], _∷_}
 use native.Mathlib.Omega.{arith}
 use borrow.Author.Tests.{eq-eqb, ne-eqb, lt-leb, le-leb, lt-ltb, le-ltb, leb-true, ltb-false}
-use lib.Dec.{ltb, leb}
+use lib.Dec.{ltb, leb, eqb}
 use lib.ListN.{length, getD, take, drop, drop-of-length-le, length-drop}
 use lib.Seq.{length-take-le}
 use Rattle.octets.specs.Class.{hasClass, token, value, isBlank}
@@ -14,6 +14,7 @@ use Rattle.octets.specs.Refusals.{badSyntax, badVersion}
 use Rattle.octets.proofs.Kit.{and-split}
 use Rattle.octets.proofs.Texts.{part-all}
 use Rattle.http1.specs.Lines.{isOther, valueFrom, valueIn, nameTo, fieldLens, chunkLens}
+use Rattle.http1.specs.Next.{Named}
 use Rattle.http1.specs.Lines.{version, statusAt, statusVersion, isStatusShape, statusLens, requestParts, requestVersion, requestTarget, requestLens}
 use Rattle.messages.specs.Control.{methodVerdict, pathVerdict, statusVerdict}
 use Rattle.numbers.specs.Digits.{numOf, digitOf}
@@ -92,23 +93,26 @@ module _ (w : List ℕ) {n : ℕ} (e : n ≡ 0 + spanLen (hasClass token) (drop 
   run-is : spanLen (hasClass token) w ≡ n
   run-is = from-first (hasClass token) w e
 
-  pub field-none : n ≡ 0 → field.Bad ≡ fieldLens w
+  -- no octet behind the name, or another than a colon
+  pub name-short : length w ≤ n → Named w 0
   unfolding fieldLens nameTo
-  field-none h = rw (run-is, eq-eqb _ _ h)
+  name-short g = record { none = λ z. rw (run-is, le-leb _ _ g) (same (eqb n 0)); some = λ h. absurd (h refl) }
+    where
+      same : (b : Bool) → cond b field.Bad field.Bad ≡ field.Bad
+      same true = refl
+      same false = refl
 
-  module _ (h : n ≡ 0 → ⊥) where
-    pub field-short : length w ≤ n → field.Bad ≡ fieldLens w
-    unfolding fieldLens nameTo
-    field-short g = rw (run-is, ne-eqb _ _ h, le-leb _ _ g)
+  pub name-other : n < length w → (getD w n 0 ≡ 58 → ⊥) → Named w 0
+  unfolding fieldLens nameTo
+  name-other g k = record { none = λ z. rw (run-is, lt-leb _ _ g, ne-eqb _ _ k) (same (eqb n 0)); some = λ h. absurd (h refl) }
+    where
+      same : (b : Bool) → cond b field.Bad field.Bad ≡ field.Bad
+      same true = refl
+      same false = refl
 
-    module _ (g : n < length w) where
-      pub field-value : {r : FieldLine} → getD w n 0 ≡ 58 → r ≡ valueIn w n (n + 1) → r ≡ fieldLens w
-      unfolding fieldLens nameTo
-      field-value k q = rw (run-is, ne-eqb _ _ h, lt-leb _ _ g, eq-eqb _ _ k) q
-
-      pub field-colon : (getD w n 0 ≡ 58 → ⊥) → field.Bad ≡ fieldLens w
-      unfolding fieldLens nameTo
-      field-colon k = rw (run-is, ne-eqb _ _ h, lt-leb _ _ g, ne-eqb _ _ k)
+  pub name-colon : n < length w → getD w n 0 ≡ 58 → Named w n
+  unfolding fieldLens nameTo
+  name-colon g k = record { none = λ z. rw (run-is, eq-eqb _ _ z); some = λ h. (g, rw (run-is, ne-eqb _ _ h, lt-leb _ _ g, eq-eqb _ _ k)) }
 
 -- ---- chunk lines
 

@@ -7,7 +7,7 @@ ghost use Rattle.octets.specs.Table.{classes};
 ghost use Rattle.octets.specs.Class.{hasClass, value, isBlank};
 ghost use Rattle.octets.specs.Text.{spanLen, all};
 ghost use Rattle.numbers.specs.Digits.{digitOf};
-ghost use Rattle.http1.specs.Next.{ofField, lineJudged, nextLine};
+ghost use Rattle.http1.specs.Next.{Named, ofField, lineJudged, nextLine};
 ghost use Rattle.http1.specs.Lines.{isOther, valueFrom, valueIn, fieldLens, chunkLens};
 ghost use Rattle.http1.specs.Lines.{statusAt, statusVersion, isStatusShape, statusLens};
 ghost use Rattle.http1.specs.Lines.{requestParts, requestVersion, requestLens};
@@ -82,21 +82,30 @@ fn trimmed(w: &[u8], name: usize, from: usize) -> FieldLine
     }
 }
 
+// How long the name at the front of a field line is, where a colon stands behind it; else 0.
+fn name_len(t: &[u8; 256], w: &[u8]) -> usize
+    requires { ⌜ now t ≡ classes ⌝ }
+    ensures { λ r. ⌜ Named (now (w .entry)) r ⌝ }
+{
+    let n = span(t, w, 0, 1);
+    if w.len() <= n {
+        return 0;
+    }
+    if w[n] == 58 {
+        return n;
+    }
+    0
+}
+
 pub fn field_line(t: &[u8; 256], w: &[u8]) -> FieldLine
     requires { ⌜ now t ≡ classes ⌝ }
     ensures { λ r. ⌜ r ≡ fieldLens (now (w .entry)) ⌝ }
 {
-    let n = span(t, w, 0, 1);
+    let n = name_len(t, w);
     if n == 0 {
         return FieldLine::Bad;
     }
-    if w.len() <= n {
-        return FieldLine::Bad;
-    }
-    if w[n] == 58 {
-        return value_in(t, w, n, n + 1);
-    }
-    FieldLine::Bad
+    value_in(t, w, n, n + 1)
 }
 
 // The same of a line whose octets are all those of a value.
@@ -104,17 +113,11 @@ fn plain_line(t: &[u8; 256], w: &[u8]) -> FieldLine
     requires { ⌜ (now t ≡ classes) × (all (hasClass value) (now w) ≡ true) ⌝ }
     ensures { λ r. ⌜ r ≡ fieldLens (now (w .entry)) ⌝ }
 {
-    let n = span(t, w, 0, 1);
+    let n = name_len(t, w);
     if n == 0 {
         return FieldLine::Bad;
     }
-    if w.len() <= n {
-        return FieldLine::Bad;
-    }
-    if w[n] == 58 {
-        return trimmed(w, n, n + 1);
-    }
-    FieldLine::Bad
+    trimmed(w, n, n + 1)
 }
 
 // A field line as the next one, which ends at `next`.
