@@ -1,6 +1,7 @@
 -- Steps of the loops that measure, and of those that write.
 use Prim.Native.Nat.{ℕ, zero, suc, _+_, _-_, _*_, _<_, _≤_}
 use mathlib.Core.Path.{_≡_, refl, sym, ap, _∙_}
+use mathlib.Core.Bool.{true, false}
 use mathlib.Core.List.{List, [], _∷_, _++_, map}
 use native.Mathlib.Nat.{add-zero, sub-zero}
 use native.Mathlib.Omega.{arith}
@@ -14,9 +15,11 @@ use Rattle.numbers.proofs.IntegerLaws.{int-some}
 use Rattle.output.specs.Splice.{splice, part, Put, Left}
 use Rattle.output.proofs.Laws.{elements-length, put-then, left-start, left-step, left-end}
 use Rattle.messages.specs.Meaning.{fieldMeans, contentOf}
-use Rattle.ranges.specs.Entries.{fieldIn, chunksIn, fieldsBefore}
-use Rattle.write_binary.specs.Write.{counted, fieldBytes, schemeBytes}
-use Rattle.write_binary.specs.Sizes.{countedSize, entrySize, fieldsSize, sectionSize, headSize, headsSize, schemeSize}
+use Rattle.messages.specs.declared.Record.{Record}
+use Rattle.ranges.specs.Entries.{fieldIn, fieldsIn, chunksIn, fieldsBefore}
+use Rattle.ranges.proofs.Entries.{fields-more, fields-none}
+use Rattle.write_binary.specs.Write.{counted, fieldBytes, fieldsBytes, schemeBytes}
+use Rattle.write_binary.specs.Sizes.{countedSize, entrySize, fieldsSize, sectionSize, headSize, headsSize, schemeSize, controlSize}
 
 -- ---- measuring
 
@@ -62,6 +65,17 @@ module _ (hs ns : List ℕ) (i : ℕ) where
   pub head-as : {status k count x : ℕ} → status ≡ getD ns (i * 2) 0 → k ≡ fieldsBefore ns i → count ≡ getD ns (i * 2 + 1) 0
       → x ≡ intLen status + sectionSize hs k count → x ≡ headSize hs ns i
   head-as a b c e = e ∙ rw (a, b, c)
+
+-- control data by the kind of message
+module _ (r : Record) (hs ns : List ℕ) where
+  pub size-response : r .response ≡ true → controlSize (r .response) r hs ns ≡ 1 + headsSize hs ns 0 (r .informational) + intLen (r .status)
+  unfolding controlSize
+  size-response e = rw e
+
+  pub size-request : r .response ≡ false
+      → controlSize (r .response) r hs ns ≡ 1 + countedSize (r .method .len) + schemeSize (r .scheme) + countedSize (r .authority .len) + countedSize (r .path .len)
+  unfolding controlSize
+  size-request e = rw e
 
 -- ---- writing
 
@@ -128,3 +142,26 @@ module _ (s ranges : List ℕ) (k : ℕ) {o o₁ o₂ : List ℕ} {at a r name n
       → Put o at (fieldBytes (fieldMeans (fieldIn s ranges k))) (entrySize ranges k) o₂ r
   unfolding fieldBytes fieldMeans
   put-field e f g h p q = put-then (rw (e, f) at p) (rw (g, h) at q)
+
+-- the fields of entries, one behind the other
+module _ (s ranges : List ℕ) (k n : ℕ) where
+  pub fields-begin : (o : List ℕ) (at : ℕ)
+      → Left o at (fieldsBytes (map fieldMeans (fieldsIn s ranges k n))) (fieldsSize ranges k n) o at
+      (fieldsBytes (map fieldMeans (fieldsIn s ranges (k + 0) (n - 0)))) (fieldsSize ranges (k + 0) (n - 0))
+  fields-begin o at = rw (add-zero k, sub-zero n) (left-start o at _ _)
+
+  fields-bytes-more : (i : ℕ) → i < n
+      → fieldsBytes (map fieldMeans (fieldsIn s ranges (k + i) (n - i)))
+      ≡ fieldBytes (fieldMeans (fieldIn s ranges (k + i))) ++ fieldsBytes (map fieldMeans (fieldsIn s ranges (k + (i + 1)) (n - (i + 1))))
+  unfolding fieldsBytes
+  fields-bytes-more i h = rw (fields-more s ranges k i n h)
+
+  pub fields-bytes-none : (i : ℕ) → n ≤ i → fieldsBytes (map fieldMeans (fieldsIn s ranges (k + i) (n - i))) ≡ []
+  unfolding fieldsBytes
+  fields-bytes-none i h = rw (fields-none s ranges (k + i) i n h)
+
+  pub left-field : (i : ℕ) {o₀ bs₀ o o₁ : List ℕ} {at₀ n₀ a r : ℕ} → i < n
+      → Left o₀ at₀ bs₀ n₀ o a (fieldsBytes (map fieldMeans (fieldsIn s ranges (k + i) (n - i)))) (fieldsSize ranges (k + i) (n - i))
+      → Put o a (fieldBytes (fieldMeans (fieldIn s ranges (k + i)))) (entrySize ranges (k + i)) o₁ r
+      → Left o₀ at₀ bs₀ n₀ o₁ r (fieldsBytes (map fieldMeans (fieldsIn s ranges (k + (i + 1)) (n - (i + 1))))) (fieldsSize ranges (k + (i + 1)) (n - (i + 1)))
+  left-field i h l p = left-more (fields-bytes-more i h) (size-more ranges k n i h) l p

@@ -1,5 +1,6 @@
 // How long a message is in Binary, by its numbers alone.
 use messages::Part;
+use messages::Record;
 use numbers::int_len;
 use ranges::number_at;
 ghost use mathlib.Core.Path.{_≡_};
@@ -7,7 +8,7 @@ ghost use Prim.Native.Nat.{ℕ, _+_, _*_, _≤_, _<_};
 ghost use lib.ListN.{length};
 ghost use Rattle.numbers.specs.Integer.{integerEnd, intLen};
 ghost use Rattle.ranges.specs.Entries.{HeadsWithin};
-ghost use Rattle.write_binary.specs.Sizes.{countedSize, entrySize, fieldsSize, sectionSize, headsSize, schemeSize, entryMost, fieldsMost, headsMost, partMost};
+ghost use Rattle.write_binary.specs.Sizes.{countedSize, entrySize, fieldsSize, sectionSize, headsSize, schemeSize, controlSize, messageSize, entryMost, fieldsMost, headsMost, partMost};
 
 // So many octets with their count in front.
 pub fn counted_size(n: usize) -> usize
@@ -106,4 +107,15 @@ fn response_size(fields: &[u32], heads: &[u32], n: usize, status: u32) -> usize
     ensures { λ r. ⌜ (r ≡ 1 + headsSize (now (fields .entry)) (now (heads .entry)) 0 n + intLen status) × (r ≤ headsMost + 9) ⌝ }
 {
     1 + heads_size(fields, heads, n) + int_len(status as usize)
+}
+
+// Framing indicator and control data of a message.
+fn control_size(r: Record, fields: &[u32], heads: &[u32]) -> usize
+    requires { ⌜ ((l : ℕ) × HeadsWithin l (now fields) (now heads) (r .informational)) ⌝ }
+    ensures { λ z. ⌜ (z ≡ controlSize (r .response) r (now (fields .entry)) (now (heads .entry))) × (z ≤ headsMost + 9) ⌝ }
+{
+    if r.response {
+        return response_size(fields, heads, r.informational, r.status);
+    }
+    request_size(r.method, r.scheme, r.authority, r.path)
 }

@@ -82,3 +82,17 @@ fn put_content(out: &mut [u8], at: usize, s: &[u8], chunks: &[u32], n: usize, le
     let a = put_int(out, at, len);
     put_chunks(out, a, s, chunks, n)
 }
+
+// The fields of n entries from the entry k on.
+fn put_fields(out: &mut [u8], at: usize, s: &[u8], ranges: &[u32], k: usize, n: usize) -> usize
+    requires { ⌜ FieldsWithin (length (now s)) (now ranges) k n × (at + fieldsSize (now ranges) k n ≤ length (now out)) ⌝ }
+    ensures { λ r. ⌜ Put (now (out .entry)) at (fieldsBytes (map fieldMeans (fieldsIn (now (s .entry)) (now (ranges .entry)) k n))) (fieldsSize (now (ranges .entry)) k n) (now (out .exit)) r ⌝ }
+{
+    let mut i = 0;
+    let mut a = at;
+    while i < n {
+        a = put_entry(out, a, s, ranges, k + i);
+        i += 1;
+    }
+    a
+}
