@@ -18,8 +18,9 @@ use Rattle.messages.specs.Meaning.{fieldMeans, contentOf}
 use Rattle.messages.specs.declared.Record.{Record}
 use Rattle.ranges.specs.Entries.{fieldIn, fieldsIn, chunksIn, fieldsBefore}
 use Rattle.ranges.proofs.Entries.{fields-more, fields-none}
-use Rattle.write_binary.specs.Write.{counted, fieldBytes, fieldsBytes, schemeBytes}
-use Rattle.write_binary.specs.Sizes.{countedSize, entrySize, fieldsSize, sectionSize, headSize, headsSize, schemeSize, controlSize}
+use Rattle.write_binary.proofs.Lengths.{counted-is, fields-length}
+use Rattle.write_binary.specs.Write.{counted, fieldBytes, fieldsBytes, sectionBytes, schemeBytes}
+use Rattle.write_binary.specs.Sizes.{countedSize, entrySize, fieldsSize, sectionSize, headSize, headsSize, schemeSize, controlSize, messageSize}
 
 -- ---- measuring
 
@@ -76,6 +77,12 @@ module _ (r : Record) (hs ns : List ℕ) where
       → controlSize (r .response) r hs ns ≡ 1 + countedSize (r .method .len) + schemeSize (r .scheme) + countedSize (r .authority .len) + countedSize (r .path .len)
   unfolding controlSize
   size-request e = rw e
+
+  pub size-message : (ts : List ℕ) {control k headers content trailers : ℕ} → control ≡ controlSize (r .response) r hs ns → k ≡ fieldsBefore ns (r .informational)
+      → headers ≡ sectionSize hs k (r .headers) → content ≡ countedSize (r .content) → trailers ≡ sectionSize ts 0 (r .trailers)
+      → control + headers + content + trailers ≡ messageSize r hs ns ts
+  unfolding messageSize
+  size-message ts a b c d e = rw (a, c, b, d, e)
 
 -- ---- writing
 
@@ -165,3 +172,10 @@ module _ (s ranges : List ℕ) (k n : ℕ) where
       → Put o a (fieldBytes (fieldMeans (fieldIn s ranges (k + i)))) (entrySize ranges (k + i)) o₁ r
       → Left o₀ at₀ bs₀ n₀ o₁ r (fieldsBytes (map fieldMeans (fieldsIn s ranges (k + (i + 1)) (n - (i + 1))))) (fieldsSize ranges (k + (i + 1)) (n - (i + 1)))
   left-field i h l p = left-more (fields-bytes-more i h) (size-more ranges k n i h) l p
+
+  -- a section: their count first
+  pub put-section : {o o₁ o₂ : List ℕ} {at a r size : ℕ} → size ≡ fieldsSize ranges k n → Put o at (intBytes size) (intLen size) o₁ a
+      → Put o₁ a (fieldsBytes (map fieldMeans (fieldsIn s ranges k n))) (fieldsSize ranges k n) o₂ r
+      → Put o at (sectionBytes (map fieldMeans (fieldsIn s ranges k n))) (sectionSize ranges k n) o₂ r
+  unfolding sectionBytes
+  put-section e p q = put-as (counted-is _ _ (fields-length s ranges k n)) (put-then (rw e at p) q)

@@ -2,12 +2,14 @@
 use messages::Part;
 use messages::Record;
 use numbers::int_len;
+use ranges::fields_before;
 use ranges::number_at;
 ghost use mathlib.Core.Path.{_≡_};
 ghost use Prim.Native.Nat.{ℕ, _+_, _*_, _≤_, _<_};
+ghost use mathlib.Core.List.{List};
 ghost use lib.ListN.{length};
 ghost use Rattle.numbers.specs.Integer.{integerEnd, intLen};
-ghost use Rattle.ranges.specs.Entries.{HeadsWithin};
+ghost use Rattle.ranges.specs.Entries.{HeadsWithin, MessageWithin};
 ghost use Rattle.write_binary.specs.Sizes.{countedSize, entrySize, fieldsSize, sectionSize, headsSize, schemeSize, controlSize, messageSize, entryMost, fieldsMost, headsMost, partMost};
 
 // So many octets with their count in front.
@@ -118,4 +120,16 @@ fn control_size(r: Record, fields: &[u32], heads: &[u32]) -> usize
         return response_size(fields, heads, r.informational, r.status);
     }
     request_size(r.method, r.scheme, r.authority, r.path)
+}
+
+// A whole message.
+pub fn message_size(r: Record, fields: &[u32], heads: &[u32], trailers: &[u32]) -> usize
+    requires { ⌜ ((s : List ℕ) × (cs : List ℕ) × MessageWithin s r (now fields) (now heads) cs (now trailers)) ⌝ }
+    ensures { λ z. ⌜ z ≡ messageSize r (now (fields .entry)) (now (heads .entry)) (now (trailers .entry)) ⌝ }
+{
+    let control = control_size(r, fields, heads);
+    let k = fields_before(heads, r.informational);
+    let headers = section_size(fields, k, r.headers);
+    let content = counted_size(r.content);
+    control + headers + content + section_size(trailers, 0, r.trailers)
 }

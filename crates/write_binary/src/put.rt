@@ -1,4 +1,5 @@
 // The parts of a message written as Binary, each at a place of the lent octets; the answer is the place behind it.
+use crate::measure::fields_size;
 use output::put_int;
 use output::put_lower;
 use output::put_part;
@@ -95,4 +96,14 @@ fn put_fields(out: &mut [u8], at: usize, s: &[u8], ranges: &[u32], k: usize, n: 
         i += 1;
     }
     a
+}
+
+// A section of them.
+fn put_section(out: &mut [u8], at: usize, s: &[u8], ranges: &[u32], k: usize, n: usize) -> usize
+    requires { ⌜ FieldsWithin (length (now s)) (now ranges) k n × (at + sectionSize (now ranges) k n ≤ length (now out)) ⌝ }
+    ensures { λ r. ⌜ Put (now (out .entry)) at (sectionBytes (map fieldMeans (fieldsIn (now (s .entry)) (now (ranges .entry)) k n))) (sectionSize (now (ranges .entry)) k n) (now (out .exit)) r ⌝ }
+{
+    let size = fields_size(ranges, k, n);
+    let a = put_int(out, at, size);
+    put_fields(out, a, s, ranges, k, n)
 }
