@@ -16,10 +16,10 @@ use Rattle.output.specs.Splice.{splice, part, Put, Left}
 use Rattle.output.proofs.Laws.{elements-length, put-then, left-start, left-step, left-end}
 use Rattle.messages.specs.Meaning.{fieldMeans, contentOf}
 use Rattle.messages.specs.declared.Record.{Record}
-use Rattle.ranges.specs.Entries.{fieldIn, fieldsIn, chunksIn, fieldsBefore}
-use Rattle.ranges.proofs.Entries.{fields-more, fields-none}
+use Rattle.ranges.specs.Entries.{fieldIn, fieldsIn, chunksIn, fieldsBefore, headsIn, FieldsWithin}
+use Rattle.ranges.proofs.Entries.{fields-more, fields-none, heads-more, heads-none}
 use Rattle.write_binary.proofs.Lengths.{counted-is, fields-length}
-use Rattle.write_binary.specs.Write.{counted, fieldBytes, fieldsBytes, sectionBytes, schemeBytes}
+use Rattle.write_binary.specs.Write.{counted, fieldBytes, fieldsBytes, sectionBytes, schemeBytes, informationalBytes}
 use Rattle.write_binary.specs.Sizes.{countedSize, entrySize, fieldsSize, sectionSize, headSize, headsSize, schemeSize, controlSize, messageSize}
 
 -- ---- measuring
@@ -179,3 +179,31 @@ module _ (s ranges : List ℕ) (k n : ℕ) where
       → Put o at (sectionBytes (map fieldMeans (fieldsIn s ranges k n))) (sectionSize ranges k n) o₂ r
   unfolding sectionBytes
   put-section e p q = put-as (counted-is _ _ (fields-length s ranges k n)) (put-then (rw e at p) q)
+
+-- the same section by other names of its numbers
+pub within-as : {l : ℕ} {ranges : List ℕ} {k k′ c c′ : ℕ} → k ≡ k′ → c ≡ c′ → FieldsWithin l ranges k′ c′ → FieldsWithin l ranges k c
+within-as e f w = rw (e, f) w
+
+-- informational heads, one behind the other
+module _ (s hs ns : List ℕ) (n : ℕ) where
+  pub heads-begin : (o : List ℕ) (at : ℕ)
+      → Left o at (informationalBytes (headsIn s hs ns 0 n)) (headsSize hs ns 0 n) o at (informationalBytes (headsIn s hs ns 0 (n - 0))) (headsSize hs ns 0 (n - 0))
+  heads-begin o at = rw (sub-zero n) (left-start o at _ _)
+
+  heads-bytes-more : (i : ℕ) → i < n
+      → informationalBytes (headsIn s hs ns i (n - i))
+      ≡ intBytes (getD ns (i * 2) 0) ++ sectionBytes (map fieldMeans (fieldsIn s hs (fieldsBefore ns i) (getD ns (i * 2 + 1) 0)))
+      ++ informationalBytes (headsIn s hs ns (i + 1) (n - (i + 1)))
+  unfolding informationalBytes
+  heads-bytes-more i h = rw (heads-more s hs ns i n h)
+
+  pub heads-bytes-none : (i : ℕ) → n ≤ i → informationalBytes (headsIn s hs ns i (n - i)) ≡ []
+  unfolding informationalBytes
+  heads-bytes-none i h = rw (heads-none s hs ns i n h)
+
+  pub left-head : (i : ℕ) {o₀ bs₀ o o₁ : List ℕ} {at₀ n₀ a r status k count : ℕ} → i < n
+      → status ≡ getD ns (i * 2) 0 → k ≡ fieldsBefore ns i → count ≡ getD ns (i * 2 + 1) 0
+      → Left o₀ at₀ bs₀ n₀ o a (informationalBytes (headsIn s hs ns i (n - i))) (headsSize hs ns i (n - i))
+      → Put o a (intBytes status ++ sectionBytes (map fieldMeans (fieldsIn s hs k count))) (intLen status + sectionSize hs k count) o₁ r
+      → Left o₀ at₀ bs₀ n₀ o₁ r (informationalBytes (headsIn s hs ns (i + 1) (n - (i + 1)))) (headsSize hs ns (i + 1) (n - (i + 1)))
+  left-head i h e f g l p = left-more (heads-bytes-more i h) (heads-size-more hs ns n i h) l (rw (e, f, g) at p)

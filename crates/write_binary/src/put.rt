@@ -1,5 +1,6 @@
 // The parts of a message written as Binary, each at a place of the lent octets; the answer is the place behind it.
 use crate::measure::fields_size;
+use messages::Part;
 use output::put_int;
 use output::put_lower;
 use output::put_part;
@@ -106,4 +107,47 @@ fn put_section(out: &mut [u8], at: usize, s: &[u8], ranges: &[u32], k: usize, n:
     let size = fields_size(ranges, k, n);
     let a = put_int(out, at, size);
     put_fields(out, a, s, ranges, k, n)
+}
+
+// The status and the section of an informational head.
+fn put_head(
+    out: &mut [u8],
+    at: usize,
+    status: usize,
+    s: &[u8],
+    ranges: &[u32],
+    k: usize,
+    n: usize,
+) -> usize
+    requires { ⌜ (status < integerEnd) × FieldsWithin (length (now s)) (now ranges) k n × (at + (intLen status + sectionSize (now ranges) k n) ≤ length (now out)) ⌝ }
+    ensures { λ r. ⌜ Put (now (out .entry)) at (intBytes status ++ sectionBytes (map fieldMeans (fieldsIn (now (s .entry)) (now (ranges .entry)) k n))) (intLen status + sectionSize (now (ranges .entry)) k n) (now (out .exit)) r ⌝ }
+{
+    let a = put_int(out, at, status);
+    put_section(out, a, s, ranges, k, n)
+}
+
+// The first n informational heads.
+fn put_heads(out: &mut [u8], at: usize, s: &[u8], fields: &[u32], heads: &[u32], n: usize) -> usize
+    requires { ⌜ HeadsWithin (length (now s)) (now fields) (now heads) n × (at + headsSize (now fields) (now heads) 0 n ≤ length (now out)) ⌝ }
+    ensures { λ r. ⌜ Put (now (out .entry)) at (informationalBytes (headsIn (now (s .entry)) (now (fields .entry)) (now (heads .entry)) 0 n)) (headsSize (now (fields .entry)) (now (heads .entry)) 0 n) (now (out .exit)) r ⌝ }
+{
+    let mut i = 0;
+    let mut k = 0;
+    let mut a = at;
+    while i < n {
+        let status = number_at(heads, i * 2);
+        let count = number_at(heads, i * 2 + 1);
+        a = put_head(out, a, status, s, fields, k, count);
+        k += count;
+        i += 1;
+    }
+    a
+}
+
+// A part of control data with its count in front.
+fn put_counted_part(out: &mut [u8], at: usize, s: &[u8], p: Part) -> usize
+    requires { ⌜ (p .start + p .len ≤ length (now s)) × (at + countedSize (p .len) ≤ length (now out)) ⌝ }
+    ensures { λ r. ⌜ Put (now (out .entry)) at (counted (partIn (now (s .entry)) p)) (countedSize (p .len)) (now (out .exit)) r ⌝ }
+{
+    put_counted(out, at, s, p.start as usize, p.len as usize)
 }
