@@ -14,12 +14,12 @@ use Rattle.numbers.specs.Places.{push}
 use Rattle.numbers.proofs.IntegerLaws.{int-some}
 use Rattle.output.specs.Splice.{splice, part, Put, Left}
 use Rattle.output.proofs.Laws.{elements-length, put-then, left-start, left-step, left-end}
-use Rattle.messages.specs.Meaning.{fieldMeans, contentOf}
+use Rattle.messages.specs.Meaning.{Informational, request, response, fieldMeans, contentOf}
 use Rattle.messages.specs.declared.Record.{Record}
 use Rattle.ranges.specs.Entries.{fieldIn, fieldsIn, chunksIn, fieldsBefore, headsIn, FieldsWithin}
 use Rattle.ranges.proofs.Entries.{fields-more, fields-none, heads-more, heads-none}
 use Rattle.write_binary.proofs.Lengths.{counted-is, fields-length}
-use Rattle.write_binary.specs.Write.{counted, fieldBytes, fieldsBytes, sectionBytes, schemeBytes, informationalBytes}
+use Rattle.write_binary.specs.Write.{counted, fieldBytes, fieldsBytes, sectionBytes, schemeBytes, informationalBytes, controlBytes}
 use Rattle.write_binary.specs.Sizes.{countedSize, entrySize, fieldsSize, sectionSize, headSize, headsSize, schemeSize, controlSize, messageSize}
 
 -- ---- measuring
@@ -207,3 +207,23 @@ module _ (s hs ns : List ℕ) (n : ℕ) where
       → Put o a (intBytes status ++ sectionBytes (map fieldMeans (fieldsIn s hs k count))) (intLen status + sectionSize hs k count) o₁ r
       → Left o₀ at₀ bs₀ n₀ o₁ r (informationalBytes (headsIn s hs ns (i + 1) (n - (i + 1)))) (headsSize hs ns (i + 1) (n - (i + 1)))
   left-head i h e f g l p = left-more (heads-bytes-more i h) (heads-size-more hs ns n i h) l (rw (e, f, g) at p)
+
+-- framing indicators
+zero-is : 0 ∷ [] ≡ intBytes 0
+unfolding intBytes intLen tagOf push
+zero-is = refl
+
+one-is : 1 ∷ [] ≡ intBytes 1
+unfolding intBytes intLen tagOf push
+one-is = refl
+
+module _ {o o₁ o₂ o₃ : List ℕ} {r₁ r₂ r₃ : ℕ} where
+  pub put-request : (m : List ℕ) (scheme : ℕ) (a p : List ℕ) {o₄ o₅ : List ℕ} {i j k l r₄ r₅ : ℕ} → Put o 0 (0 ∷ []) 1 o₁ r₁ → Put o₁ r₁ (counted m) i o₂ r₂ → Put o₂ r₂ (counted (schemeBytes scheme)) j o₃ r₃
+      → Put o₃ r₃ (counted a) k o₄ r₄ → Put o₄ r₄ (counted p) l o₅ r₅ → Put o 0 (controlBytes (request m scheme a p)) (1 + i + j + k + l) o₅ r₅
+  unfolding controlBytes
+  put-request _ _ _ _ f m s a p = put-then (put-then (put-then (put-then (put-as zero-is f) m) s) a) p
+
+  pub put-response : (is : List Informational) (status : ℕ) {i j : ℕ} → Put o 0 (1 ∷ []) 1 o₁ r₁ → Put o₁ r₁ (informationalBytes is) i o₂ r₂ → Put o₂ r₂ (intBytes status) j o₃ r₃
+      → Put o 0 (controlBytes (response is status)) (1 + i + j) o₃ r₃
+  unfolding controlBytes
+  put-response _ _ f h s = put-then (put-then (put-as one-is f) h) s

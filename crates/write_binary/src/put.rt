@@ -3,6 +3,7 @@ use crate::measure::fields_size;
 use messages::Part;
 use output::put_int;
 use output::put_lower;
+use output::put_octet;
 use output::put_part;
 use output::put_text;
 use ranges::number_at;
@@ -13,7 +14,7 @@ ghost use lib.ListN.{length};
 ghost use Rattle.octets.specs.Text.{lowerOf};
 ghost use Rattle.numbers.specs.Integer.{integerEnd, intLen, intBytes};
 ghost use Rattle.output.specs.Splice.{part, Put};
-ghost use Rattle.messages.specs.Meaning.{fieldMeans, contentOf};
+ghost use Rattle.messages.specs.Meaning.{request, response, fieldMeans, contentOf};
 ghost use Rattle.ranges.specs.Entries.{fieldIn, fieldsIn, chunksIn, headsIn, partIn, controlIn, meaningIn, EntryWithin, FieldsWithin, HeadsWithin, ChunksWithin, MessageWithin};
 ghost use Rattle.write_binary.specs.Write.{counted, fieldBytes, fieldsBytes, sectionBytes, schemeBytes, informationalBytes, controlBytes, binaryOf};
 ghost use Rattle.write_binary.specs.Sizes.{countedSize, entrySize, fieldsSize, sectionSize, headsSize, schemeSize, controlSize, messageSize};
@@ -150,4 +151,40 @@ fn put_counted_part(out: &mut [u8], at: usize, s: &[u8], p: Part) -> usize
     ensures { λ r. ⌜ Put (now (out .entry)) at (counted (partIn (now (s .entry)) p)) (countedSize (p .len)) (now (out .exit)) r ⌝ }
 {
     put_counted(out, at, s, p.start as usize, p.len as usize)
+}
+
+// Framing indicator and control data of a request, at the front.
+fn put_request(
+    out: &mut [u8],
+    s: &[u8],
+    method: Part,
+    scheme: u32,
+    authority: Part,
+    path: Part,
+) -> usize
+    requires { ⌜ (method .start + method .len ≤ length (now s)) × (authority .start + authority .len ≤ length (now s)) × (path .start + path .len ≤ length (now s)) × (1 + countedSize (method .len) + schemeSize scheme + countedSize (authority .len) + countedSize (path .len) ≤ length (now out)) ⌝ }
+    ensures { λ r. ⌜ Put (now (out .entry)) 0 (controlBytes (request (partIn (now (s .entry)) method) scheme (partIn (now (s .entry)) authority) (partIn (now (s .entry)) path))) (1 + countedSize (method .len) + schemeSize scheme + countedSize (authority .len) + countedSize (path .len)) (now (out .exit)) r ⌝ }
+{
+    let a = put_octet(out, 0, 0);
+    let b = put_counted_part(out, a, s, method);
+    let d = put_scheme(out, b, scheme);
+    let e = put_counted_part(out, d, s, authority);
+    put_counted_part(out, e, s, path)
+}
+
+// Framing indicator and control data of a response, at the front.
+fn put_response(
+    out: &mut [u8],
+    s: &[u8],
+    fields: &[u32],
+    heads: &[u32],
+    n: usize,
+    status: u32,
+) -> usize
+    requires { ⌜ HeadsWithin (length (now s)) (now fields) (now heads) n × (1 + headsSize (now fields) (now heads) 0 n + intLen status ≤ length (now out)) ⌝ }
+    ensures { λ r. ⌜ Put (now (out .entry)) 0 (controlBytes (response (headsIn (now (s .entry)) (now (fields .entry)) (now (heads .entry)) 0 n) status)) (1 + headsSize (now (fields .entry)) (now (heads .entry)) 0 n + intLen status) (now (out .exit)) r ⌝ }
+{
+    let a = put_octet(out, 0, 1);
+    let b = put_heads(out, a, s, fields, heads, n);
+    put_int(out, b, status as usize)
 }
