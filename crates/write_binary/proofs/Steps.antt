@@ -16,10 +16,10 @@ use Rattle.output.specs.Splice.{splice, part, Put, Left}
 use Rattle.output.proofs.Laws.{elements-length, put-then, left-start, left-step, left-end}
 use Rattle.messages.specs.Meaning.{Informational, request, response, fieldMeans, contentOf}
 use Rattle.messages.specs.declared.Record.{Record}
-use Rattle.ranges.specs.Entries.{fieldIn, fieldsIn, chunksIn, fieldsBefore, headsIn, FieldsWithin}
+use Rattle.ranges.specs.Entries.{fieldIn, fieldsIn, chunksIn, fieldsBefore, headsIn, partIn, controlIn, meaningIn, FieldsWithin}
 use Rattle.ranges.proofs.Entries.{fields-more, fields-none, heads-more, heads-none}
 use Rattle.write_binary.proofs.Lengths.{counted-is, fields-length}
-use Rattle.write_binary.specs.Write.{counted, fieldBytes, fieldsBytes, sectionBytes, schemeBytes, informationalBytes, controlBytes}
+use Rattle.write_binary.specs.Write.{counted, fieldBytes, fieldsBytes, sectionBytes, schemeBytes, informationalBytes, controlBytes, binaryOf}
 use Rattle.write_binary.specs.Sizes.{countedSize, entrySize, fieldsSize, sectionSize, headSize, headsSize, schemeSize, controlSize, messageSize}
 
 -- ---- measuring
@@ -227,3 +227,25 @@ module _ {o o₁ o₂ o₃ : List ℕ} {r₁ r₂ r₃ : ℕ} where
       → Put o 0 (controlBytes (response is status)) (1 + i + j) o₃ r₃
   unfolding controlBytes
   put-response _ _ f h s = put-then (put-then (put-as one-is f) h) s
+
+-- control data by the kind of message, and the whole message
+module _ (s : List ℕ) (r : Record) (hs ns : List ℕ) {o o₁ : List ℕ} {a : ℕ} where
+  pub control-response : r .response ≡ true
+      → Put o 0 (controlBytes (response (headsIn s hs ns 0 (r .informational)) (r .status))) (1 + headsSize hs ns 0 (r .informational) + intLen (r .status)) o₁ a
+      → Put o 0 (controlBytes (controlIn (r .response) s r hs ns)) (controlSize (r .response) r hs ns) o₁ a
+  control-response e p = rw (size-response r hs ns e, e) p
+
+  pub control-request : r .response ≡ false
+      → Put o 0 (controlBytes (request (partIn s (r .method)) (r .scheme) (partIn s (r .authority)) (partIn s (r .path))))
+      (1 + countedSize (r .method .len) + schemeSize (r .scheme) + countedSize (r .authority .len) + countedSize (r .path .len)) o₁ a
+      → Put o 0 (controlBytes (controlIn (r .response) s r hs ns)) (controlSize (r .response) r hs ns) o₁ a
+  control-request e p = rw (size-request r hs ns e, e) p
+
+  pub put-message : (cs ts : List ℕ) {o₂ o₃ o₄ : List ℕ} {k b d z : ℕ} → k ≡ fieldsBefore ns (r .informational)
+      → Put o 0 (controlBytes (controlIn (r .response) s r hs ns)) (controlSize (r .response) r hs ns) o₁ a
+      → Put o₁ a (sectionBytes (map fieldMeans (fieldsIn s hs k (r .headers)))) (sectionSize hs k (r .headers)) o₂ b
+      → Put o₂ b (counted (contentOf (chunksIn s cs 0 (r .chunks)))) (countedSize (r .content)) o₃ d
+      → Put o₃ d (sectionBytes (map fieldMeans (fieldsIn s ts 0 (r .trailers)))) (sectionSize ts 0 (r .trailers)) o₄ z
+      → Put o 0 (binaryOf (meaningIn s r hs ns cs ts)) (messageSize r hs ns ts) o₄ z
+  unfolding binaryOf meaningIn messageSize
+  put-message cs ts e c h b t = put-then (put-then (put-then c (rw e at h)) b) t

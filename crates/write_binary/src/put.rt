@@ -1,6 +1,7 @@
 // The parts of a message written as Binary, each at a place of the lent octets; the answer is the place behind it.
 use crate::measure::fields_size;
 use messages::Part;
+use messages::Record;
 use output::put_int;
 use output::put_lower;
 use output::put_octet;
@@ -187,4 +188,15 @@ fn put_response(
     let a = put_octet(out, 0, 1);
     let b = put_heads(out, a, s, fields, heads, n);
     put_int(out, b, status as usize)
+}
+
+// Framing indicator and control data, at the front.
+fn put_control_data(out: &mut [u8], s: &[u8], r: Record, fields: &[u32], heads: &[u32]) -> usize
+    requires { ⌜ ((cs : List ℕ) × (ts : List ℕ) × MessageWithin (now s) r (now fields) (now heads) cs ts) × (controlSize (r .response) r (now fields) (now heads) ≤ length (now out)) ⌝ }
+    ensures { λ z. ⌜ Put (now (out .entry)) 0 (controlBytes (controlIn (r .response) (now (s .entry)) r (now (fields .entry)) (now (heads .entry)))) (controlSize (r .response) r (now (fields .entry)) (now (heads .entry))) (now (out .exit)) z ⌝ }
+{
+    if r.response {
+        return put_response(out, s, fields, heads, r.informational, r.status);
+    }
+    put_request(out, s, r.method, r.scheme, r.authority, r.path)
 }
