@@ -7,6 +7,7 @@ use output::put_lower;
 use output::put_octet;
 use output::put_part;
 use output::put_text;
+use ranges::fields_before;
 use ranges::number_at;
 ghost use mathlib.Core.Path.{_≡_};
 ghost use mathlib.Core.List.{List, map, _++_};
@@ -199,4 +200,24 @@ fn put_control_data(out: &mut [u8], s: &[u8], r: Record, fields: &[u32], heads: 
         return put_response(out, s, fields, heads, r.informational, r.status);
     }
     put_request(out, s, r.method, r.scheme, r.authority, r.path)
+}
+
+// A whole message, at the front.
+pub fn put_message(
+    out: &mut [u8],
+    s: &[u8],
+    r: Record,
+    fields: &[u32],
+    heads: &[u32],
+    chunks: &[u32],
+    trailers: &[u32],
+) -> usize
+    requires { ⌜ MessageWithin (now s) r (now fields) (now heads) (now chunks) (now trailers) × (messageSize r (now fields) (now heads) (now trailers) ≤ length (now out)) ⌝ }
+    ensures { λ z. ⌜ Put (now (out .entry)) 0 (binaryOf (meaningIn (now (s .entry)) r (now (fields .entry)) (now (heads .entry)) (now (chunks .entry)) (now (trailers .entry)))) (messageSize r (now (fields .entry)) (now (heads .entry)) (now (trailers .entry))) (now (out .exit)) z ⌝ }
+{
+    let k = fields_before(heads, r.informational);
+    let a = put_control_data(out, s, r, fields, heads);
+    let b = put_section(out, a, s, fields, k, r.headers);
+    let d = put_content(out, b, s, chunks, r.chunks, r.content);
+    put_section(out, d, s, trailers, 0, r.trailers)
 }
