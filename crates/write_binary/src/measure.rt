@@ -1,13 +1,16 @@
 // How long a message is in Binary, by its numbers alone.
 use messages::Part;
+use messages::Record;
 use numbers::int_len;
+use ranges::fields_before;
 use ranges::number_at;
 ghost use mathlib.Core.Path.{_≡_};
 ghost use Prim.Native.Nat.{ℕ, _+_, _*_, _≤_, _<_};
+ghost use mathlib.Core.List.{List};
 ghost use lib.ListN.{length};
 ghost use Rattle.numbers.specs.Integer.{integerEnd, intLen};
-ghost use Rattle.ranges.specs.Entries.{HeadsWithin};
-ghost use Rattle.write_binary.specs.Sizes.{countedSize, entrySize, fieldsSize, sectionSize, headsSize, schemeSize, entryMost, fieldsMost, headsMost, partMost};
+ghost use Rattle.ranges.specs.Entries.{HeadsWithin, MessageWithin};
+ghost use Rattle.write_binary.specs.Sizes.{countedSize, entrySize, fieldsSize, sectionSize, headsSize, schemeSize, controlSize, messageSize, entryMost, fieldsMost, headsMost, partMost};
 
 // So many octets with their count in front.
 pub fn counted_size(n: usize) -> usize
@@ -106,4 +109,27 @@ fn response_size(fields: &[u32], heads: &[u32], n: usize, status: u32) -> usize
     ensures { λ r. ⌜ (r ≡ 1 + headsSize (now (fields .entry)) (now (heads .entry)) 0 n + intLen status) × (r ≤ headsMost + 9) ⌝ }
 {
     1 + heads_size(fields, heads, n) + int_len(status as usize)
+}
+
+// Framing indicator and control data of a message.
+fn control_size(r: Record, fields: &[u32], heads: &[u32]) -> usize
+    requires { ⌜ ((l : ℕ) × HeadsWithin l (now fields) (now heads) (r .informational)) ⌝ }
+    ensures { λ z. ⌜ (z ≡ controlSize (r .response) r (now (fields .entry)) (now (heads .entry))) × (z ≤ headsMost + 9) ⌝ }
+{
+    if r.response {
+        return response_size(fields, heads, r.informational, r.status);
+    }
+    request_size(r.method, r.scheme, r.authority, r.path)
+}
+
+// A whole message.
+pub fn message_size(r: Record, fields: &[u32], heads: &[u32], trailers: &[u32]) -> usize
+    requires { ⌜ ((s : List ℕ) × (cs : List ℕ) × MessageWithin s r (now fields) (now heads) cs (now trailers)) ⌝ }
+    ensures { λ z. ⌜ z ≡ messageSize r (now (fields .entry)) (now (heads .entry)) (now (trailers .entry)) ⌝ }
+{
+    let control = control_size(r, fields, heads);
+    let k = fields_before(heads, r.informational);
+    let headers = section_size(fields, k, r.headers);
+    let content = counted_size(r.content);
+    control + headers + content + section_size(trailers, 0, r.trailers)
 }

@@ -1,0 +1,39 @@
+use mathlib.Core.Path.{_≡_, refl, sym, ap, _∙_}
+use Prim.Native.Nat.{ℕ}
+use native.Mathlib.Omega.{arith}
+use borrow.Author.Needs.{needs}
+use Rattle.numbers.specs.Integer.{intLen}
+use Rattle.write_binary.proofs.Steps.{put-section}
+use borrow.Author.Needs.{needs}
+use Rattle.write_binary.proofs.put.put_section.Statement.{statement}
+use Rattle.write_binary.proofs.put.put_section.Tie as tie
+use Rattle.write_binary.proofs.put.put_section.Reads as reads
+use Rattle.write_binary.proofs.put.put_section.Lts as lts
+use Rattle.output.proofs.put_int.Reads as put-int-reads
+use Rattle.write_binary.proofs.measure.fields_size.Reads as fields-size-reads
+use Rattle.write_binary.proofs.put.put_fields.Reads as put-fields-reads
+
+-- src/put.rt:106:9
+fields-size-requires : tie.Need-fields-size-requires
+fields-size-requires c κs = search needs
+
+-- src/put.rt:107:9
+put-int-requires : tie.Need-put-int-requires
+put-int-requires c κs = (omega (arith, c .before .fields-size .ensures .1), omega (arith, c .before .before .before .before .before .pre .1, c .before .fields-size .ensures .0, ap (λ (n : ℕ). intLen n) (c .before .fields-size .ensures .0)))
+
+-- src/put.rt:108:5
+put-fields-requires : tie.Need-put-fields-requires
+put-fields-requires c κs = (c .before .before .before .before .before .before .before .before .before .pre .0, omega (arith, c .before .before .before .before .before .before .before .before .before .pre .1, c .before .before .before .put-int .kept, c .before .before .before .put-int .ensures .next, ap (λ (n : ℕ). intLen n) (c .before .before .before .before .before .fields-size .ensures .0)))
+
+-- src/put.rt:102:1
+same-length : tie.Need-same-length
+same-length c = search needs
+
+-- src/put.rt:102:1
+returns : tie.Need-returns
+returns c = put-section (c .before .before .before .before .before .before .before .before .before .before .before .before .args .s .now) (c .before .before .before .before .before .before .before .before .before .before .before .before .args .ranges .now) (c .before .before .before .before .before .before .before .before .before .before .before .before .args .k) (c .before .before .before .before .before .before .before .before .before .before .before .before .args .n) (c .before .before .before .before .before .before .before .before .fields-size .ensures .0) (c .before .before .before .before .before .before .put-int .ensures) (c .before .before .put-fields .ensures)
+
+pub put-section-spec : {M : Type 1} → statement M
+put-section-spec =
+    tie.close
+    (tie.spec fields-size-requires put-int-requires put-fields-requires same-length returns)
