@@ -1,2 +1,2 @@
 // Turning messages from one form into the other: read by the reader of the one form, written by the writer of the other.
-pub mod http1; // from HTTP/1.1
+pub mod to_binary;
