@@ -1,9 +1,8 @@
 -- What is written is as long as the numbers say.
-use Prim.Native.Nat.{ℕ, zero, suc, _+_, _-_, _*_, _<_, _≤_}
-use mathlib.Core.Path.{_≡_, refl, sym, ap, _∙_}
+use Prim.Native.Nat.{ℕ, zero, suc, _+_, _*_}
+use mathlib.Core.Path.{_≡_, refl, _∙_}
 use mathlib.Core.Bool.{Bool, true, false, cond}
-use mathlib.Core.List.{List, [], _∷_, _++_, map}
-use native.Mathlib.Omega.{arith}
+use mathlib.Core.List.{List, _++_, map}
 use lib.Dec.{eqb}
 use lib.ListN.{length, getD, length-append, length-map}
 use Rattle.octets.specs.Text.{lowerOf}
@@ -11,14 +10,14 @@ use Rattle.octets.specs.Ascii.{ascii}
 use Rattle.numbers.specs.Integer.{intLen, tagOf, intBytes}
 use Rattle.numbers.specs.Places.{push}
 use Rattle.numbers.proofs.IntegerLaws.{int-length}
-use Rattle.output.specs.Splice.{part, Put}
+use Rattle.output.specs.Splice.{part}
 use Rattle.output.proofs.Laws.{elements-length}
-use Rattle.messages.specs.Meaning.{Control, request, response, fieldMeans, contentOf, meaning}
+use Rattle.messages.specs.Meaning.{fieldMeans}
 use Rattle.messages.specs.declared.Part.{Part}
 use Rattle.messages.specs.declared.Record.{Record}
-use Rattle.ranges.specs.Entries.{fieldIn, fieldsIn, chunksIn, fieldsBefore, headIn, headsIn, partIn, controlIn, meaningIn, MessageWithin}
+use Rattle.ranges.specs.Entries.{fieldIn, fieldsIn, headsIn, partIn, controlIn, meaningIn, MessageWithin}
 use Rattle.write_binary.specs.Write.{counted, fieldBytes, fieldsBytes, sectionBytes, schemeBytes, informationalBytes, controlBytes, binaryOf}
-use Rattle.write_binary.specs.Sizes.{countedSize, entrySize, fieldsSize, sectionSize, headSize, headsSize, schemeSize, controlSize, messageSize}
+use Rattle.write_binary.specs.Sizes.{countedSize, entrySize, fieldsSize, sectionSize, headsSize, schemeSize, controlSize, messageSize}
 
 counted-length : (w : List ℕ) (n : ℕ) → length w ≡ n → length (counted w) ≡ countedSize n
 unfolding counted

@@ -1,6 +1,6 @@
 -- Steps of the loops that measure, and of those that write.
-use Prim.Native.Nat.{ℕ, zero, suc, _+_, _-_, _*_, _<_, _≤_}
-use mathlib.Core.Path.{_≡_, refl, sym, ap, _∙_}
+use Prim.Native.Nat.{ℕ, suc, _+_, _-_, _*_, _<_, _≤_}
+use mathlib.Core.Path.{_≡_, refl, ap, _∙_}
 use mathlib.Core.Bool.{true, false}
 use mathlib.Core.List.{List, [], _∷_, _++_, map}
 use native.Mathlib.Nat.{add-zero, sub-zero}
@@ -12,7 +12,7 @@ use Rattle.octets.specs.Text.{lowerOf}
 use Rattle.numbers.specs.Integer.{integerEnd, intLen, tagOf, intBytes}
 use Rattle.numbers.specs.Places.{push}
 use Rattle.numbers.proofs.IntegerLaws.{int-some}
-use Rattle.output.specs.Splice.{splice, part, Put, Left}
+use Rattle.output.specs.Splice.{part, Put, Left}
 use Rattle.output.proofs.Laws.{elements-length, put-then, left-start, left-step, left-end}
 use Rattle.messages.specs.Meaning.{Informational, request, response, fieldMeans, contentOf}
 use Rattle.messages.specs.declared.Record.{Record}
