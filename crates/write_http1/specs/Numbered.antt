@@ -39,6 +39,10 @@ headsSize hs ns i (suc n) = statusSize (getD ns (i * 2) 0) + sectionSize hs (fie
 abbrev pub requestSize : Part → Part → ℕ
 requestSize method path = method .len + 1 + path .len + 9 + 2
 
+-- a host line
+abbrev pub hostSize : Part → ℕ
+hostSize authority = 6 + authority .len + 2
+
 -- content of n octets as one chunk
 unfoldable pub chunkSize : ℕ → ℕ
 chunkSize n = cond (eqb n 0) 0 (countOf 16 n + 2 + n + 2)
@@ -80,7 +84,7 @@ unfoldable pub leadSize : Record → List ℕ → List ℕ → ℕ
 leadSize r hs ns =
     cond (r .response)
     (headsSize hs ns 0 (r .informational) + statusSize (r .status))
-    (requestSize (r .method) (r .path) + (6 + r .authority .len + 2))
+    (requestSize (r .method) (r .path) + hostSize (r .authority))
 
 -- all heads of a message
 unfoldable pub headIn : List ℕ → Record → List ℕ → List ℕ → List ℕ

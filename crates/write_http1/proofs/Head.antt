@@ -1,0 +1,27 @@
+-- The head of a message by its numbers, and that it is the head of what the numbers name.
+-- Assumes nothing.
+use Prim.Native.Nat.{ℕ, zero, suc, _+_}
+use mathlib.Core.Path.{_≡_, refl, sym, ap, _∙_}
+use mathlib.Core.Bool.{Bool, true, false, cond}
+use mathlib.Core.List.{List, [], _∷_, _++_, append-nil}
+use native.Mathlib.Omega.{arith}
+use borrow.Author.Tests.{eq-eqb, ne-eqb}
+use lib.Dec.{eqb}
+use lib.ListN.{length, length-append}
+use Rattle.messages.specs.declared.Record.{Record}
+use Rattle.ranges.specs.Entries.{headsIn, partIn}
+use Rattle.write_http1.specs.Write.{fieldText, requestLine, statusLine, informationalText, hostField}
+use Rattle.write_http1.specs.Numbered.{headsSize, statusSize, requestSize, hostSize, leadIn, leadSize}
+
+module _ (s : List ℕ) (r : Record) (hs ns : List ℕ) where
+  pub lead-response : r .response ≡ true
+      → (leadIn s r hs ns ≡ informationalText (headsIn s hs ns 0 (r .informational)) ++ statusLine (r .status))
+      × (leadSize r hs ns ≡ headsSize hs ns 0 (r .informational) + statusSize (r .status))
+  unfolding leadIn leadSize
+  lead-response e = (rw e, rw e)
+
+  pub lead-request : r .response ≡ false
+      → (leadIn s r hs ns ≡ requestLine (partIn s (r .method)) (partIn s (r .path)) ++ fieldText (hostField (partIn s (r .authority))))
+      × (leadSize r hs ns ≡ requestSize (r .method) (r .path) + hostSize (r .authority))
+  unfolding leadIn leadSize
+  lead-request e = (rw e, rw e)
