@@ -9,9 +9,9 @@ use borrow.Author.Tests.{eq-eqb, ne-eqb}
 use lib.Dec.{eqb}
 use lib.ListN.{length, length-append}
 use Rattle.messages.specs.declared.Record.{Record}
-use Rattle.ranges.specs.Entries.{headsIn, partIn}
-use Rattle.write_http1.specs.Write.{fieldText, requestLine, statusLine, informationalText, hostField}
-use Rattle.write_http1.specs.Numbered.{headsSize, statusSize, requestSize, hostSize, leadIn, leadSize}
+use Rattle.ranges.specs.Entries.{headsIn, partIn, fieldsBefore}
+use Rattle.write_http1.specs.Write.{fieldText, sectionText, requestLine, statusLine, informationalText, hostField}
+use Rattle.write_http1.specs.Numbered.{headsSize, statusSize, requestSize, hostSize, leadIn, leadSize, lengthFields, linesText, lengthSize, headIn, headSize, fieldsNamed, sectionSize}
 
 module _ (s : List ℕ) (r : Record) (hs ns : List ℕ) where
   pub lead-response : r .response ≡ true
@@ -25,3 +25,10 @@ module _ (s : List ℕ) (r : Record) (hs ns : List ℕ) where
       × (leadSize r hs ns ≡ requestSize (r .method) (r .path) + hostSize (r .authority))
   unfolding leadIn leadSize
   lead-request e = (rw e, rw e)
+
+  -- a head in its three parts, from the entry k of its first field on
+  pub head-parts : (k : ℕ) → k ≡ fieldsBefore ns (r .informational)
+      → (headIn s r hs ns ≡ leadIn s r hs ns ++ linesText (lengthFields r) ++ sectionText (fieldsNamed s hs k (r .headers)))
+      × (headSize r hs ns ≡ leadSize r hs ns + lengthSize r + sectionSize hs k (r .headers))
+  unfolding headIn headSize
+  head-parts k e = (rw e, rw e)

@@ -20,7 +20,7 @@ fn is_unmeasured(r: Record) -> bool
     r.content == 0
 }
 
-fn length_size(r: Record) -> usize
+pub fn length_size(r: Record) -> usize
     ensures { λ n. ⌜ (n ≡ lengthSize r) × (n ≤ 38) ⌝ }
 {
     if r.trailers == 0 {
@@ -32,7 +32,7 @@ fn length_size(r: Record) -> usize
     28
 }
 
-fn put_length(out: &mut [u8], at: usize, r: Record) -> usize
+pub fn put_length(out: &mut [u8], at: usize, r: Record) -> usize
     requires { ⌜ at + lengthSize r ≤ length (now out) ⌝ }
     ensures { λ z. ⌜ Put (now (out .entry)) at (linesText (lengthFields r)) (lengthSize r) (now (out .exit)) z ⌝ }
 {
@@ -48,7 +48,7 @@ fn put_length(out: &mut [u8], at: usize, r: Record) -> usize
 }
 
 // How many lines it is.
-fn length_lines(r: Record) -> usize
+pub fn length_lines(r: Record) -> usize
     ensures { λ n. ⌜ (n ≡ length (lengthFields r)) × (n ≤ 1) ⌝ }
 {
     if r.trailers == 0 {
