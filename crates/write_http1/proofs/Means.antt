@@ -148,6 +148,14 @@ module _ (s : List ℕ) (r : Record) (hs ns : List ℕ) where
 
 -- ---- the whole message
 
+fits-same : {a a′ b b′ : ℕ} {x x′ : Bool} {d d′ : ℕ} → a ≡ a′ → b ≡ b′ → x ≡ x′ → d ≡ d′
+    → leb a headMost && leb b linesMost && cond x true (leb d trailerMost) ≡ leb a′ headMost && leb b′ linesMost && cond x′ true (leb d′ trailerMost)
+fits-same p q u v = cc
+
+to-same : {a a′ b b′ : Bool} (w : List ℕ) → a ≡ a′ → b ≡ b′
+    → cond a (cond b (octets w) (wrong tooLarge 0)) (wrong otherScheme 0) ≡ cond a′ (cond b′ (octets w) (wrong tooLarge 0)) (wrong otherScheme 0)
+to-same w p q = cc
+
 module _ (s : List ℕ) (r : Record) (hs ns cs ts : List ℕ) (e : length (contentOf (chunksIn s cs 0 (r .chunks))) ≡ r .content) where
   length-means : lengthLine (meaningIn s r hs ns cs ts) ≡ lengthFields r
   unfolding meaningIn lengthLine lengthFields unmeasuredIn
@@ -172,3 +180,25 @@ module _ (s : List ℕ) (r : Record) (hs ns cs ts : List ℕ) (e : length (conte
   pub http1-means : http1Of (meaningIn s r hs ns cs ts) ≡ headIn s r hs ns ++ bodyText (contentOf (chunksIn s cs 0 (r .chunks))) (fieldsNamed s ts 0 (r .trailers))
   unfolding meaningIn http1Of
   http1-means = ap (λ (h : List ℕ). h ++ bodyText (contentOf (chunksIn s cs 0 (r .chunks))) (fieldsNamed s ts 0 (r .trailers))) head-means
+
+  pub fits-means : http1Fits (meaningIn s r hs ns cs ts) ≡ fitsIn (headSize r hs ns) r ts
+  unfolding meaningIn http1Fits fitsIn trailersFit
+  fits-means =
+      fits-same
+      (ap length head-means ∙ head-long s r hs ns)
+      count-means
+      (fields-none s ts (r .trailers))
+      (section-length s ts 0 (r .trailers))
+
+  connected-with : (scheme : ℕ) (b : Bool) → onConnection (record { scheme = scheme }) (controlIn b s r hs ns) ≡ cond b true (eqb (r .scheme) scheme)
+  connected-with scheme true = refl
+  connected-with scheme false = refl
+
+  -- what is to be written, by the tests on numbers
+  pub to-means : (scheme : ℕ)
+      → toHttp1 (record { scheme = scheme }) (meaningIn s r hs ns cs ts)
+      ≡ cond (connectedIn scheme r)
+      (cond (fitsIn (headSize r hs ns) r ts) (octets (http1Of (meaningIn s r hs ns cs ts))) (wrong tooLarge 0))
+      (wrong otherScheme 0)
+  unfolding meaningIn toHttp1 connectedIn
+  to-means scheme = to-same (http1Of (meaningIn s r hs ns cs ts)) (connected-with scheme (r .response)) fits-means
