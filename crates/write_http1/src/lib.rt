@@ -49,3 +49,51 @@ fn put_message(
     let b = put_body(out, a, s, chunks, r.chunks, r.content, trailers, r.trailers);
     Written::Done(b)
 }
+
+// The message that the numbers name, on a connection of this scheme.
+fn write_named(
+    s: &[u8],
+    scheme: u32,
+    r: Record,
+    headers: &[u32],
+    heads: &[u32],
+    chunks: &[u32],
+    trailers: &[u32],
+    out: &mut [u8],
+) -> Written
+    requires { ⌜ MessageWithin (now s) r (now headers) (now heads) (now chunks) (now trailers) ⌝ }
+    ensures { λ w. ⌜ Served (toHttp1 (record { scheme = scheme }) (meaningIn (now (s .entry)) r (now (headers .entry)) (now (heads .entry)) (now (chunks .entry)) (now (trailers .entry)))) (now (out .entry)) (now (out .exit)) w ⌝ }
+{
+    if is_connected(scheme, r) {
+        let head = measure_head(r, headers, heads);
+        if sizes_fit(head, r, trailers) {
+            return put_message(s, r, headers, heads, chunks, trailers, head, out);
+        }
+        return Written::Refused {
+            number: Refusals::TOO_LARGE,
+            place: 0,
+        };
+    }
+    Written::Refused {
+        number: Refusals::OTHER_SCHEME,
+        place: 0,
+    }
+}
+
+// An accepted message, by its record and its ranges in the source that it was read from, as HTTP/1.1: 14 at 0 where a request's scheme is not the
+// connection's, 8 at 0 where a written size is passed, 13 at 0 where there is no room; a refusal writes nothing.
+pub fn write_message(
+    s: &[u8],
+    scheme: u32,
+    r: Record,
+    headers: &[u32],
+    heads: &[u32],
+    chunks: &[u32],
+    trailers: &[u32],
+    out: &mut [u8],
+) -> Written
+    requires { ⌜ ((n : ℕ) × (m : Message) × Held (now s) n m r (now headers) (now heads) (now chunks) (now trailers)) ⌝ }
+    ensures { λ w. ⌜ Http1Written scheme (now (s .entry)) r (now (headers .entry)) (now (heads .entry)) (now (chunks .entry)) (now (trailers .entry)) (now (out .entry)) (now (out .exit)) w ⌝ }
+{
+    write_named(s, scheme, r, headers, heads, chunks, trailers, out)
+}
