@@ -52,9 +52,9 @@ use Rattle.write_http1.specs.Numbered.{
   lengthFields,
   linesText,
   lengthSize,
-  leadIn,
+  leadTextIn,
   leadSize,
-  headIn,
+  headTextIn,
   headSize,
   headCount,
   trailersFit,
@@ -75,10 +75,10 @@ module _ (s fs : List ℕ) where
   fields-count k zero = refl
   fields-count k (suc n) = ap suc (fields-count (k + 1) n)
 
-  pub fields-none : (n : ℕ) → noFields (fieldsNamed s fs 0 n) ≡ eqb n 0
+  pub no-fields : (n : ℕ) → noFields (fieldsNamed s fs 0 n) ≡ eqb n 0
   unfolding fieldsIn
-  fields-none zero = refl
-  fields-none (suc n) = sym (ne-eqb (suc n) 0 (λ e. omega arith))
+  no-fields zero = refl
+  no-fields (suc n) = sym (ne-eqb (suc n) 0 (λ e. omega arith))
 
 -- ---- the length line
 
@@ -139,12 +139,12 @@ module _ (s : List ℕ) (r : Record) (hs ns : List ℕ) where
       ∙ rw (heads-length s hs ns 0 (r .informational)) (simp (length-append, digits-length) (omega arith))
   lead-with false = simp (length-append, elements-length) (omega arith)
 
-  pub head-long : length (headIn s r hs ns) ≡ headSize r hs ns
-  unfolding headIn headSize leadIn leadSize
+  pub head-long : length (headTextIn s r hs ns) ≡ headSize r hs ns
+  unfolding headTextIn headSize leadTextIn leadSize
   head-long =
       let k = fieldsBefore ns (r .informational) in
-      length-append (leadIn s r hs ns ++ linesText (lengthFields r)) (sectionText (fieldsNamed s hs k (r .headers)))
-      ∙ rw (length-append (leadIn s r hs ns) (linesText (lengthFields r)), lead-with (r .response), length-long r, section-length s hs k (r .headers))
+      length-append (leadTextIn s r hs ns ++ linesText (lengthFields r)) (sectionText (fieldsNamed s hs k (r .headers)))
+      ∙ rw (length-append (leadTextIn s r hs ns) (linesText (lengthFields r)), lead-with (r .response), length-long r, section-length s hs k (r .headers))
 
 -- ---- the whole message
 
@@ -159,10 +159,10 @@ to-same w p q = cc
 module _ (s : List ℕ) (r : Record) (hs ns cs ts : List ℕ) (e : length (contentOf (chunksIn s cs 0 (r .chunks))) ≡ r .content) where
   length-means : lengthLine (meaningIn s r hs ns cs ts) ≡ lengthFields r
   unfolding meaningIn lengthLine lengthFields unmeasuredIn
-  length-means = line-same (fields-none s ts (r .trailers)) (unmeasured-means s r hs ns (r .response) (contentOf (chunksIn s cs 0 (r .chunks))) e) e
+  length-means = line-same (no-fields s ts (r .trailers)) (unmeasured-means s r hs ns (r .response) (contentOf (chunksIn s cs 0 (r .chunks))) e) e
 
-  pub head-means : headText (meaningIn s r hs ns cs ts) ≡ headIn s r hs ns
-  unfolding meaningIn headText headLines headIn leadIn
+  pub head-means : headText (meaningIn s r hs ns cs ts) ≡ headTextIn s r hs ns
+  unfolding meaningIn headText headLines headTextIn leadTextIn
   head-means =
       let h = fieldsNamed s hs (fieldsBefore ns (r .informational)) (r .headers) in
       let c = controlIn (r .response) s r hs ns in
@@ -177,7 +177,7 @@ module _ (s : List ℕ) (r : Record) (hs ns cs ts : List ℕ) (e : length (conte
       ∙ count-with s r hs ns (r .response) (lengthFields r) h
       ∙ ap (λ (n : ℕ). cond (r .response) 0 1 + length (lengthFields r) + n) (fields-count s hs (fieldsBefore ns (r .informational)) (r .headers))
 
-  pub http1-means : http1Of (meaningIn s r hs ns cs ts) ≡ headIn s r hs ns ++ bodyText (contentOf (chunksIn s cs 0 (r .chunks))) (fieldsNamed s ts 0 (r .trailers))
+  pub http1-means : http1Of (meaningIn s r hs ns cs ts) ≡ headTextIn s r hs ns ++ bodyText (contentOf (chunksIn s cs 0 (r .chunks))) (fieldsNamed s ts 0 (r .trailers))
   unfolding meaningIn http1Of
   http1-means = ap (λ (h : List ℕ). h ++ bodyText (contentOf (chunksIn s cs 0 (r .chunks))) (fieldsNamed s ts 0 (r .trailers))) head-means
 
@@ -187,7 +187,7 @@ module _ (s : List ℕ) (r : Record) (hs ns cs ts : List ℕ) (e : length (conte
       fits-same
       (ap length head-means ∙ head-long s r hs ns)
       count-means
-      (fields-none s ts (r .trailers))
+      (no-fields s ts (r .trailers))
       (section-length s ts 0 (r .trailers))
 
   connected-with : (scheme : ℕ) (b : Bool) → onConnection (record { scheme = scheme }) (controlIn b s r hs ns) ≡ cond b true (eqb (r .scheme) scheme)

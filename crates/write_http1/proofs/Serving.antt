@@ -18,7 +18,7 @@ use Rattle.messages.specs.Meaning.{contentOf}
 use Rattle.ranges.specs.Entries.{chunksIn, meaningIn, MessageWithin}
 use Rattle.ranges.proofs.Entries.{held-means}
 use Rattle.write_http1.specs.Write.{bodyText, http1Of, toHttp1}
-use Rattle.write_http1.specs.Numbered.{fieldsNamed, bodySize, headIn, headSize, fitsIn, connectedIn}
+use Rattle.write_http1.specs.Numbered.{fieldsNamed, bodySize, headTextIn, headSize, fitsIn, connectedIn}
 use Rattle.write_http1.specs.Promise.{Http1Written}
 use Rattle.write_http1.proofs.Body.{body-long}
 use Rattle.write_http1.proofs.Means.{head-long, http1-means, to-means}
@@ -29,13 +29,13 @@ module _ {s : List ℕ} {r : Record} {hs ns cs ts : List ℕ} (w : MessageWithin
       → Served (octets (http1Of (meaningIn s r hs ns cs ts))) o o (Refused noRoom 0)
   message-small {o} h =
       let b = bodyText (contentOf (chunksIn s cs 0 (r .chunks))) (fieldsNamed s ts 0 (r .trailers)) in
-      let l = length-append (headIn s r hs ns) b in
-      let k : length o < length (headIn s r hs ns ++ b) =
+      let l = length-append (headTextIn s r hs ns) b in
+      let k : length o < length (headTextIn s r hs ns ++ b) =
       omega (arith, h, l, head-long s r hs ns, body-long s ts (contentOf (chunksIn s cs 0 (r .chunks))) (r .content) (w .content) (r .trailers)) in
       rw (http1-means s r hs ns cs ts (w .content)) (serve-small k)
 
   pub message-done : {o o₁ o₂ : List ℕ} {a z : ℕ} → headSize r hs ns + bodySize (r .content) ts (r .trailers) ≤ length o
-      → Put o 0 (headIn s r hs ns) (headSize r hs ns) o₁ a
+      → Put o 0 (headTextIn s r hs ns) (headSize r hs ns) o₁ a
       → Put o₁ a (bodyText (contentOf (chunksIn s cs 0 (r .chunks))) (fieldsNamed s ts 0 (r .trailers))) (bodySize (r .content) ts (r .trailers)) o₂ z
       → Served (octets (http1Of (meaningIn s r hs ns cs ts))) o o₂ (Done z)
   message-done h p q = rw (http1-means s r hs ns cs ts (w .content)) (serve-done h (put-then p q))

@@ -73,8 +73,8 @@ lengthSize r = cond (eqb (r .trailers) 0) (cond (unmeasuredIn r) 0 (16 + countOf
 -- ---- the head
 
 -- what stands before the length line: informational heads and status line, or request line and host line
-unfoldable pub leadIn : List ℕ → Record → List ℕ → List ℕ → List ℕ
-leadIn s r hs ns =
+unfoldable pub leadTextIn : List ℕ → Record → List ℕ → List ℕ → List ℕ
+leadTextIn s r hs ns =
     cond (r .response)
     (informationalText (headsIn s hs ns 0 (r .informational)) ++ statusLine (r .status))
     (requestLine (partIn s (r .method)) (partIn s (r .path)) ++ fieldText (hostField (partIn s (r .authority))))
@@ -87,8 +87,8 @@ leadSize r hs ns =
     (requestSize (r .method) (r .path) + hostSize (r .authority))
 
 -- all heads of a message
-unfoldable pub headIn : List ℕ → Record → List ℕ → List ℕ → List ℕ
-headIn s r hs ns = leadIn s r hs ns ++ linesText (lengthFields r) ++ sectionText (fieldsNamed s hs (fieldsBefore ns (r .informational)) (r .headers))
+unfoldable pub headTextIn : List ℕ → Record → List ℕ → List ℕ → List ℕ
+headTextIn s r hs ns = leadTextIn s r hs ns ++ linesText (lengthFields r) ++ sectionText (fieldsNamed s hs (fieldsBefore ns (r .informational)) (r .headers))
 
 -- how long they are
 unfoldable pub headSize : Record → List ℕ → List ℕ → ℕ

@@ -19,7 +19,7 @@ ghost use lib.ListN.{length};
 ghost use Rattle.output.specs.Splice.{Put};
 ghost use Rattle.ranges.specs.Entries.{headsIn, partIn, FieldsWithin, HeadsWithin, MessageWithin};
 ghost use Rattle.write_http1.specs.Write.{fieldText, sectionText, requestLine, statusLine, informationalText, hostField};
-ghost use Rattle.write_http1.specs.Numbered.{fieldsNamed, sectionSize, statusSize, headsSize, requestSize, hostSize, leadIn, leadSize, headIn, headSize};
+ghost use Rattle.write_http1.specs.Numbered.{fieldsNamed, sectionSize, statusSize, headsSize, requestSize, hostSize, leadTextIn, leadSize, headTextIn, headSize};
 
 fn status_size(status: usize) -> usize
     ensures { λ r. ⌜ (r ≡ statusSize status) × (r ≤ 32) ⌝ }
@@ -114,7 +114,7 @@ fn put_host(out: &mut [u8], at: usize, s: &[u8], authority: Part) -> usize
 // What stands before the length line: informational heads and status line, or request line and host line.
 fn put_lead(out: &mut [u8], at: usize, s: &[u8], r: Record, fields: &[u32], heads: &[u32]) -> usize
     requires { ⌜ ((cs : List ℕ) × (ts : List ℕ) × MessageWithin (now s) r (now fields) (now heads) cs ts) × (at + leadSize r (now fields) (now heads) ≤ length (now out)) ⌝ }
-    ensures { λ z. ⌜ Put (now (out .entry)) at (leadIn (now (s .entry)) r (now (fields .entry)) (now (heads .entry))) (leadSize r (now (fields .entry)) (now (heads .entry))) (now (out .exit)) z ⌝ }
+    ensures { λ z. ⌜ Put (now (out .entry)) at (leadTextIn (now (s .entry)) r (now (fields .entry)) (now (heads .entry))) (leadSize r (now (fields .entry)) (now (heads .entry))) (now (out .exit)) z ⌝ }
 {
     if r.response {
         let a = put_heads(out, at, s, fields, heads, r.informational);
@@ -158,7 +158,7 @@ pub fn put_head(
     heads: &[u32],
 ) -> usize
     requires { ⌜ ((cs : List ℕ) × (ts : List ℕ) × MessageWithin (now s) r (now fields) (now heads) cs ts) × (at + headSize r (now fields) (now heads) ≤ length (now out)) ⌝ }
-    ensures { λ z. ⌜ Put (now (out .entry)) at (headIn (now (s .entry)) r (now (fields .entry)) (now (heads .entry))) (headSize r (now (fields .entry)) (now (heads .entry))) (now (out .exit)) z ⌝ }
+    ensures { λ z. ⌜ Put (now (out .entry)) at (headTextIn (now (s .entry)) r (now (fields .entry)) (now (heads .entry))) (headSize r (now (fields .entry)) (now (heads .entry))) (now (out .exit)) z ⌝ }
 {
     let k = fields_before(heads, r.informational);
     let a = put_lead(out, at, s, r, fields, heads);
