@@ -3,10 +3,10 @@
 use Prim.Native.Nat.{ℕ, zero, suc, _+_, _-_, _*_, _≤_, _<_}
 use mathlib.Core.Path.{_≡_, refl, sym, ap, _∙_}
 use mathlib.Core.Bool.{Bool, true, false, cond}
-use mathlib.Core.List.{List, [], _∷_, _++_, map}
+use mathlib.Core.List.{List, [], _++_}
 use native.Mathlib.Nat.{sub-zero}
 use native.Mathlib.Omega.{arith}
-use borrow.Author.Tests.{eq-eqb, ne-eqb}
+use borrow.Author.Tests.{ne-eqb}
 use lib.Dec.{eqb}
 use lib.ListN.{length, getD, length-append}
 use Rattle.octets.specs.Ascii.{ascii}
@@ -15,8 +15,7 @@ use Rattle.numbers.specs.Digits.{digits, countOf}
 use Rattle.numbers.proofs.DigitLaws.{digits-length}
 use Rattle.output.specs.Splice.{part, Put, Left}
 use Rattle.output.proofs.Laws.{left-start, elements-length}
-use Rattle.messages.specs.Meaning.{Field, contentOf}
-use Rattle.messages.specs.Valid.{noFields}
+use Rattle.messages.specs.Meaning.{contentOf}
 use Rattle.ranges.specs.Entries.{fieldsIn, chunksIn, ChunksWithin}
 use Rattle.write_http1.specs.Write.{crlf, sectionText, chunkText, chunkedText, bodyText}
 use Rattle.write_http1.specs.Numbered.{fieldsNamed, sectionSize, chunkSize, bodySize}

@@ -1,13 +1,9 @@
 -- The head of a message by its numbers, and that it is the head of what the numbers name.
 -- Assumes nothing.
-use Prim.Native.Nat.{ℕ, zero, suc, _+_}
-use mathlib.Core.Path.{_≡_, refl, sym, ap, _∙_}
-use mathlib.Core.Bool.{Bool, true, false, cond}
-use mathlib.Core.List.{List, [], _∷_, _++_, append-nil}
-use native.Mathlib.Omega.{arith}
-use borrow.Author.Tests.{eq-eqb, ne-eqb}
-use lib.Dec.{eqb}
-use lib.ListN.{length, length-append}
+use Prim.Native.Nat.{ℕ, _+_}
+use mathlib.Core.Path.{_≡_}
+use mathlib.Core.Bool.{true, false}
+use mathlib.Core.List.{List, [], _++_}
 use Rattle.messages.specs.declared.Record.{Record}
 use Rattle.ranges.specs.Entries.{headsIn, partIn, fieldsBefore}
 use Rattle.write_http1.specs.Write.{fieldText, sectionText, requestLine, statusLine, informationalText, hostField}

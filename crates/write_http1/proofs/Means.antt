@@ -3,64 +3,25 @@
 use Prim.Native.Nat.{ℕ, zero, suc, _+_}
 use mathlib.Core.Path.{_≡_, refl, sym, ap, _∙_}
 use mathlib.Core.Bool.{Bool, true, false, cond, _&&_}
-use mathlib.Core.List.{List, [], _∷_, _++_, map, append-nil, append-assoc}
+use mathlib.Core.List.{List, [], _∷_, _++_, append-assoc}
 use native.Mathlib.Omega.{arith}
 use borrow.Author.Tests.{ne-eqb}
 use lib.Dec.{eqb, leb}
-use lib.ListN.{length, length-append, length-map}
+use lib.ListN.{length, length-append}
 use Rattle.octets.specs.Text.{isEmpty}
 use Rattle.octets.specs.Limits.{headMost, linesMost, trailerMost}
 use Rattle.octets.specs.Refusals.{tooLarge, otherScheme}
-use Rattle.numbers.specs.Digits.{digits, countOf}
+use Rattle.numbers.specs.Digits.{countOf}
 use Rattle.numbers.proofs.DigitLaws.{digits-length}
 use Rattle.output.specs.Reply.{octets, wrong}
 use Rattle.output.proofs.Laws.{elements-length}
 use Rattle.messages.specs.declared.Record.{Record}
 use Rattle.messages.specs.Control.{isBodyless}
-use Rattle.messages.specs.Meaning.{Field, Control, Meaning, fieldMeans, contentOf}
+use Rattle.messages.specs.Meaning.{Field, contentOf}
 use Rattle.messages.specs.Valid.{noFields}
 use Rattle.ranges.specs.Entries.{fieldsIn, chunksIn, headsIn, partIn, controlIn, fieldsBefore, meaningIn}
-use Rattle.write_http1.specs.Write.{
-  fieldText,
-  sectionText,
-  requestLine,
-  statusLine,
-  informationalText,
-  hostField,
-  lengthField,
-  codingField,
-  unmeasured,
-  lengthLine,
-  hostLine,
-  headLines,
-  startText,
-  headText,
-  bodyText,
-  http1Of,
-  http1Fits,
-  onConnection,
-  toHttp1,
-}
-use Rattle.write_http1.specs.Numbered.{
-  fieldsNamed,
-  sectionSize,
-  headsSize,
-  statusSize,
-  requestSize,
-  hostSize,
-  unmeasuredIn,
-  lengthFields,
-  linesText,
-  lengthSize,
-  leadTextIn,
-  leadSize,
-  headTextIn,
-  headSize,
-  headCount,
-  trailersFit,
-  fitsIn,
-  connectedIn,
-}
+use Rattle.write_http1.specs.Write.{fieldText, sectionText, requestLine, statusLine, informationalText, hostField, lengthField, codingField, unmeasured, lengthLine, hostLine, headLines, startText, headText, bodyText, http1Of, http1Fits, onConnection, toHttp1}
+use Rattle.write_http1.specs.Numbered.{fieldsNamed, headsSize, statusSize, requestSize, hostSize, unmeasuredIn, lengthFields, linesText, lengthSize, leadTextIn, leadSize, headTextIn, headSize, headCount, trailersFit, fitsIn, connectedIn}
 use Rattle.write_http1.proofs.Turns.{section-length, heads-length}
 
 -- lines before a section

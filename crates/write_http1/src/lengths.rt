@@ -8,7 +8,7 @@ ghost use mathlib.Core.Path.{_≡_};
 ghost use Prim.Native.Nat.{_+_, _≤_};
 ghost use lib.ListN.{length};
 ghost use Rattle.output.specs.Splice.{Put};
-ghost use Rattle.write_http1.specs.Numbered.{unmeasuredIn, lengthFields, linesText, lengthSize, headCount};
+ghost use Rattle.write_http1.specs.Numbered.{unmeasuredIn, lengthFields, linesText, lengthSize};
 
 // Whether a message without trailers goes without a length line.
 fn is_unmeasured(r: Record) -> bool
