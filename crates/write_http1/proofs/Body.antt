@@ -2,23 +2,24 @@
 -- Assumes nothing.
 use Prim.Native.Nat.{ℕ, zero, suc, _+_, _-_, _*_, _≤_, _<_}
 use mathlib.Core.Path.{_≡_, refl, sym, ap, _∙_}
-use mathlib.Core.Bool.{cond}
-use mathlib.Core.List.{List, [], _∷_, _++_, map}
+use mathlib.Core.Bool.{Bool, true, false, cond}
+use mathlib.Core.List.{List, [], _++_}
 use native.Mathlib.Nat.{sub-zero}
 use native.Mathlib.Omega.{arith}
-use borrow.Author.Tests.{eq-eqb, ne-eqb}
+use borrow.Author.Tests.{ne-eqb}
 use lib.Dec.{eqb}
 use lib.ListN.{length, getD, length-append}
 use Rattle.octets.specs.Ascii.{ascii}
 use Rattle.octets.specs.Text.{isEmpty}
 use Rattle.numbers.specs.Digits.{digits, countOf}
+use Rattle.numbers.proofs.DigitLaws.{digits-length}
 use Rattle.output.specs.Splice.{part, Put, Left}
 use Rattle.output.proofs.Laws.{left-start, elements-length}
-use Rattle.messages.specs.Meaning.{Field, contentOf}
-use Rattle.messages.specs.Valid.{noFields}
+use Rattle.messages.specs.Meaning.{contentOf}
 use Rattle.ranges.specs.Entries.{fieldsIn, chunksIn, ChunksWithin}
 use Rattle.write_http1.specs.Write.{crlf, sectionText, chunkText, chunkedText, bodyText}
 use Rattle.write_http1.specs.Numbered.{fieldsNamed, sectionSize, chunkSize, bodySize}
+use Rattle.write_http1.proofs.Turns.{section-length}
 
 module _ (s cs : List ℕ) where
   -- what is left of n chunks, of which i are done
@@ -79,6 +80,26 @@ module _ (s ts w : List ℕ) (n count : ℕ) where
           × (bodySize n ts c ≡ chunkSize n + 1 + 2 + sectionSize ts 0 c)
       go zero z = absurd (z refl)
       go (suc c) z = (refl, rw (ne-eqb (suc c) 0 z))
+
+-- how long they are
+module _ (s ts w : List ℕ) (n : ℕ) (e : length w ≡ n) where
+  pub chunk-long : length (chunkText w) ≡ chunkSize n
+  unfolding chunkText chunkSize isEmpty
+  chunk-long = rw e (go (eqb n 0))
+    where
+      go : (b : Bool) → length (cond b [] (digits 16 n ++ crlf ++ w ++ crlf)) ≡ cond b 0 (countOf 16 n + 2 + n + 2)
+      go true = refl
+      go false = simp (length-append, digits-length, e) (omega arith)
+
+  pub body-long : (count : ℕ) → length (bodyText w (fieldsNamed s ts 0 count)) ≡ bodySize n ts count
+  unfolding bodyText chunkedText bodySize fieldsIn
+  body-long zero = e
+  body-long (suc c) =
+      let z : suc c ≡ 0 → ⊥ = λ q. omega arith in
+      let h = body-chunked s ts w n (suc c) z in
+      ap length (h .0)
+      ∙ simp length-append (omega (arith, chunk-long, section-length s ts 0 (suc c)))
+      ∙ sym (h .1)
 
 -- a write said in other words
 pub put-as : {o o₁ a b : List ℕ} {at m n r : ℕ} → (b ≡ a) × (n ≡ m) → Put o at a m o₁ r → Put o at b n o₁ r

@@ -2,17 +2,16 @@
 -- Assumes nothing.
 use Prim.Native.Nat.{ℕ, zero, suc, _+_, _-_, _*_, _≤_, _<_}
 use mathlib.Core.Path.{_≡_, refl, sym, ap, _∙_}
-use mathlib.Core.List.{List, [], _∷_, _++_, map}
+use mathlib.Core.List.{List, [], _∷_, _++_}
 use native.Mathlib.Nat.{add-zero, sub-zero}
 use native.Mathlib.Omega.{arith}
 use lib.ListN.{length, getD, length-append, length-map}
-use Rattle.output.specs.Splice.{splice, part, Put, Left}
+use Rattle.output.specs.Splice.{splice, Put, Left}
 use Rattle.output.proofs.Laws.{left-start, left-step, elements-length}
-use Rattle.numbers.specs.Digits.{digits, countOf}
 use Rattle.numbers.proofs.DigitLaws.{digits-length}
-use Rattle.messages.specs.Meaning.{fieldMeans, contentOf}
-use Rattle.ranges.specs.Entries.{fieldIn, fieldsIn, chunkIn, chunksIn, headIn, headsIn, fieldsBefore, FieldsWithin, HeadsWithin}
-use Rattle.ranges.proofs.Entries.{fields-more, fields-none, chunks-more, chunks-none, heads-more, heads-none}
+use Rattle.messages.specs.Meaning.{fieldMeans}
+use Rattle.ranges.specs.Entries.{fieldIn, fieldsIn, headsIn, fieldsBefore, FieldsWithin, HeadsWithin}
+use Rattle.ranges.proofs.Entries.{fields-more, fields-none, heads-more, heads-none}
 use Rattle.write_http1.specs.Write.{fieldText, sectionText, statusLine, informationalText}
 use Rattle.write_http1.specs.Numbered.{fieldsNamed, lineSize, sectionSize, statusSize, headsSize}
 

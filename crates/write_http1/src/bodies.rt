@@ -1,13 +1,16 @@
 // The body of a message: its content, in a chunk where trailers follow.
 use crate::sections::put_section;
+use crate::sections::section_size;
+use numbers::digit_count;
 use output::put_hexadecimal;
 use output::put_octet;
 use output::put_part;
 use output::put_text;
 use ranges::number_at;
 ghost use mathlib.Core.Path.{_≡_};
-ghost use Prim.Native.Nat.{_+_, _≤_};
+ghost use Prim.Native.Nat.{_+_, _*_, _≤_};
 ghost use lib.ListN.{length};
+ghost use Rattle.octets.specs.Limits.{contentMost, linesMost};
 ghost use Rattle.output.specs.Splice.{Put};
 ghost use Rattle.messages.specs.Meaning.{contentOf};
 ghost use Rattle.ranges.specs.Entries.{chunksIn, ChunksWithin, FieldsWithin};
@@ -65,4 +68,25 @@ pub fn put_body(
     let b = put_octet(out, a, 48);
     let d = put_text(out, b, b"\r\n");
     put_section(out, d, s, trailers, 0, count)
+}
+
+fn chunk_size(size: usize) -> usize
+    requires { ⌜ size ≤ contentMost ⌝ }
+    ensures { λ n. ⌜ (n ≡ chunkSize size) × (n ≤ 32792) ⌝ }
+{
+    if size == 0 {
+        return 0;
+    }
+    digit_count(size, 16) + size + 4
+}
+
+// How long the body is.
+pub fn body_size(size: usize, trailers: &[u32], count: usize) -> usize
+    requires { ⌜ (size ≤ contentMost) × (count * 4 ≤ length (now trailers)) × (count ≤ linesMost) ⌝ }
+    ensures { λ n. ⌜ (n ≡ bodySize size (now (trailers .entry)) count) × (n ≤ 549755846813) ⌝ }
+{
+    if count == 0 {
+        return size;
+    }
+    chunk_size(size) + 3 + section_size(trailers, 0, count)
 }
