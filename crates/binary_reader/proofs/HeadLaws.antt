@@ -1,0 +1,59 @@
+-- One head of a response, as the code reads it.
+use Prim.Native.Nat.{ℕ, zero, suc, _+_, _-_, _*_, _<_, _≤_}
+use mathlib.Core.Path.{_≡_, refl, sym, ap, _∙_, subst}
+use mathlib.Core.List.{List, [], _∷_, _++_}
+use mathlib.Core.Bool.{Bool, true, false, cond}
+use native.Mathlib.Omega.{arith}
+use lib.ListN.{length, take, drop}
+use Rattle.script.specs.Do.{Judged, good, wrong}
+use Rattle.messages.specs.Message.{InformationalRead, Section, Message}
+use Rattle.messages.specs.Notes.{notesOf, bodyAnswer}
+use Rattle.messages.specs.Rules.{binaryFramingOf, nothingStated}
+use Rattle.messages.specs.declared.Body.{Body}
+use Rattle.messages.specs.declared.BodyAnswer.the-variants as body
+use Rattle.messages.specs.declared.Notes.{Notes}
+use Rattle.messages.proofs.Noting.{notes-binary}
+use Rattle.messages.proofs.Lengths.{body-read, body-refused}
+use Rattle.binary.specs.Reader.{Got, got, no, Reader, _>>=_}
+use Rattle.binary.specs.Read.{section, responseMessage}
+use Rattle.read_binary.specs.Section.{Sectioned}
+use Rattle.read_binary.specs.declared.Section as answer
+use Rattle.read_binary.specs.declared.Section.the-variants as section-read
+use Rattle.binary_reader.specs.Heads.{informationalRead, behindInformational, behindFinal, informationalRest, finalRest, FinalStatus, HeadStored, AnyHeads, FewHeads, SoManyHeads, HeadSays, Headed}
+use Rattle.binary_reader.specs.declared.HeadRead.{HeadRead}
+use Rattle.binary_reader.specs.declared.HeadRead.the-variants as head
+use Rattle.binary_reader.proofs.SectionOutcomes.{SectionDone, section-no, section-done, behind-no, behind-got}
+
+pub framing-noted : (n : Notes) (h : Section) → n ≡ notesOf false (h .lines) → n .framing ≡ binaryFramingOf (h .lines)
+framing-noted n h e = ap (λ (n : Notes). n .framing) e ∙ notes-binary (h .lines)
+
+-- ---- the section behind a status
+
+module _ (s : List ℕ) (known : Bool) (next status : ℕ) {base : ℕ} {hs hs′ : List ℕ} {r : answer.Section} (w : Sectioned s (section known next (drop next s)) true base hs hs′ r) where
+  pub informational-no : {i p : ℕ} → r ≡ section-read.Refused i p
+      → Headed FewHeads (λ f is. informationalRest known f is status next (drop next s)) known s base hs hs′ (head.Refused i p)
+  unfolding informationalRest
+  informational-no e = record { by = λ f is z. behind-no known (behindInformational known f is status) s next (section-no s known next w e) }
+
+  module _ (within : next ≤ length s) {e c : ℕ} {n : Notes} (q : r ≡ section-read.Done e c n) where
+    head-stored : (d : SectionDone s known next true base hs hs′ e c n) → HeadStored s base hs hs′ e c (d .read)
+    head-stored d = record { end = d .end; within = d .within; few = d .lines .section .few; count = d .count; stored = d .stored }
+
+    judged : (d : SectionDone s known next true base hs hs′ e c n) → nothingStated e (n .framing) ≡ nothingStated (d .read .end) (binaryFramingOf (d .read .lines))
+    judged d = rw (d .end, framing-noted n (d .read) (d .noted)) refl
+
+    pub informational-states : {i p : ℕ} → bodyAnswer (nothingStated e (n .framing)) ≡ body.Refused i p
+        → Headed FewHeads (λ f is. informationalRest known f is status next (drop next s)) known s base hs hs′ (head.Refused i p)
+    unfolding informationalRest behindInformational _>>=_
+    informational-states {i} {p} g =
+        let d = section-done s known next w within q in
+        let z : nothingStated (d .read .end) (binaryFramingOf (d .read .lines)) ≡ wrong i p = sym (judged d) ∙ body-refused _ i p g in
+        record { by = λ f is few. behind-got known (behindInformational known f is status) s next (d .gives) ∙ rw z }
+
+    pub informational-ends : (b : Body) → bodyAnswer (nothingStated e (n .framing)) ≡ body.Read b
+        → Headed FewHeads (λ f is. informationalRest known f is status next (drop next s)) known s base hs hs′ (head.Informational status e c)
+    unfolding informationalRest behindInformational _>>=_
+    informational-ends b g =
+        let d = section-done s known next w within q in
+        let z : nothingStated (d .read .end) (binaryFramingOf (d .read .lines)) ≡ good b = sym (judged d) ∙ body-read _ b g in
+        record { by = λ f is few. (d .read, head-stored d, few, behind-got known (behindInformational known f is status) s next (d .gives) ∙ rw z) }

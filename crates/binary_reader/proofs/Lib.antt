@@ -1,0 +1,2 @@
+pub mod SectionOutcomes
+pub mod HeadLaws

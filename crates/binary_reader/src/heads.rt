@@ -1,0 +1,39 @@
+// The heads of a response.
+use crate::HeadRead;
+use messages::BodyAnswer;
+use messages::sections::nothing_stated;
+use read_binary::Section;
+use read_binary::lines::read_section;
+ghost use mathlib.Core.Path.{_≡_};
+ghost use Prim.Native.Nat.{_+_, _*_, _≤_, _<_};
+ghost use lib.ListN.{length, drop};
+ghost use Rattle.octets.specs.Table.{classes};
+ghost use Rattle.ranges.specs.Ranges.{placesEnd};
+ghost use Rattle.binary_reader.specs.Heads.{informationalRest, FewHeads, Headed};
+
+// The section of an informational head, behind its status that ends at `next`.
+fn informational_head(
+    t: &[u8; 256],
+    s: &[u8],
+    status: u32,
+    next: usize,
+    known: bool,
+    base: usize,
+    headers: &mut [u32],
+) -> HeadRead
+    requires { ⌜ (now t ≡ classes) × (next ≤ length (now s)) × (length (now s) < placesEnd) × (base * 4 + 256 ≤ length (now headers)) ⌝ }
+    ensures { λ r. ⌜ Headed FewHeads (λ f is. informationalRest known f is status next (drop next (now (s .entry)))) known (now (s .entry)) base (now (headers .entry)) (now (headers .exit)) r ⌝ }
+{
+    let h = read_section(t, s, next, known, true, base, headers);
+    match h {
+        Section::Refused { number, place } => return HeadRead::Refused { number, place },
+        Section::Done { end, kept, notes } => {
+            let f = notes.framing;
+            let b = nothing_stated(f, end);
+            match b {
+                BodyAnswer::Refused { number, place } => return HeadRead::Refused { number, place },
+                BodyAnswer::Read(_) => return HeadRead::Informational { status, end, kept },
+            }
+        }
+    }
+}
