@@ -35,6 +35,11 @@ module _ (s : List ℕ) (known : Bool) (next status : ℕ) {base : ℕ} {hs hs�
   unfolding informationalRest
   informational-no e = record { by = λ f is z. behind-no known (behindInformational known f is status) s next (section-no s known next w e) }
 
+  pub final-no : {i p : ℕ} → r ≡ section-read.Refused i p
+      → Headed AnyHeads (λ f is. finalRest known is status next (drop next s)) known s base hs hs′ (head.Refused i p)
+  unfolding finalRest
+  final-no e = record { by = λ f is z. behind-no known (behindFinal known is status) s next (section-no s known next w e) }
+
   module _ (within : next ≤ length s) {e c : ℕ} {n : Notes} (q : r ≡ section-read.Done e c n) where
     head-stored : (d : SectionDone s known next true base hs hs′ e c n) → HeadStored s base hs hs′ e c (d .read)
     head-stored d = record { end = d .end; within = d .within; few = d .lines .section .few; count = d .count; stored = d .stored }
@@ -57,3 +62,9 @@ module _ (s : List ℕ) (known : Bool) (next status : ℕ) {base : ℕ} {hs hs�
         let d = section-done s known next w within q in
         let z : nothingStated (d .read .end) (binaryFramingOf (d .read .lines)) ≡ good b = sym (judged d) ∙ body-read _ b g in
         record { by = λ f is few. (d .read, head-stored d, few, behind-got known (behindInformational known f is status) s next (d .gives) ∙ rw z) }
+
+    pub final-ends : FinalStatus status → Headed AnyHeads (λ f is. finalRest known is status next (drop next s)) known s base hs hs′ (head.Final status e c n)
+    unfolding finalRest
+    final-ends u =
+        let d = section-done s known next w within q in
+        record { by = λ f is z. (d .read, head-stored d, d .noted, u, behind-got known (behindFinal known is status) s next (d .gives)) }

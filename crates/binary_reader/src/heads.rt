@@ -9,7 +9,7 @@ ghost use Prim.Native.Nat.{_+_, _*_, _≤_, _<_};
 ghost use lib.ListN.{length, drop};
 ghost use Rattle.octets.specs.Table.{classes};
 ghost use Rattle.ranges.specs.Ranges.{placesEnd};
-ghost use Rattle.binary_reader.specs.Heads.{informationalRest, FewHeads, Headed};
+ghost use Rattle.binary_reader.specs.Heads.{informationalRest, finalRest, FinalStatus, AnyHeads, FewHeads, Headed};
 
 // The section of an informational head, behind its status that ends at `next`.
 fn informational_head(
@@ -35,5 +35,30 @@ fn informational_head(
                 BodyAnswer::Read(_) => return HeadRead::Informational { status, end, kept },
             }
         }
+    }
+}
+
+// The section of a final head, behind its status that ends at `next`.
+fn final_head(
+    t: &[u8; 256],
+    s: &[u8],
+    status: u32,
+    next: usize,
+    known: bool,
+    base: usize,
+    headers: &mut [u32],
+) -> HeadRead
+    requires { ⌜ (now t ≡ classes) × (next ≤ length (now s)) × (length (now s) < placesEnd) × (base * 4 + 256 ≤ length (now headers)) × FinalStatus status ⌝ }
+    ensures { λ r. ⌜ Headed AnyHeads (λ f is. finalRest known is status next (drop next (now (s .entry)))) known (now (s .entry)) base (now (headers .entry)) (now (headers .exit)) r ⌝ }
+{
+    let h = read_section(t, s, next, known, true, base, headers);
+    match h {
+        Section::Refused { number, place } => return HeadRead::Refused { number, place },
+        Section::Done { end, kept, notes } => return HeadRead::Final {
+            status,
+            end,
+            kept,
+            notes,
+        },
     }
 }
