@@ -1,2 +1,3 @@
 pub mod SectionOutcomes
 pub mod HeadLaws
+pub mod HeadTurns
