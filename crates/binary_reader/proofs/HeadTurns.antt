@@ -53,9 +53,9 @@ module _ {x : Got Message} {known : Bool} {s hs₀ hs hs′ ns₀ ns : List ℕ}
   says {q} e =
       subst (λ (y : Got Message). HeadSays y known (informationalMost - count) (to .read) s base hs hs′ q) (sym (to .turn))
       (subst
-        (λ (z : HeadRead).
-            HeadSays (responseMessage known (suc (informationalMost - count)) (to .read) i (drop i s)) known (informationalMost - count) (to .read) s base hs hs′ z)
-        e (w .by (informationalMost - count) (to .read) (to .counted)))
+      (λ (z : HeadRead).
+      HeadSays (responseMessage known (suc (informationalMost - count)) (to .read) i (drop i s)) known (informationalMost - count) (to .read) s base hs hs′ z)
+      e (w .by (informationalMost - count) (to .read) (to .counted)))
 
   pub heads-refused : (ns′ : List ℕ) {k p : ℕ} → r ≡ head.Refused k p → HeadsTaken x known s hs₀ hs′ ns₀ ns′ (heads-read.Refused k p)
   heads-refused ns′ e = record { says = says e }
