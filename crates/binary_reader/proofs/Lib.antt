@@ -1,3 +1,3 @@
+pub mod HeadTurns
 pub mod SectionOutcomes
 pub mod HeadLaws
-pub mod HeadTurns
