@@ -1,0 +1,3 @@
+pub mod HeadTurns
+pub mod SectionOutcomes
+pub mod HeadLaws
