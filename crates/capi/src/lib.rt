@@ -2,4 +2,5 @@
 
 pub mod entries;
 pub mod numbers_out;
+pub mod turnings;
 pub mod written;
