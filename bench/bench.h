@@ -1,4 +1,4 @@
-/* What the parts of the benchmark share: the messages, the calls that are timed on them, the rows of a table, the clock and the table. */
+/* What both programs share: the messages, the calls that are timed on them, the rows of a table, the clock and the table. */
 #ifndef BENCH_H
 #define BENCH_H
 
@@ -16,9 +16,12 @@ struct message {
     size_t kept;    /* those of them that travel (ours names only these) */
     size_t content; /* octets of content */
     bool chunked;
+    size_t put_at; /* where a turning puts the content in its output; set by turn.c */
 };
 
-extern struct message small, fields30, by_length, in_chunks;
+extern struct message small, fields30, by_length, in_chunks; /* HTTP/1.1 requests */
+extern struct message example, example_binary;               /* input A of document 01, and the Binary that P5 gives for it */
+extern struct message figure_10, figure_13;                  /* of document 001: an HTTP/1.1 response with two informational heads; Binary */
 
 /* Some processors copy twenty times slower where source and destination stand at nearly the same place in their pages: all that is written begins at
  * a page's start, every message in the middle of one. */
@@ -29,24 +32,33 @@ void make_messages(void);
 
 /* ------------------------------------------------------------------------------------------------ the calls */
 
-/* What a call found; the program holds it to what is known of the message before it takes any time. */
+/* What a call found or wrote; each program holds it to what is known of the message before it takes any time. */
 struct found {
-    size_t taken;   /* octets taken */
-    size_t fields;  /* fields stored */
-    size_t content; /* octets of content found */
+    size_t taken;   /* octets taken by a reader */
+    size_t fields;  /* fields stored by a reader */
+    size_t content; /* octets of content found by a reader */
+    size_t written; /* octets written by a turning */
 };
 
 typedef void call(const struct message *message, struct found *found);
 
+/* All turnings write here. */
+enum { OUTPUT_ROOM = 1 << 16 };
+extern uint8_t output[OUTPUT_ROOM];
+
 /* ours.c */
-call ours_read_request;
+call ours_read_request, ours_read_response, ours_read_binary;
+call ours_request_to_binary, ours_response_to_binary, ours_binary_to_binary;
 
 /* http_parser.c, pico.c */
 call http_parser_read_request, pico_read_head, pico_read_chunked, copy_body;
 
+/* unchecked.c */
+call unchecked_request_to_binary, unchecked_response_to_binary, unchecked_binary_to_binary;
+
 /* ------------------------------------------------------------------------------------------------ clock.c, table.c */
 
-enum { COLUMNS_MOST = 3, ROUNDS = 41 };
+enum { COLUMNS_MOST = 4, ROUNDS = 41 };
 
 struct column {
     const char *name, *what;

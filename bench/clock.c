@@ -24,7 +24,7 @@ static double measure(call *call, const struct message *message, long count)
     double start = now();
     for (long i = 0; i < count; i++) {
         call(message, &found);
-        sum += found.taken + found.fields + found.content;
+        sum += found.taken + found.fields + found.content + found.written;
     }
     double ns = (now() - start) / count;
     sink = sum;

@@ -6,7 +6,7 @@
 
 #include "bench.h"
 
-struct message small, fields30, by_length, in_chunks;
+struct message small, fields30, by_length, in_chunks, example, example_binary, figure_10, figure_13;
 
 uint8_t *room_for_message(void)
 {
@@ -53,7 +53,7 @@ static void add_json(struct message *m, size_t first, size_t len)
         add_octets(m, &json[i % 61], 1);
 }
 
-void make_messages(void)
+static void make_posts(void)
 {
     check_size("length of the JSON", strlen(json), 61);
 
@@ -87,4 +87,42 @@ void make_messages(void)
         add(&in_chunks, "\r\n");
     }
     add(&in_chunks, "0\r\n\r\n");
+}
+
+static void make_examples(void)
+{
+    example = begin(2, 0, 3);
+    add(&example, "POST /s HTTP/1.1\r\nHost: a\r\nContent-Length: 3\r\n\r\n");
+    example.head = example.len;
+    add(&example, "abc");
+    check_size("length of A", example.len, 51);
+
+    static const char p5[] = "\0\4POST\4http\1a\2/s\0\3abc"; /* the string's end is the empty trailer section */
+    example_binary = begin(0, 0, 3);
+    example_binary.head = 18;
+    add_octets(&example_binary, p5, sizeof p5);
+    check_size("length of P5's Binary", example_binary.len, 22);
+
+    figure_10 = begin(8, 7, 51);
+    add(&figure_10, "HTTP/1.1 102 Processing\r\nRunning: \"sleep 15\"\r\n\r\n");
+    add(&figure_10, "HTTP/1.1 103 Early Hints\r\nLink: </style.css>; rel=preload; as=style\r\nLink: </script.js>; rel=preload; as=script\r\n\r\n");
+    add(&figure_10, "HTTP/1.1 200 OK\r\nDate: Mon, 27 Jul 2009 12:28:53 GMT\r\nServer: Apache\r\nLast-Modified: Wed, 22 Jul 2009 19:15:56 GMT\r\n");
+    add(&figure_10, "ETag: \"34aa387-d-1568eb00\"\r\nAccept-Ranges: bytes\r\nContent-Length: 51\r\nVary: Accept-Encoding\r\nContent-Type: text/plain\r\n\r\n");
+    figure_10.head = figure_10.len;
+    add(&figure_10, "Hello World! My content includes a trailing CRLF.\r\n");
+    check_size("content of Figure 10", figure_10.len - figure_10.head, 51);
+
+    static const char trailed[] = "\1\x40\xc8\0\x1d"
+                                  "This content contains CRLF.\r\n"
+                                  "\x0d\7trailer\4text";
+    figure_13 = begin(0, 0, 29);
+    figure_13.head = 5;
+    add_octets(&figure_13, trailed, sizeof trailed - 1);
+    check_size("length of Figure 13", figure_13.len, 48);
+}
+
+void make_messages(void)
+{
+    make_posts();
+    make_examples();
 }
