@@ -48,13 +48,13 @@ extern uint8_t output[OUTPUT_ROOM];
 
 /* ours.c */
 call ours_read_request, ours_read_response, ours_read_binary;
-call ours_request_to_binary, ours_response_to_binary, ours_binary_to_binary;
+call ours_request_to_binary, ours_response_to_binary, ours_binary_to_binary, ours_binary_to_http1;
 
 /* http_parser.c, pico.c */
 call http_parser_read_request, pico_read_head, pico_read_chunked, copy_body;
 
 /* unchecked.c */
-call unchecked_request_to_binary, unchecked_response_to_binary, unchecked_binary_to_binary;
+call unchecked_request_to_binary, unchecked_response_to_binary, unchecked_binary_to_binary, unchecked_binary_to_http1;
 
 /* ------------------------------------------------------------------------------------------------ clock.c, table.c */
 

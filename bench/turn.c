@@ -11,7 +11,7 @@
 
 /* ------------------------------------------------------------------------------------------------ the Binary messages */
 
-static struct message small_binary, fields30_binary, long_binary;
+static struct message small_binary, fields30_binary, long_binary, figure_10_binary;
 
 /* The HTTP/1.1 message, which has no trailers, as the unchecked writer turns it; check_row holds ours to the same octets. */
 static struct message turned(const struct message *from, call *turn)
@@ -33,6 +33,7 @@ static void make_binary_messages(void)
     small_binary = turned(&small, unchecked_request_to_binary);
     fields30_binary = turned(&fields30, unchecked_request_to_binary);
     long_binary = turned(&by_length, unchecked_request_to_binary);
+    figure_10_binary = turned(&figure_10, unchecked_response_to_binary);
 }
 
 /* ------------------------------------------------------------------------------------------------ the rows */
@@ -53,7 +54,7 @@ static void copy_content(const struct message *message, struct found *found)
 enum { OURS, UNCHECKED, COPY, READING, COLUMNS };
 
 static const struct column columns[COLUMNS] = {
-    {"ours", "ospirnar_request_to_binary, _response_to_binary, _binary_to_binary: judge the whole message, then write it"},
+    {"ours", "ospirnar_request_to_binary, _response_to_binary, _binary_to_binary, _binary_to_http1: judge the whole message, then write it"},
     {"unchecked C", "takes the message apart and writes the same octets, checks nothing: bench/unchecked.c"},
     {"memcpy", "the content alone, in one piece, to where the turning puts it"},
     {"reading", "ospirnar_read_request, _read_response or _read_binary on the same message: no octet is written"},
@@ -62,6 +63,7 @@ static const struct column columns[COLUMNS] = {
 #define REQUEST_TO_BINARY {ours_request_to_binary, unchecked_request_to_binary, copy_content, ours_read_request}
 #define RESPONSE_TO_BINARY {ours_response_to_binary, unchecked_response_to_binary, copy_content, ours_read_response}
 #define BINARY_TO_BINARY {ours_binary_to_binary, unchecked_binary_to_binary, copy_content, ours_read_binary}
+#define BINARY_TO_HTTP1 {ours_binary_to_http1, unchecked_binary_to_http1, copy_content, ours_read_binary}
 
 static struct row rows[] = {
     {"to Binary: A of 01", &example, REQUEST_TO_BINARY, {0}, {0}},
@@ -75,6 +77,9 @@ static struct row rows[] = {
     {"Binary anew: scan post", &small_binary, BINARY_TO_BINARY, {0}, {0}},
     {"Binary anew: post with 30 fields", &fields30_binary, BINARY_TO_BINARY, {0}, {0}},
     {"Binary anew: 32 KB", &long_binary, BINARY_TO_BINARY, {0}, {0}},
+    {"to HTTP/1.1: scan post", &small_binary, BINARY_TO_HTTP1, {[UNCHECKED] = 1.5}, {0}},
+    {"to HTTP/1.1: 32 KB", &long_binary, BINARY_TO_HTTP1, {[UNCHECKED] = 1.5, [COPY] = 2.0}, {0}},
+    {"to HTTP/1.1: Figure 10, a response", &figure_10_binary, BINARY_TO_HTTP1, {[UNCHECKED] = 1.5}, {0}},
 };
 enum { ROWS = sizeof rows / sizeof rows[0] };
 

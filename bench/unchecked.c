@@ -315,6 +315,72 @@ static size_t write_binary(const struct parts *parts, uint8_t *out)
     return (size_t)(to - out);
 }
 
+/* ------------------------------------------------------------------------------------------------ writing HTTP/1.1 */
+
+#define PUT(to, text) put(to, text, sizeof text - 1)
+
+/* Lower case, no leading zeros. */
+static uint8_t *put_number(uint8_t *to, size_t value, unsigned base)
+{
+    uint8_t digits[20], *first = digits + sizeof digits;
+    do
+        *--first = (uint8_t) "0123456789abcdef"[value % base];
+    while ((value /= base) > 0);
+    return put(to, first, (size_t)(digits + sizeof digits - first));
+}
+
+/* Field lines and the empty line behind them. */
+static uint8_t *put_lines(uint8_t *to, const struct section *section)
+{
+    for (size_t i = 0; i < section->count; i++) {
+        to = put(to, section->fields[i].name.at, section->fields[i].name.len);
+        to = PUT(to, ": ");
+        to = put(to, section->fields[i].value.at, section->fields[i].value.len);
+        to = PUT(to, "\r\n");
+    }
+    return PUT(to, "\r\n");
+}
+
+static uint8_t *put_status_line(uint8_t *to, unsigned status)
+{
+    return PUT(put_number(PUT(to, "HTTP/1.1 "), status, 10), " \r\n");
+}
+
+static uint8_t *put_length_line(uint8_t *to, const struct parts *parts)
+{
+    if (parts->trailer.count > 0)
+        return PUT(to, "transfer-encoding: chunked\r\n");
+    if (parts->request ? parts->content == 0 : parts->status == 204 || parts->status == 304)
+        return to;
+    return PUT(put_number(PUT(to, "content-length: "), parts->content, 10), "\r\n");
+}
+
+static size_t write_http1(const struct parts *parts, uint8_t *out)
+{
+    uint8_t *to = out;
+    if (parts->request) {
+        to = put(to, parts->method.at, parts->method.len);
+        to = PUT(to, " ");
+        to = put(to, parts->path.at, parts->path.len);
+        to = PUT(to, " HTTP/1.1\r\nhost: ");
+        to = put(to, parts->authority.at, parts->authority.len);
+        to = PUT(to, "\r\n");
+    } else {
+        for (size_t i = 0; i < parts->informational_count; i++)
+            to = put_lines(put_status_line(to, parts->informational_status[i]), &parts->informational[i]);
+        to = put_status_line(to, parts->status);
+    }
+    to = put_lines(put_length_line(to, parts), &parts->header);
+    if (parts->trailer.count == 0) {
+        to = put_content(to, parts);
+    } else {
+        if (parts->content > 0)
+            to = PUT(put_content(PUT(put_number(to, parts->content, 16), "\r\n"), parts), "\r\n");
+        to = put_lines(PUT(to, "0\r\n"), &parts->trailer);
+    }
+    return (size_t)(to - out);
+}
+
 /* ------------------------------------------------------------------------------------------------ the calls */
 
 void unchecked_request_to_binary(const struct message *message, struct found *found)
@@ -336,4 +402,11 @@ void unchecked_binary_to_binary(const struct message *message, struct found *fou
     struct parts parts;
     take_binary(&parts, message->octets);
     found->written = write_binary(&parts, output);
+}
+
+void unchecked_binary_to_http1(const struct message *message, struct found *found)
+{
+    struct parts parts;
+    take_binary(&parts, message->octets);
+    found->written = write_http1(&parts, output);
 }
