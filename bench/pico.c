@@ -25,7 +25,7 @@ int phr_parse_request(const char *buf, size_t len, const char **method, size_t *
 ssize_t phr_decode_chunked(struct phr_chunked_decoder *decoder, char *buf, size_t *bufsz);
 
 static struct phr_header headers[64];
-static char copy[1 << 17];
+static char copy[1 << 17] AT_PAGE;
 
 void pico_read_head(const struct message *message, struct found *found)
 {
