@@ -47,6 +47,26 @@ uint32_t ospirnar_read_request(const uint8_t *input, size_t input_len, uint32_t 
 /* The first HTTP/1.1 response of a stream. */
 uint32_t ospirnar_read_response(const uint8_t *input, size_t input_len, uint32_t *ranges, size_t ranges_len, size_t *place);
 
+/* One Binary HTTP message: the whole input, zero padding included, so that an accepted message is as long as the input and there is no call for more. */
+uint32_t ospirnar_read_binary(const uint8_t *input, size_t input_len, uint32_t *ranges, size_t ranges_len, size_t *place);
+
+/* Turning. The message is read by the reader of its form and written in the other, or anew, into `output`: 0 and *place the number of octets written, all behind
+ * them as it was. Otherwise no octet of `output` is altered: the reader's refusal (1 with the input's length where more octets are needed), then, into HTTP/1.1, 14 at
+ * 0 for a request of the other scheme, then 8 at 0 where what would be written is above a size of its form, then 13 at 0 where it is more than output_len. */
+
+/* The first HTTP/1.1 request of a stream, under the scheme told, as Binary HTTP. */
+uint32_t ospirnar_request_to_binary(const uint8_t *input, size_t input_len, uint32_t scheme, uint8_t *output, size_t output_len, size_t *place);
+
+/* The first HTTP/1.1 response of a stream as Binary HTTP. */
+uint32_t ospirnar_response_to_binary(const uint8_t *input, size_t input_len, uint8_t *output, size_t output_len, size_t *place);
+
+/* A Binary message anew: known length, shortest integers, all sections, no padding. */
+uint32_t ospirnar_binary_to_binary(const uint8_t *input, size_t input_len, uint8_t *output, size_t output_len, size_t *place);
+
+/* A Binary message, request or response, as HTTP/1.1 on a connection of the scheme told (0 http, 1 https; another number is 4 at 0, first). Calls that each write behind
+ * what the calls before them wrote make a stream, from which ospirnar_read_request under the same scheme takes the same requests in the same order. */
+uint32_t ospirnar_binary_to_http1(const uint8_t *input, size_t input_len, uint32_t scheme, uint8_t *output, size_t output_len, size_t *place);
+
 /* The listing of an HTTP/1.1 request stream under http, as the listing program prints it, into `output`; *place is its length. All behind it stays as
  * it was. 13 at 0 where it does not fit; nothing else is refused. */
 uint32_t ospirnar_listing(const uint8_t *input, size_t input_len, uint8_t *output, size_t output_len, size_t *place);
