@@ -1,5 +1,5 @@
 pub mod Giving
 pub mod Entering
 pub mod RequestEntry
-pub mod ResponseEntry
+pub mod MessageEntry
 pub mod Serving

@@ -2,6 +2,7 @@
 use crate::numbers_out::give_message;
 use crate::written::give_written;
 use listing::listing;
+use binary_reader::whole::binary_in;
 use messages::Outcome;
 use octets::Refusals;
 use octets::class_table;
@@ -11,6 +12,7 @@ ghost use mathlib.Core.Path.{_≡_};
 ghost use Prim.Native.Nat.{_+_, _≤_, _<_};
 ghost use lib.ListN.{length};
 ghost use Rattle.octets.specs.Table.{classes};
+ghost use Rattle.binary.specs.Read.{readBinary};
 ghost use Rattle.http1.specs.Read.{readRequest, readResponse};
 ghost use Rattle.readers.specs.Readers.{told};
 ghost use Rattle.output.specs.Reply.{octets};
@@ -143,6 +145,59 @@ pub extern "C" fn ospirnar_read_response(input: &[u8], ranges: &mut [u32], place
     let mut chunks = [0u32; 512];
     let mut trailers = [0u32; 256];
     enter_response(
+        &t,
+        input,
+        ranges,
+        place,
+        &mut headers,
+        &mut heads,
+        &mut chunks,
+        &mut trailers,
+    )
+}
+
+// The Binary reader's answer, through working space for its ranges.
+fn enter_binary(
+    t: &[u8; 256],
+    input: &[u8],
+    ranges: &mut [u32],
+    place: &mut usize,
+    headers: &mut [u32],
+    heads: &mut [u32],
+    chunks: &mut [u32],
+    trailers: &mut [u32],
+) -> u32
+    requires { ⌜ (now t ≡ classes) × (1280 ≤ length (now headers)) × (8 ≤ length (now heads)) × (512 ≤ length (now chunks)) × (256 ≤ length (now trailers)) × (now heads ≡ noHeads) ⌝ }
+    ensures { λ r. ⌜ Entered (readBinary (now (input .entry))) (length (now (input .entry))) (now (ranges .entry)) (now (ranges .exit)) (now (place .exit)) r ⌝ }
+{
+    let o = binary_in(t, input, headers, heads, chunks, trailers);
+    match o {
+        Outcome::More => {
+            *place = input.len();
+            return Refusals::MORE_NEEDED;
+        }
+        Outcome::Refusal { number, place: p } => {
+            *place = p;
+            return number;
+        }
+        Outcome::Message(r) => {
+            let fields = all_fields(heads, r.headers);
+            return give_message(ranges, place, r, fields, heads, headers, chunks, trailers);
+        }
+    }
+}
+
+// One Binary message: the whole input.
+#[no_mangle]
+pub extern "C" fn ospirnar_read_binary(input: &[u8], ranges: &mut [u32], place: &mut usize) -> u32
+    ensures { λ r. ⌜ Entered (readBinary (now (input .entry))) (length (now (input .entry))) (now (ranges .entry)) (now (ranges .exit)) (now (place .exit)) r ⌝ }
+{
+    let t = class_table();
+    let mut headers = [0u32; 1280];
+    let mut heads = [0u32; 8];
+    let mut chunks = [0u32; 512];
+    let mut trailers = [0u32; 256];
+    enter_binary(
         &t,
         input,
         ranges,

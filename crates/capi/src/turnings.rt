@@ -1,10 +1,12 @@
 // The turning entries: what is read of the one form is written in the other.
 use crate::written::give_written;
+use turning::from_binary::binary_to_binary;
+use turning::from_binary::binary_to_http1;
 use turning::to_binary::request_to_binary;
 use turning::to_binary::response_to_binary;
 ghost use mathlib.Core.Path.{_≡_};
 ghost use Rattle.readers.specs.Readers.{told};
-ghost use Rattle.turn.specs.Turn.{requestToBinary, responseToBinary};
+ghost use Rattle.turn.specs.Turn.{requestToBinary, responseToBinary, binaryToBinary, binaryToHttp1};
 ghost use Rattle.capi.specs.Entries.{EntryServed};
 
 // The first HTTP/1.1 request of a stream, under the scheme told, as Binary.
@@ -31,5 +33,32 @@ pub extern "C" fn ospirnar_response_to_binary(
     ensures { λ r. ⌜ EntryServed (responseToBinary (now (input .entry))) (now (output .entry)) (now (output .exit)) (now (place .exit)) r ⌝ }
 {
     let w = response_to_binary(input, output);
+    give_written(w, place)
+}
+
+// A Binary message anew as Binary.
+#[no_mangle]
+pub extern "C" fn ospirnar_binary_to_binary(
+    input: &[u8],
+    output: &mut [u8],
+    place: &mut usize,
+) -> u32
+    ensures { λ r. ⌜ EntryServed (binaryToBinary (now (input .entry))) (now (output .entry)) (now (output .exit)) (now (place .exit)) r ⌝ }
+{
+    let w = binary_to_binary(input, output);
+    give_written(w, place)
+}
+
+// A Binary message as HTTP/1.1 on a connection of the scheme told.
+#[no_mangle]
+pub extern "C" fn ospirnar_binary_to_http1(
+    input: &[u8],
+    scheme: u32,
+    output: &mut [u8],
+    place: &mut usize,
+) -> u32
+    ensures { λ r. ⌜ EntryServed (binaryToHttp1 (told scheme) (now (input .entry))) (now (output .entry)) (now (output .exit)) (now (place .exit)) r ⌝ }
+{
+    let w = binary_to_http1(input, scheme, output);
     give_written(w, place)
 }

@@ -1,9 +1,10 @@
 -- From a reader's outcome and a writer's answer to the turning's.
-use Prim.Native.Nat.{ℕ}
+use Prim.Native.Nat.{ℕ, _≤_}
 use mathlib.Core.Path.{_≡_, sym, subst}
+use mathlib.Core.Bool.{true, false}
 use mathlib.Core.List.{List}
 use lib.ListN.{length}
-use Rattle.octets.specs.Refusals.{moreNeeded}
+use Rattle.octets.specs.Refusals.{moreNeeded, notSupported}
 use Rattle.script.specs.Script.{Answer, accepted, refused, more}
 use Rattle.messages.specs.Message.{Message}
 use Rattle.messages.specs.Meaning.{Meaning, meaning}
@@ -11,7 +12,17 @@ use Rattle.output.specs.Reply.{Reply, Served}
 use Rattle.output.specs.declared.Written.{Written}
 use Rattle.output.specs.declared.Written.the-variants.{Refused}
 use Rattle.output.proofs.Serve.{serve-wrong}
-use Rattle.turn.specs.Turn.{replyTo}
+use Rattle.messages.specs.Told.{Told}
+use Rattle.messages.specs.Valid.{isScheme}
+use Rattle.messages.specs.declared.Record.{Record}
+use Rattle.messages.specs.declared.Outcome.{Outcome}
+use Rattle.messages.specs.declared.Outcome.the-variants as outcome
+use Rattle.binary.specs.Read.{readBinary}
+use Rattle.binary_sound.proofs.Sound.{binary-sound}
+use Rattle.ranges.specs.Ranges.{Responded}
+use Rattle.ranges.proofs.Outcomes.{IsHeld, held}
+use Rattle.turn.specs.Turn.{replyTo, binaryToHttp1}
+use Rattle.turning.specs.Behind.{readToHttp1}
 
 module _ {x : Answer Message} (n : ℕ) (write : Meaning → Reply) where
   pub turned-more : (o : List ℕ) → x ≡ more → Served (replyTo n x write) o o (Refused moreNeeded n)
@@ -22,3 +33,18 @@ module _ {x : Answer Message} (n : ℕ) (write : Meaning → Reply) where
 
   pub turned : {o o′ : List ℕ} {w : Written} (k : ℕ) (m : Message) → x ≡ accepted k m → Served (write (meaning m)) o o′ w → Served (replyTo n x write) o o′ w
   turned {o} {o′} {w} k m e h = subst (λ (y : Answer Message). Served (replyTo n y write) o o′ w) (sym e) h
+
+-- a Binary message that was read is held
+pub binary-held : (s : List ℕ) {hs hs′ ns ns′ cs cs′ ts ts′ : List ℕ} {o : Outcome} {r : Record} → Responded (readBinary s) hs hs′ ns ns′ cs cs′ ts ts′ o
+    → o ≡ outcome.Message r → 1280 ≤ length hs → 8 ≤ length ns → 512 ≤ length cs → 256 ≤ length ts → IsHeld (readBinary s) s r hs′ ns′ cs′ ts′
+binary-held s h e = held s h e (λ n m q. binary-sound s n m q .sound)
+
+-- ---- the scheme that is told
+
+pub told-scheme : (t : Told) (s : List ℕ) {o o′ : List ℕ} {w : Written} → isScheme (t .scheme) ≡ true → Served (readToHttp1 t s) o o′ w → Served (binaryToHttp1 t s) o o′ w
+unfolding binaryToHttp1 readToHttp1
+told-scheme t s e h = rw e h
+
+pub told-other : (t : Told) (s o : List ℕ) → isScheme (t .scheme) ≡ false → Served (binaryToHttp1 t s) o o (Refused notSupported 0)
+unfolding binaryToHttp1
+told-other t s o e = rw e (serve-wrong o notSupported 0)

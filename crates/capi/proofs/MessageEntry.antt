@@ -1,4 +1,4 @@
--- What the response entry knows of an accepted response.
+-- What the entries of responses and of Binary know of an accepted message.
 use Prim.Native.Nat.{ℕ, zero, suc, _+_, _*_, _≤_}
 use mathlib.Core.Path.{_≡_, refl, sym, ap, _∙_, subst}
 use mathlib.Core.List.{List, [], _∷_, _++_}
@@ -16,8 +16,9 @@ use Rattle.messages.specs.declared.Outcome.{Outcome}
 use Rattle.messages.specs.declared.Outcome.the-variants as outcome
 use Rattle.messages.proofs.Noting.{kept-few}
 use Rattle.http1.specs.Read.{readResponse}
-use Rattle.http1_laws.specs.Read.{IsResponse, SoundResponse}
 use Rattle.http1_laws.proofs.Sound.{response-sound}
+use Rattle.binary.specs.Read.{readBinary}
+use Rattle.binary_sound.proofs.Sound.{binary-sound}
 use Rattle.sound.specs.Sound.{Sound, GoodHeads}
 use Rattle.ranges.specs.Ranges.{InformationalSays, Responded, SmallRecord}
 use Rattle.ranges.proofs.Outcomes.{Given, sound-small, heads-few}
@@ -60,18 +61,16 @@ heads-stand (a ∷ b ∷ c ∷ []) h = refl
 heads-stand (a ∷ b ∷ c ∷ d ∷ []) h = refl
 heads-stand (a ∷ b ∷ c ∷ d ∷ e ∷ hs) h = few-none h
 
-module _ (s : List ℕ) {hs hs′ ns ns′ cs cs′ ts ts′ : List ℕ} {r : Record} (g : Given (readResponse s) hs hs′ cs cs′ ts ts′ r) {o : Outcome}
-    (w : Responded (readResponse s) hs hs′ ns ns′ cs cs′ ts ts′ o) (z : ns ≡ noHeads) where
-  is-sound : SoundResponse s (g .long) (g .message)
-  is-sound = response-sound s (g .long) (g .message) (g .taken)
-
-  pub response-small : SmallRecord r
-  response-small = subst SmallRecord (sym (g .numbers)) (sound-small s (g .long) (g .message) (is-sound .sound))
+-- a message that was accepted from s, by whatever reader
+module _ (s : List ℕ) {x : Answer Message} {hs hs′ ns ns′ cs cs′ ts ts′ : List ℕ} {r : Record} (g : Given x hs hs′ cs cs′ ts ts′ r) {o : Outcome}
+    (w : Responded x hs hs′ ns ns′ cs cs′ ts ts′ o) (z : ns ≡ noHeads) (ok : Sound s (g .message)) where
+  pub message-small : SmallRecord r
+  message-small = subst SmallRecord (sym (g .numbers)) (sound-small s (g .long) (g .message) ok)
 
   heads-are : ns′ ≡ splice noHeads 0 (informationalNumbers (informationalIn (g .message .start)))
-  heads-are = go (readResponse s) (g .taken) (w .informational) ∙ ap (λ (l : List ℕ). splice l 0 (informationalNumbers (informationalIn (g .message .start)))) z
+  heads-are = go x (g .taken) (w .informational) ∙ ap (λ (l : List ℕ). splice l 0 (informationalNumbers (informationalIn (g .message .start)))) z
     where
-      go : (x : Answer Message) → x ≡ accepted (g .long) (g .message) → InformationalSays x ns ns′ → ns′ ≡ splice ns 0 (informationalNumbers (informationalIn (g .message .start)))
+      go : (y : Answer Message) → y ≡ accepted (g .long) (g .message) → InformationalSays y ns ns′ → ns′ ≡ splice ns 0 (informationalNumbers (informationalIn (g .message .start)))
       go (accepted n m) e q = let f : m ≡ g .message = cc in rw (sym f) q
       go (refused k p) e q = let y : _≡_ {A = ℕ} 0 1 = cc in absurd (omega arith)
       go more e q = let y : _≡_ {A = ℕ} 0 1 = cc in absurd (omega arith)
@@ -82,33 +81,44 @@ module _ (s : List ℕ) {hs hs′ ns ns′ cs cs′ ts ts′ : List ℕ} {r : Re
     fields-are =
         let e : headsFields ns′ ≡ headsFields (splice noHeads 0 (informationalNumbers (informationalIn (g .message .start)))) = ap headsFields heads-are in
         let k : r .headers ≡ recordFrom (g .message .start) (g .long) (g .message) .headers = ap (λ (q : Record). q .headers) (g .numbers) in
-        go (g .message .start) (is-sound .response) (is-sound .sound .heads) e k
+        go (g .message .start) (ok .heads) e k
       where
-        go : (st : Start) → IsResponse st → GoodHeads st → headsFields ns′ ≡ headsFields (splice noHeads 0 (informationalNumbers (informationalIn st)))
+        go : (st : Start) → GoodHeads st → headsFields ns′ ≡ headsFields (splice noHeads 0 (informationalNumbers (informationalIn st)))
             → r .headers ≡ recordFrom st (g .long) (g .message) .headers
             → (f ≡ length (informationalLines (informationalIn st) ++ kept (isResponse st) (g .message .lines))) × (f ≤ 320)
-        go (requestStart m c a p) i u e k = absurd i
-        go (responseStart js c) i u e k =
+        go (requestStart m c a p) u e k =
+            let a = heads-sum [] (omega arith) in
+            let b = length-append (informationalLines []) (kept false (g .message .lines)) in
+            let d = heads-few [] tt in
+            (omega (arith, ef, e, k, a, b), omega (arith, ef, e, k, a, d, kept-few false (g .message .lines), ok .lines .few))
+        go (responseStart js c) u e k =
             let a = heads-sum js (u .1) in
             let b = length-append (informationalLines js) (kept true (g .message .lines)) in
             let d = heads-few js (u .0) in
-            (omega (arith, ef, e, k, a, b), omega (arith, ef, e, k, a, d, u .1, kept-few true (g .message .lines), is-sound .sound .lines .few))
+            (omega (arith, ef, e, k, a, b), omega (arith, ef, e, k, a, d, u .1, kept-few true (g .message .lines), ok .lines .few))
 
     heads-padded : part ns′ 0 8 ≡ padded 8 (informationalNumbers (informationalIn (g .message .start)))
-    heads-padded = ap (λ (l : List ℕ). part l 0 8) heads-are ∙ go (g .message .start) (is-sound .response) (is-sound .sound .heads)
+    heads-padded = ap (λ (l : List ℕ). part l 0 8) heads-are ∙ go (g .message .start) (ok .heads)
       where
-        go : (st : Start) → IsResponse st → GoodHeads st → part (splice noHeads 0 (informationalNumbers (informationalIn st))) 0 8 ≡ padded 8 (informationalNumbers (informationalIn st))
-        go (requestStart m c a p) i u = absurd i
-        go (responseStart js c) i u = heads-stand js (u .1)
+        go : (st : Start) → GoodHeads st → part (splice noHeads 0 (informationalNumbers (informationalIn st))) 0 8 ≡ padded 8 (informationalNumbers (informationalIn st))
+        go (requestStart m c a p) u = heads-stand [] (omega arith)
+        go (responseStart js c) u = heads-stand js (u .1)
 
-    pub response-room : 1280 ≤ length hs → 512 ≤ length cs → 256 ≤ length ts → (f ≤ 320) × (f * 4 ≤ length hs) × (r .chunks * 2 ≤ length cs) × (r .trailers * 4 ≤ length ts)
-    response-room a b c =
-        let y = response-small in
+    pub message-room : 1280 ≤ length hs → 512 ≤ length cs → 256 ≤ length ts → (f ≤ 320) × (f * 4 ≤ length hs) × (r .chunks * 2 ≤ length cs) × (r .trailers * 4 ≤ length ts)
+    message-room a b c =
+        let y = message-small in
         (fields-are .1, omega (arith, fields-are .1, a), omega (arith, y .chunks, b), omega (arith, y .trailers, c))
 
-    pub response-entered : 1280 ≤ length hs → 512 ≤ length cs → 256 ≤ length ts → (u u′ : List ℕ) (input place number : ℕ)
+    pub message-entered : 1280 ≤ length hs → 512 ≤ length cs → 256 ≤ length ts → (u u′ : List ℕ) (input place number : ℕ)
         → Numbered ((recordNumbers r ++ part ns′ 0 8) ++ (part hs′ 0 (f * 4) ++ part cs′ 0 (r .chunks * 2) ++ part ts′ 0 (r .trailers * 4))) (r .length) u u′ place number
-        → Entered (readResponse s) input u u′ place number
-    response-entered a b c u u′ input place number q =
-        let y = response-room a b c in
+        → Entered x input u u′ place number
+    message-entered a b c u u′ input place number q =
+        let y = message-room a b c in
         entered g ns′ u u′ f input place number (fields-are .0) (y .1) (y .2) (y .3) heads-padded q
+
+-- messages that the readers accept
+pub response-ok : (s : List ℕ) {hs hs′ cs cs′ ts ts′ : List ℕ} {r : Record} (g : Given (readResponse s) hs hs′ cs cs′ ts ts′ r) → Sound s (g .message)
+response-ok s g = response-sound s (g .long) (g .message) (g .taken) .sound
+
+pub binary-ok : (s : List ℕ) {hs hs′ cs cs′ ts ts′ : List ℕ} {r : Record} (g : Given (readBinary s) hs hs′ cs cs′ ts ts′ r) → Sound s (g .message)
+binary-ok s g = binary-sound s (g .long) (g .message) (g .taken) .sound

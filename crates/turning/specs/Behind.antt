@@ -1,0 +1,13 @@
+-- What the code of the turnings promises, in terms of their definitions.
+use mathlib.Core.List.{List}
+use Prim.Native.Nat.{ℕ}
+use lib.ListN.{length}
+use Rattle.messages.specs.Told.{Told}
+use Rattle.binary.specs.Read.{readBinary}
+use Rattle.write_http1.specs.Write.{toHttp1}
+use Rattle.output.specs.Reply.{Reply}
+use Rattle.turn.specs.Turn.{replyTo}
+
+-- a Binary input as HTTP/1.1, behind the judgement of the scheme that is told
+unfoldable pub readToHttp1 : Told → List ℕ → Reply
+readToHttp1 t s = replyTo (length s) (readBinary s) (toHttp1 t)
