@@ -1,0 +1,3 @@
+pub mod SectionFacts
+pub mod Trailing
+pub mod RestLaws
