@@ -1,3 +1,4 @@
-pub mod SectionFacts
+pub mod SectionOutcomes
+pub mod HeadLaws
 pub mod Trailing
 pub mod RestLaws

@@ -25,7 +25,7 @@ use Rattle.read_binary.specs.declared.Section.the-variants as section-is
 use Rattle.binary_reader.specs.Rest.{trailersAgree, TrailersSays, Trailed}
 use Rattle.binary_reader.specs.declared.TrailersRead.{TrailersRead}
 use Rattle.binary_reader.specs.declared.TrailersRead.the-variants.{Done, Refused}
-use Rattle.binary_reader.proofs.SectionFacts.{SectionDone, section-no, section-done}
+use Rattle.binary_reader.proofs.SectionOutcomes.{SectionDone, section-no, section-done}
 
 trailed-as : {s : List ℕ} {x y : Got (List FieldRead)} {o o′ : List ℕ} {r : TrailersRead} → x ≡ y → TrailersSays s y o o′ r → Trailed s x o o′ r
 trailed-as {s} {o = o} {o′ = o′} {r = r} e h = record { says = subst (λ (z : Got (List FieldRead)). TrailersSays s z o o′ r) (sym e) h }
@@ -70,24 +70,29 @@ module _ (s : List ℕ) (from : ℕ) (known body : Bool) {o o′ : List ℕ} whe
   module _ {r : answer.Section} (h : from < length s) (w : Sectioned s (section known from (drop from s)) false 0 o o′ r) where
     pub trailers-no : {n p : ℕ} → r ≡ section-is.Refused n p → Trailed s (trailers known body from (drop from s)) o o′ (Refused n p)
     unfolding trailers _>>=_
-    trailers-no e = trailed-no (rw (some-left s from h, section-no w e))
+    trailers-no e = trailed-no (rw (some-left s from h, section-no s known from w e))
+
+    within : from ≤ length s
+    within = omega (arith, h)
 
     module _ {end count : ℕ} {notes : Notes} (e : r ≡ section-is.Done end count notes) {t : Bool} (q : t ≡ trailersAgree (notes .trailers) body count) where
-      judged : {b : Bool} → t ≡ b → trailerRule body (section-done w e .read) ≡ cond b (good (section-done w e .read .lines)) (wrong badLength end)
+      judged : {b : Bool} → t ≡ b
+          → trailerRule body (section-done s known from w within e .read)
+          ≡ cond b (good (section-done s known from w within e .read .lines)) (wrong badLength end)
       unfolding keptTrailers
-      judged {b} g = let d = section-done w e in
-          let c : length (kept false (d .read .lines)) ≡ count = omega (arith, d .counted) in
+      judged {b} g = let d = section-done s known from w within e in
+          let c : length (kept false (d .read .lines)) ≡ count = omega (arith, d .count) in
           rule-agrees body (d .read) (trailers-noted false (d .read .lines) ∙ ap (λ (n : Notes). n .trailers) (sym (d .noted))) c
-          ∙ rw (← q, g, d .ends)
+          ∙ rw (← q, g, d .end)
 
       pub trailers-good : t ≡ true → Trailed s (trailers known body from (drop from s)) o o′ (Done end count)
       unfolding keptTrailers
-      trailers-good g = let d = section-done w e in
-          let c : count ≡ length (kept false (d .read .lines)) = omega (arith, d .counted) in
-          trailed-as {y = got (d .read .lines) end (drop end s)} (section-then s from known body h (d .taken) (judged g)) (ap (Done end) c, d .stored, (d .within, refl))
+      trailers-good g = let d = section-done s known from w within e in
+          let c : count ≡ length (kept false (d .read .lines)) = omega (arith, d .count) in
+          trailed-as {y = got (d .read .lines) end (drop end s)} (section-then s from known body h (d .gives) (judged g)) (ap (Done end) c, d .stored, (d .within, refl))
 
       pub trailers-bad : t ≡ false → Trailed s (trailers known body from (drop from s)) o o′ (Refused badLength end)
-      trailers-bad g = trailed-no (section-then s from known body h (section-done w e .taken) (judged g))
+      trailers-bad g = trailed-no (section-then s from known body h (section-done s known from w within e .gives) (judged g))
 
 -- ---- what the caller learns
 

@@ -1,0 +1,83 @@
+-- What a caller learns from a section that was read, and what goes on behind it.
+use Prim.Native.Nat.{ℕ, _+_, _*_, _≤_}
+use mathlib.Core.Path.{_≡_, refl, sym, ap, _∙_, subst}
+use mathlib.Core.List.{List}
+use mathlib.Core.Bool.{Bool, false}
+use native.Mathlib.Omega.{arith}
+use lib.ListN.{length, drop, length-drop}
+use Rattle.octets.specs.Limits.{linesMost}
+use Rattle.script.proofs.Places.{lies-all, lies-rest}
+use Rattle.output.specs.Splice.{splice}
+use Rattle.messages.specs.Message.{Section}
+use Rattle.messages.specs.Names.{kept}
+use Rattle.messages.specs.Notes.{notesOf}
+use Rattle.messages.specs.Answers.{fieldsNumbers}
+use Rattle.messages.specs.declared.Notes.{Notes}
+use Rattle.binary.specs.Reader.{Got, got, no, Reader, _>>=_}
+use Rattle.binary.specs.Read.{section}
+use Rattle.binary_sound.proofs.Judgement.{Stands, Gets}
+use Rattle.binary_sound.proofs.Lines.{LinesAt, every-section}
+use Rattle.read_binary.specs.Section.{SectionSays, Sectioned}
+use Rattle.read_binary.specs.declared.Section as answer
+use Rattle.read_binary.specs.declared.Section.the-variants.{Done, Refused}
+
+clash : {A : Type 0} {k p e c : ℕ} {x : Notes} → Done e c x ≡ Refused k p → A
+clash e = let z : _≡_ {A = ℕ} 0 1 = cc in absurd (omega arith)
+
+-- the lines of a section lie in the input and are not too many
+lines-at : (known : Bool) (s : List ℕ) (from : ℕ) {h : Section} {e : ℕ} {l : List ℕ} → from ≤ length s → section known from (drop from s) ≡ got h e l
+    → LinesAt s (h .lines)
+lines-at known s from {h} {e} {l} w q =
+    let o : 0 + from ≡ from = omega arith in
+    let z : Stands s (length s) from (drop from s) = record { lies = rw o at (lies-rest from w (lies-all s)); ends = omega (arith, length-drop from s, w) } in
+    subst (λ (x : Got Section). Gets (λ n k a. Stands s (length s) n k × LinesAt s (a .lines)) x) q (every-section {s = s} {e = length s} known .go (drop from s) z) .1
+
+-- a section that ends at e, with c kept fields in the ranges now
+pub record SectionDone (s : List ℕ) (known : Bool) (from : ℕ) (host : Bool) (k : ℕ) (o o′ : List ℕ) (e c : ℕ) (n : Notes) : Type 0 where
+  pub read : Section
+  pub gives : section known from (drop from s) ≡ got read e (drop e s)
+  pub end : read .end ≡ e
+  pub within : e ≤ length s
+  pub lines : LinesAt s (read .lines)
+  pub count : k + length (kept host (read .lines)) ≡ c
+  pub noted : n ≡ notesOf false (read .lines)
+  pub stored : o′ ≡ splice o (k * 4) (fieldsNumbers (kept host (read .lines)))
+
+module _ (s : List ℕ) (known : Bool) (from : ℕ) {host : Bool} {k : ℕ} {o o′ : List ℕ} {r : answer.Section}
+    (h : Sectioned s (section known from (drop from s)) host k o o′ r) where
+  pub section-no : {n p : ℕ} → r ≡ Refused n p → section known from (drop from s) ≡ no n p
+  section-no {n} {p} e = go (section known from (drop from s)) (h .says)
+    where
+      go : (y : Got Section) → SectionSays s y host k o o′ r → y ≡ no n p
+      go (got a i l) q = clash (sym (q .0) ∙ e)
+      go (no j m) q = let z : Refused j m ≡ Refused n p = sym q ∙ e in cc
+
+  pub section-done : {e c : ℕ} {n : Notes} → from ≤ length s → r ≡ Done e c n → SectionDone s known from host k o o′ e c n
+  section-done {e} {c} {n} w d = go (section known from (drop from s)) refl (h .says)
+    where
+      go : (y : Got Section) → section known from (drop from s) ≡ y → SectionSays s y host k o o′ r → SectionDone s known from host k o o′ e c n
+      go (got a i l) g q =
+          let z : Done i (k + length (kept host (a .lines))) (notesOf false (a .lines)) ≡ Done e c n = sym (q .0) ∙ d in
+          let i′ : i ≡ e = cc in
+          let l′ : l ≡ drop e s = q .4 ∙ rw i′ in
+          record {
+            read = a;
+            gives = g ∙ rw (i′, l′);
+            end = q .2 ∙ i′;
+            within = omega (arith, q .3, i′);
+            lines = lines-at known s from w g;
+            count = cc;
+            noted = cc;
+            stored = q .1;
+          }
+      go (no j m) g q = clash (sym d ∙ q)
+
+-- a section, and what goes on behind it
+module _ {A : Type 0} (known : Bool) (f : Section → Reader A) (s : List ℕ) (from : ℕ) where
+  pub behind-no : {n p : ℕ} → section known from (drop from s) ≡ no n p → (section known >>= f) from (drop from s) ≡ no n p
+  unfolding _>>=_
+  behind-no e = rw e
+
+  pub behind-got : {h : Section} {e : ℕ} → section known from (drop from s) ≡ got h e (drop e s) → (section known >>= f) from (drop from s) ≡ f h e (drop e s)
+  unfolding _>>=_
+  behind-got e = rw e

@@ -1,0 +1,113 @@
+// The heads of a response.
+use crate::HeadRead;
+use messages::BodyAnswer;
+use messages::parts::is_informational;
+use messages::parts::status_verdict;
+use messages::sections::nothing_stated;
+use numbers::Integer;
+use numbers::read_int;
+use octets::Limits;
+use octets::Refusals;
+use read_binary::Section;
+use read_binary::lines::read_section;
+ghost use mathlib.Core.Path.{_≡_};
+ghost use Prim.Native.Nat.{suc, _+_, _*_, _≤_, _<_};
+ghost use lib.ListN.{length, drop};
+ghost use Rattle.octets.specs.Table.{classes};
+ghost use Rattle.ranges.specs.Ranges.{placesEnd};
+ghost use Rattle.binary.specs.Read.{responseMessage};
+ghost use Rattle.binary_reader.specs.Heads.{informationalRest, finalRest, FinalStatus, AnyHeads, FewHeads, SoManyHeads, Headed};
+
+// The section of an informational head, behind its status that ends at `next`.
+fn informational_head(
+    t: &[u8; 256],
+    s: &[u8],
+    status: u32,
+    next: usize,
+    known: bool,
+    base: usize,
+    headers: &mut [u32],
+) -> HeadRead
+    requires { ⌜ (now t ≡ classes) × (next ≤ length (now s)) × (length (now s) < placesEnd) × (base * 4 + 256 ≤ length (now headers)) ⌝ }
+    ensures { λ r. ⌜ Headed FewHeads (λ f is. informationalRest known f is status next (drop next (now (s .entry)))) known (now (s .entry)) base (now (headers .entry)) (now (headers .exit)) r ⌝ }
+{
+    let h = read_section(t, s, next, known, true, base, headers);
+    match h {
+        Section::Refused { number, place } => return HeadRead::Refused { number, place },
+        Section::Done { end, kept, notes } => {
+            let f = notes.framing;
+            let b = nothing_stated(f, end);
+            match b {
+                BodyAnswer::Refused { number, place } => return HeadRead::Refused { number, place },
+                BodyAnswer::Read(_) => return HeadRead::Informational { status, end, kept },
+            }
+        }
+    }
+}
+
+// The section of a final head, behind its status that ends at `next`.
+fn final_head(
+    t: &[u8; 256],
+    s: &[u8],
+    status: u32,
+    next: usize,
+    known: bool,
+    base: usize,
+    headers: &mut [u32],
+) -> HeadRead
+    requires { ⌜ (now t ≡ classes) × (next ≤ length (now s)) × (length (now s) < placesEnd) × (base * 4 + 256 ≤ length (now headers)) × FinalStatus status ⌝ }
+    ensures { λ r. ⌜ Headed AnyHeads (λ f is. finalRest known is status next (drop next (now (s .entry)))) known (now (s .entry)) base (now (headers .entry)) (now (headers .exit)) r ⌝ }
+{
+    let h = read_section(t, s, next, known, true, base, headers);
+    match h {
+        Section::Refused { number, place } => return HeadRead::Refused { number, place },
+        Section::Done { end, kept, notes } => return HeadRead::Final {
+            status,
+            end,
+            kept,
+            notes,
+        },
+    }
+}
+
+// The head from i on, behind `count` informational heads: kept fields are stored behind the `base` fields that stand in `headers`.
+pub fn next_head(
+    t: &[u8; 256],
+    s: &[u8],
+    i: usize,
+    known: bool,
+    count: usize,
+    base: usize,
+    headers: &mut [u32],
+) -> HeadRead
+    requires { ⌜ (now t ≡ classes) × (length (now s) < placesEnd) × (base * 4 + 256 ≤ length (now headers)) ⌝ }
+    ensures { λ r. ⌜ Headed (SoManyHeads count) (λ f is. responseMessage known (suc f) is i (drop i (now (s .entry)))) known (now (s .entry)) base (now (headers .entry)) (now (headers .exit)) r ⌝ }
+{
+    let n = read_int(s, i);
+    let Integer::Value { value, next } = n else {
+        return HeadRead::Refused {
+            number: Refusals::CUT_OFF,
+            place: i,
+        };
+    };
+    let v = status_verdict(value);
+    if v == 0 {
+        let status = value as u32;
+        if is_informational(value) {
+            if Limits::INFORMATIONAL <= count {
+                return HeadRead::Refused {
+                    number: Refusals::TOO_LARGE,
+                    place: i,
+                };
+            }
+            return informational_head(t, s, status, next, known, base, headers);
+        } else {
+            return final_head(t, s, status, next, known, base, headers);
+        }
+    } else {
+        return HeadRead::Refused {
+            number: v,
+            place: i,
+        };
+    }
+}
