@@ -1,5 +1,6 @@
 // The reader of Binary HTTP: whole messages, from control data to padding.
 pub mod heads;
+pub mod request;
 pub mod rest;
 
 use messages::Notes;
@@ -57,4 +58,10 @@ pub enum RestRead {
         number: u32,
         place: usize,
     },
+}
+
+// A request's head that was judged by host and length: the authority's part.
+pub enum HeadAnswer {
+    Good { start: usize, len: usize },
+    Refused { number: u32, place: usize },
 }

@@ -1,0 +1,1 @@
+-- A request, stage by stage, as the code reads it.
