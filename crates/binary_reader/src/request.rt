@@ -93,3 +93,107 @@ fn request_outcome(
         }),
     }
 }
+
+// What stands behind a request's header section that ends at `end` and has `fields` kept fields: its rules, then content, trailers and padding.
+fn request_rest(
+    t: &[u8; 256],
+    s: &[u8],
+    known: bool,
+    method: Span,
+    scheme: u32,
+    authority: Span,
+    path: Span,
+    end: usize,
+    fields: usize,
+    notes: Notes,
+    chunks: &mut [u32],
+    trailers: &mut [u32],
+) -> Outcome
+    requires { ⌜ (now t ≡ classes) × (end ≤ length (now s)) × (length (now s) < placesEnd) × (method .start + method .len ≤ length (now s)) × (authority .start + authority .len ≤ length (now s)) × (path .start + path .len ≤ length (now s)) × (512 ≤ length (now chunks)) × (256 ≤ length (now trailers)) ⌝ }
+    ensures { λ r. ⌜ RequestRest (now (s .entry)) known (controlIs (now (s .entry)) method scheme authority path) end fields notes (now (chunks .entry)) (now (chunks .exit)) (now (trailers .entry)) (now (trailers .exit)) r ⌝ }
+{
+    let f = notes.framing;
+    let j = judge_head(t, s, authority, end, notes);
+    match j {
+        HeadAnswer::Refused { number, place } => return Outcome::Refusal { number, place },
+        HeadAnswer::Good { start, len } => {
+            let c = after_headers(t, s, end, known, true, f, chunks, trailers);
+            return request_outcome(c, s.len(), scheme, method, path, start, len, fields);
+        }
+    }
+}
+
+// What stands behind the control data of a request that end at `from`.
+fn request_head(
+    t: &[u8; 256],
+    s: &[u8],
+    known: bool,
+    method: Span,
+    scheme: u32,
+    authority: Span,
+    path: Span,
+    from: usize,
+    headers: &mut [u32],
+    chunks: &mut [u32],
+    trailers: &mut [u32],
+) -> Outcome
+    requires { ⌜ (now t ≡ classes) × (from ≤ length (now s)) × (length (now s) < placesEnd) × (method .start + method .len ≤ length (now s)) × (authority .start + authority .len ≤ length (now s)) × (path .start + path .len ≤ length (now s)) × (256 ≤ length (now headers)) × (512 ≤ length (now chunks)) × (256 ≤ length (now trailers)) ⌝ }
+    ensures { λ r. ⌜ Requested (behindControl known (controlIs (now (s .entry)) method scheme authority path) from (drop from (now (s .entry)))) (now (headers .entry)) (now (headers .exit)) (now (chunks .entry)) (now (chunks .exit)) (now (trailers .entry)) (now (trailers .exit)) r ⌝ }
+{
+    let h = read_section(t, s, from, known, false, 0, headers);
+    match h {
+        Section::Refused { number, place } => return Outcome::Refusal { number, place },
+        Section::Done { end, kept, notes } => return request_rest(
+            t,
+            s,
+            known,
+            method,
+            scheme,
+            authority,
+            path,
+            end,
+            kept,
+            notes,
+            chunks,
+            trailers,
+        ),
+    }
+}
+
+// The request from `from` on, behind its framing: its outcome, and the ranges of an accepted one in the lent space.
+pub fn request_in(
+    t: &[u8; 256],
+    s: &[u8],
+    from: usize,
+    known: bool,
+    headers: &mut [u32],
+    chunks: &mut [u32],
+    trailers: &mut [u32],
+) -> Outcome
+    requires { ⌜ (now t ≡ classes) × (length (now s) < placesEnd) × (256 ≤ length (now headers)) × (512 ≤ length (now chunks)) × (256 ≤ length (now trailers)) ⌝ }
+    ensures { λ r. ⌜ Requested (requestMessage known from (drop from (now (s .entry)))) (now (headers .entry)) (now (headers .exit)) (now (chunks .entry)) (now (chunks .exit)) (now (trailers .entry)) (now (trailers .exit)) r ⌝ }
+{
+    let c = request_control(t, s, from);
+    match c {
+        ControlRead::Refused { number, place } => return Outcome::Refusal { number, place },
+        ControlRead::Done {
+            method,
+            scheme,
+            authority,
+            path,
+            end,
+        } => return request_head(
+            t,
+            s,
+            known,
+            method,
+            scheme,
+            authority,
+            path,
+            end,
+            headers,
+            chunks,
+            trailers,
+        ),
+    }
+}
