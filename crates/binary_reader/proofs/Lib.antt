@@ -1,6 +1,9 @@
 pub mod SectionOutcomes
 pub mod HeadLaws
+pub mod HeadTurns
 pub mod Trailing
 pub mod RestLaws
+pub mod Answered
 pub mod RequestHeads
 pub mod RequestLaws
+pub mod ResponseLaws

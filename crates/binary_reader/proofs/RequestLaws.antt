@@ -26,10 +26,12 @@ use Rattle.read_binary.specs.Control.{pieceOf}
 use Rattle.read_binary.specs.declared.Span.{Span}
 use Rattle.read_binary.proofs.Places.{part-length}
 use Rattle.binary_reader.specs.Rest.{RestSays, Rested}
-use Rattle.binary_reader.specs.Requests.{bothRules, HeadSays, HeadLies, HeadJudged, partAt, partIs, requestOutcome, controlIs, behindHead, behindControl, RequestSays, RequestIs, HeadFacts, RequestRest, Requested}
+use Rattle.binary_reader.specs.Requests.{bothRules, HeadSays, HeadLies, HeadJudged, partAt, partIs, requestOutcome, controlIs, behindHead, behindControl, HeadFacts, RequestRest, Requested}
 use Rattle.binary_reader.specs.declared.HeadAnswer.{HeadAnswer}
 use Rattle.binary_reader.specs.declared.HeadAnswer.the-variants as head
 use Rattle.binary_reader.specs.declared.RestRead.{RestRead}
+use Rattle.binary_reader.specs.Whole.{MessageSays, MessageIs}
+use Rattle.binary_reader.proofs.Answered.{message-as, message-no, answered-no, with-headers}
 use Rattle.binary_reader.proofs.SectionOutcomes.{SectionDone, behind-no, behind-got}
 
 -- ---- behind the header section
@@ -53,13 +55,6 @@ head-passes : (known : Bool) (q : RequestControl) (h : Section) (at : ℕ) (l : 
 unfolding behindHead _>>=_
 head-passes known q h at l u v = rw (u, v)
 
-request-as : {lines : List FieldRead} {x y : Got Message} {cs cs′ ts ts′ : List ℕ} {r : Outcome} → x ≡ y → RequestIs lines y cs cs′ ts ts′ r
-    → RequestIs lines x cs cs′ ts ts′ r
-request-as {lines} {cs = cs} {cs′ = cs′} {ts = ts} {ts′ = ts′} {r = r} e h = subst (λ (z : Got Message). RequestIs lines z cs cs′ ts ts′ r) (sym e) h
-
-request-no : {lines : List FieldRead} {x : Got Message} {cs cs′ ts ts′ : List ℕ} {n p : ℕ} → x ≡ no n p → RequestIs lines x cs cs′ ts ts′ (outcome.Refusal n p)
-request-no {n = n} {p = p} e = request-as {y = no n p} e (record { says = refl })
-
 part-back : (s : List ℕ) (a : Span) → a .start + a .len ≤ length s → partOf (pieceOf s a) ≡ partIs a
 part-back s a h = ap (partAt (a .start)) (part-length s (a .start) (a .len) h)
 
@@ -67,7 +62,7 @@ part-back s a h = ap (partAt (a .start)) (part-length s (a .start) (a .len) h)
 rest-says : (s : List ℕ) (m p : Span) (v : ℕ) (w : List ℕ) (a n k : ℕ) (lines : List FieldRead) (x : Got Message) (cs cs′ ts ts′ : List ℕ) (c : RestRead) (r : Outcome)
     → m .start + m .len ≤ length s → p .start + p .len ≤ length s → length w ≡ n → length (kept false lines) ≡ k
     → r ≡ requestOutcome (length s) v m p a n k c
-    → RestSays s (requestStart (pieceOf s m) v (piece a w) (pieceOf s p)) lines x cs cs′ ts ts′ c → RequestSays lines x cs cs′ ts ts′ r
+    → RestSays s (requestStart (pieceOf s m) v (piece a w) (pieceOf s p)) lines x cs cs′ ts ts′ c → MessageSays false [] lines x cs cs′ ts ts′ r
 unfolding recordOf
 rest-says s m p v w a n k lines (got x e l) cs cs′ ts ts′ c r f g h i o u =
     (o ∙ rw (u .0, u .3, u .4, u .5, i, part-back s m f, part-back s p g, h) refl, u .1, u .2, u .4, ap isResponse (u .3), ap informationalIn (u .3))
@@ -83,7 +78,7 @@ module _ (s : List ℕ) (known : Bool) (m a p : Span) (v end fields : ℕ) (note
 
   pub rest-wrong : {n i : ℕ} {cs cs′ ts ts′ : List ℕ} → r ≡ head.Refused n i
       → RequestRest s known (controlIs s m v a p) end fields notes cs cs′ ts ts′ (outcome.Refusal n i)
-  rest-wrong e = record { by = λ h f. request-no (head-refuses known (controlIs s m v a p) h end (drop end s) (said e h f)) }
+  rest-wrong e = record { by = λ h f. message-no (head-refuses known (controlIs s m v a p) h end (drop end s) (said e h f)) }
 
   pub head-lies : {i n : ℕ} → r ≡ head.Good i n → i + n ≤ length s
   head-lies e = subst (λ (x : HeadAnswer). HeadLies s x) e (j .lies)
@@ -96,7 +91,7 @@ module _ (s : List ℕ) (known : Bool) (m a p : Span) (v end fields : ℕ) (note
         by = λ h y.
             let u = said e h y in
             let z = requestStart (pieceOf s m) v (piece i (u .0)) (pieceOf s p) in
-            request-as (head-passes known (controlIs s m v a p) h end (drop end s) (u .1) (u .3))
+            message-as (head-passes known (controlIs s m v a p) h end (drop end s) (u .1) (u .3))
             (record { says = rest-says s m p v (u .0) i n fields (h .lines) (afterHeaders known true z h (notes .framing) end (drop end s)) cs cs′ ts ts′ c o f g (u .2) (y .fields) q (w .by z h .says) });
       }
 
@@ -108,14 +103,7 @@ requested-as {hs = hs} {hs′ = hs′} {cs = cs} {cs′ = cs′} {ts = ts} {ts�
     subst (λ (z : Got Message). Requested z hs hs′ cs cs′ ts ts′ r) (sym e) h
 
 requested-no : {x : Got Message} {hs hs′ cs cs′ ts ts′ : List ℕ} {n p : ℕ} → x ≡ no n p → Requested x hs hs′ cs cs′ ts ts′ (outcome.Refusal n p)
-requested-no {n = n} {p = p} e = requested-as {y = no n p} e (record { by = λ ns. record { says = refl; informational = tt } })
-
-with-headers : (lines : List FieldRead) (x : Got Message) (hs hs′ cs cs′ ts ts′ : List ℕ) (r : Outcome) → hs′ ≡ splice hs 0 (fieldsNumbers (kept false lines))
-    → RequestSays lines x cs cs′ ts ts′ r → Requested x hs hs′ cs cs′ ts ts′ r
-unfolding informationalLines informationalNumbers
-with-headers lines (got m e l) hs hs′ cs cs′ ts ts′ r h u =
-    record { by = λ ns. record { says = (u .0, h ∙ rw (u .5, u .4, u .3) refl, u .1, u .2); informational = rw (u .5) refl } }
-with-headers lines (no n p) hs hs′ cs cs′ ts ts′ r h u = record { by = λ ns. record { says = u; informational = tt } }
+requested-no e = record { by = λ ns. answered-no e }
 
 all-lie : (s : List ℕ) (fs : List FieldRead) → Each (LineAt s) fs → AllLie s fs
 all-lie s [] h = tt
@@ -129,11 +117,11 @@ module _ (s : List ℕ) (known : Bool) (q : RequestControl) (from : ℕ) where
 
   pub head-done : {hs hs′ cs cs′ ts ts′ : List ℕ} {e c : ℕ} {n : Notes} {r : Outcome} → SectionDone s known from false 0 hs hs′ e c n
       → RequestRest s known q e c n cs cs′ ts ts′ r → Requested (behindControl known q from (drop from s)) hs hs′ cs cs′ ts ts′ r
-  unfolding behindControl
+  unfolding behindControl informationalLines informationalNumbers
   head-done {hs} {hs′} {cs} {cs′} {ts} {ts′} {e} {c} {n} {r} d w =
       let f : HeadFacts s (d .read) e c n = record { end = d .end; fields = omega (arith, d .count); noted = d .noted; lie = all-lie s (d .read .lines) (d .lines .section .lines) } in
       requested-as (behind-got known (behindHead known q) s from (d .gives))
-      (with-headers (d .read .lines) (behindHead known q (d .read) e (drop e s)) hs hs′ cs cs′ ts ts′ r (d .stored) (w .by (d .read) f .says))
+      (record { by = λ ns. with-headers (behindHead known q (d .read) e (drop e s)) (d .stored) refl (w .by (d .read) f) })
 
 -- ---- whole requests
 

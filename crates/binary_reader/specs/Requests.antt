@@ -5,22 +5,21 @@ use mathlib.Core.Bool.{Bool, true, false}
 use mathlib.Core.List.{List, []}
 use lib.ListN.{length, drop}
 use Rattle.script.specs.Do.{Piece, piece, Judged, good, wrong}
-use Rattle.output.specs.Splice.{splice}
-use Rattle.messages.specs.Message.{FieldRead, Section, Start, requestStart, isResponse, Message}
-use Rattle.messages.specs.Names.{kept, keptTrailers}
+use Rattle.messages.specs.Message.{FieldRead, Section, requestStart, Message}
+use Rattle.messages.specs.Names.{kept}
 use Rattle.messages.specs.Notes.{notesOf, AllLie}
 use Rattle.messages.specs.Rules.{authorityIn, binaryFramingOf, mayState}
-use Rattle.messages.specs.Answers.{fieldsNumbers, chunksNumbers, informationalIn, recordOf}
 use Rattle.messages.specs.declared.Framing.{Framing}
 use Rattle.messages.specs.declared.Notes.{Notes}
 use Rattle.messages.specs.declared.Part.{Part}
 use Rattle.messages.specs.declared.Outcome.{Outcome}
 use Rattle.messages.specs.declared.Outcome.the-variants as outcome
-use Rattle.binary.specs.Reader.{Got, got, no, Reader, _>>=_, tell}
+use Rattle.binary.specs.Reader.{Got, Reader, _>>=_, tell}
 use Rattle.binary.specs.Read.{RequestControl, section, afterHeaders, answerOf}
 use Rattle.ranges.specs.Ranges.{Responded}
 use Rattle.read_binary.specs.Control.{pieceOf}
 use Rattle.read_binary.specs.declared.Span.{Span}
+use Rattle.binary_reader.specs.Whole.{MessageIs}
 use Rattle.binary_reader.specs.declared.HeadAnswer.{HeadAnswer}
 use Rattle.binary_reader.specs.declared.HeadAnswer.the-variants as head
 use Rattle.binary_reader.specs.declared.RestRead.{RestRead}
@@ -97,21 +96,6 @@ behindControl known q = do
   h ← section known
   behindHead known q h
 
--- a request with the header lines: its outcome, and the ranges of its chunks and kept trailers
-abbrev pub RequestSays : List FieldRead → Got Message → List ℕ → List ℕ → List ℕ → List ℕ → Outcome → Type 0
-RequestSays lines (got m e l) cs cs′ ts ts′ r =
-    (r ≡ outcome.Message (recordOf e m))
-    × (cs′ ≡ splice cs 0 (chunksNumbers (m .chunks)))
-    × (ts′ ≡ splice ts 0 (fieldsNumbers (keptTrailers (m .trailers))))
-    × (m .lines ≡ lines)
-    × (isResponse (m .start) ≡ false)
-    × (informationalIn (m .start) ≡ [])
-RequestSays lines (no n p) cs cs′ ts ts′ r = r ≡ outcome.Refusal n p
-
--- the promise of a request behind its header section
-pub record RequestIs (lines : List FieldRead) (x : Got Message) (cs cs′ ts ts′ : List ℕ) (r : Outcome) : Type 0 where
-  pub says : RequestSays lines x cs cs′ ts ts′ r
-
 -- a header section that was read up to e, in the numbers that the code keeps of it
 pub record HeadFacts (s : List ℕ) (h : Section) (e k : ℕ) (n : Notes) : Type 0 where
   pub end : h .end ≡ e
@@ -121,7 +105,7 @@ pub record HeadFacts (s : List ℕ) (h : Section) (e k : ℕ) (n : Notes) : Type
 
 -- what stands behind any header section that was read up to a place
 pub record RequestRest (s : List ℕ) (known : Bool) (q : RequestControl) (end fields : ℕ) (notes : Notes) (cs cs′ ts ts′ : List ℕ) (r : Outcome) : Type 0 where
-  pub by : (h : Section) → HeadFacts s h end fields notes → RequestIs (h .lines) (behindHead known q h end (drop end s)) cs cs′ ts ts′ r
+  pub by : (h : Section) → HeadFacts s h end fields notes → MessageIs false [] (h .lines) (behindHead known q h end (drop end s)) cs cs′ ts ts′ r
 
 -- ---- whole requests
 

@@ -1,5 +1,6 @@
 // The heads of a response.
 use crate::HeadRead;
+use crate::HeadsRead;
 use messages::BodyAnswer;
 use messages::parts::is_informational;
 use messages::parts::status_verdict;
@@ -8,15 +9,18 @@ use numbers::Integer;
 use numbers::read_int;
 use octets::Limits;
 use octets::Refusals;
+use ranges::store;
 use read_binary::Section;
 use read_binary::lines::read_section;
 ghost use mathlib.Core.Path.{_≡_};
+ghost use mathlib.Core.List.{[]};
 ghost use Prim.Native.Nat.{suc, _+_, _*_, _≤_, _<_};
 ghost use lib.ListN.{length, drop};
 ghost use Rattle.octets.specs.Table.{classes};
+ghost use Rattle.octets.specs.Limits.{informationalMost};
 ghost use Rattle.ranges.specs.Ranges.{placesEnd};
 ghost use Rattle.binary.specs.Read.{responseMessage};
-ghost use Rattle.binary_reader.specs.Heads.{informationalRest, finalRest, FinalStatus, AnyHeads, FewHeads, SoManyHeads, Headed};
+ghost use Rattle.binary_reader.specs.Heads.{informationalRest, finalRest, FinalStatus, AnyHeads, FewHeads, SoManyHeads, Headed, HeadsTaken};
 
 // The section of an informational head, behind its status that ends at `next`.
 fn informational_head(
@@ -109,5 +113,47 @@ pub fn next_head(
             number: v,
             place: i,
         };
+    }
+}
+
+// The heads of a response from `from` on, up to the final one: kept fields are stored in `headers`, those of informational heads first, and status and
+// number of kept fields of each informational head in `informational`.
+pub fn read_heads(
+    t: &[u8; 256],
+    s: &[u8],
+    from: usize,
+    known: bool,
+    headers: &mut [u32],
+    informational: &mut [u32],
+) -> HeadsRead
+    requires { ⌜ (now t ≡ classes) × (length (now s) < placesEnd) × (1280 ≤ length (now headers)) × (8 ≤ length (now informational)) ⌝ }
+    ensures { λ r. ⌜ HeadsTaken (responseMessage known (suc informationalMost) [] from (drop from (now (s .entry)))) known (now (s .entry)) (now (headers .entry)) (now (headers .exit)) (now (informational .entry)) (now (informational .exit)) r ⌝ }
+{
+    let mut i = from;
+    let mut count: usize = 0;
+    let mut base: usize = 0;
+    loop {
+        let h = next_head(t, s, i, known, count, base, headers);
+        match h {
+            HeadRead::Refused { number, place } => return HeadsRead::Refused { number, place },
+            HeadRead::Final {
+                status,
+                end,
+                kept,
+                notes,
+            } => return HeadsRead::Done {
+                status,
+                end,
+                heads: count,
+                kept: kept - base,
+                notes,
+            },
+            HeadRead::Informational { status, end, kept } => {
+                store(informational, count, status, (kept - base) as u32);
+                base = kept;
+                count += 1;
+                i = end;
+            }
+        }
     }
 }

@@ -1,6 +1,7 @@
 // The reader of Binary HTTP: whole messages, from control data to padding.
 pub mod heads;
 pub mod request;
+pub mod response;
 pub mod rest;
 
 use messages::Notes;
@@ -63,5 +64,11 @@ pub enum RestRead {
 // A request's head that was judged by host and length: the authority's part.
 pub enum HeadAnswer {
     Good { start: usize, len: usize },
+    Refused { number: u32, place: usize },
+}
+
+// A final head that was judged by what it states: whether the message may have content.
+pub enum FinalAnswer {
+    Good { body: bool },
     Refused { number: u32, place: usize },
 }

@@ -2,3 +2,4 @@ pub mod Stored
 pub mod Outcomes
 pub mod ByValue
 pub mod Entries
+pub mod HeadsStored

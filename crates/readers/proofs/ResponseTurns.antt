@@ -1,46 +1,25 @@
 -- The heads of a response one after another, as the code reads them.
 use Prim.Native.Nat.{ℕ, zero, suc, _+_, _-_, _*_, _<_, _≤_}
 use mathlib.Core.Path.{_≡_, refl, sym, ap, _∙_, subst}
-use mathlib.Core.List.{List, [], _∷_, _++_, append-assoc}
+use mathlib.Core.List.{List, [], _∷_, _++_}
 use mathlib.Core.Bool.{Bool, true, false}
 use native.Mathlib.Omega.{arith}
 use lib.ListN.{length, drop, length-append}
 use Rattle.octets.specs.Limits.{headMost, linesMost, informationalMost}
 use Rattle.script.specs.Script.{Answer, accepted, refused, more, run}
 use Rattle.output.specs.Splice.{splice}
-use Rattle.output.proofs.Laws.{splice-append}
-use Rattle.messages.specs.Message.{FieldRead, InformationalRead, Message}
+use Rattle.messages.specs.Message.{InformationalRead}
 use Rattle.messages.specs.Names.{kept}
 use Rattle.messages.specs.Answers.{fieldsNumbers, informationalNumbers, informationalLines}
 use Rattle.messages.specs.declared.Notes.{Notes}
 use Rattle.messages.proofs.Noting.{kept-few}
 use Rattle.http1.specs.Read.{Lines, heads, readResponse}
-use Rattle.ranges.proofs.Stored.{numbers-append, numbers-length}
+use Rattle.ranges.proofs.HeadsStored.{lines-snoc, fields-more, numbers-more}
 use Rattle.readers.specs.Responses.{informationalRead, HeadStored, SoManyHeads, HeadSays, Headed, HeadsFacts, HeadsSays, HeadsTaken}
 use Rattle.readers.specs.declared.HeadRead.{HeadRead}
 use Rattle.readers.specs.declared.HeadRead.the-variants as head
 use Rattle.readers.specs.declared.HeadsRead.{HeadsRead}
 use Rattle.readers.specs.declared.HeadsRead.the-variants as heads-read
-
-lines-snoc : (is : List InformationalRead) (x : InformationalRead) → informationalLines (is ++ x ∷ []) ≡ informationalLines is ++ kept true (x .lines)
-unfolding informationalLines
-lines-snoc [] x = append-nil (kept true (x .lines))
-  where
-    append-nil : (l : List FieldRead) → l ++ [] ≡ l
-    append-nil [] = refl
-    append-nil (f ∷ l) = ap (λ (l : List FieldRead). f ∷ l) (append-nil l)
-lines-snoc (i ∷ is) x = rw (lines-snoc is x) (sym (append-assoc (kept true (i .lines)) (informationalLines is) (kept true (x .lines))))
-
-numbers-snoc : (is : List InformationalRead) (x : InformationalRead)
-    → informationalNumbers (is ++ x ∷ []) ≡ informationalNumbers is ++ x .status ∷ length (kept true (x .lines)) ∷ []
-unfolding informationalNumbers
-numbers-snoc [] x = refl
-numbers-snoc (i ∷ is) x = rw (numbers-snoc is x) refl
-
-numbers-long : (is : List InformationalRead) → length (informationalNumbers is) ≡ length is * 2
-unfolding informationalNumbers
-numbers-long [] = refl
-numbers-long (i ∷ is) = omega (arith, numbers-long is)
 
 -- what was read of s up to the place i: informational heads whose fields are stored in hs and whose numbers are stored in ns
 pub record HeadsTo (s hs₀ hs ns₀ ns : List ℕ) (i left count base : ℕ) : Type 0 where
@@ -87,14 +66,7 @@ module _ {s hs₀ hs hs′ ns₀ ns : List ℕ} {i left count base : ℕ} (to : 
 
   -- the fields of one head more
   stored-more : {e k : ℕ} {h : Lines} → HeadStored s base hs hs′ e k h → hs′ ≡ splice hs₀ 0 (fieldsNumbers (informationalLines (to .read) ++ kept true (h .lines)))
-  stored-more {e} {k} {h} q =
-      let z : base * 4 ≡ 0 + length (fieldsNumbers (informationalLines (to .read))) = omega (arith, numbers-length (informationalLines (to .read)), to .fields) in
-      q .stored ∙ rw (
-        to .stored,
-        z,
-        splice-append hs₀ 0 (fieldsNumbers (informationalLines (to .read))) (fieldsNumbers (kept true (h .lines))),
-        numbers-append (informationalLines (to .read)) (kept true (h .lines)),
-      ) refl
+  stored-more {h = h} q = fields-more hs₀ (informationalLines (to .read)) (kept true (h .lines)) (to .fields) (to .stored) (q .stored)
 
   module _ (n e k : ℕ) where
     pub heads-final : (notes : Notes) → r ≡ head.Final n e k notes → HeadsTaken (readResponse s) s hs₀ hs′ ns₀ ns (heads-read.Done n e count (k - base) notes)
@@ -129,7 +101,6 @@ module _ {s hs₀ hs hs′ ns₀ ns : List ℕ} {i left count base : ℕ} (to : 
           let few = informational-some in
           let x : InformationalRead = informationalRead n h in
           let f : length (kept true (h .lines)) ≡ k - base = omega (arith, d .1 .count) in
-          let z : count * 2 ≡ 0 + length (informationalNumbers (to .read)) = omega (arith, numbers-long (to .read), to .counted) in
           let g : informationalMost - count ≡ suc (informationalMost - (count + 1)) = omega (arith, few) in
           record {
             read = to .read ++ x ∷ [];
@@ -140,8 +111,6 @@ module _ {s hs₀ hs hs′ ns₀ ns : List ℕ} {i left count base : ℕ} (to : 
             fields = rw (lines-snoc (to .read) x) (length-append (informationalLines (to .read)) (kept true (h .lines)) ∙ omega (arith, to .fields, d .1 .count));
             few = omega (arith, few, to .few);
             stored = stored-more (d .1) ∙ rw (lines-snoc (to .read) x) refl;
-            numbers =
-                stores ∙ ap (λ (o : List ℕ). splice o (count * 2) (n ∷ (k - base) ∷ [])) (to .numbers)
-                ∙ rw (z, splice-append ns₀ 0 (informationalNumbers (to .read)) (n ∷ (k - base) ∷ []), numbers-snoc (to .read) x, f) refl;
+            numbers = numbers-more ns₀ (to .read) x (to .counted) (to .numbers) f stores;
             turn = to .turn ∙ d .4 ∙ ap (λ (m : ℕ). run (heads m (to .read ++ x ∷ []) l) e (drop e s)) g;
           }

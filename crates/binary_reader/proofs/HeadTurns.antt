@@ -1,0 +1,109 @@
+-- The heads of a response one after another, as the code reads them.
+use Prim.Native.Nat.{ℕ, suc, _+_, _-_, _*_, _<_, _≤_}
+use mathlib.Core.Path.{_≡_, refl, sym, ap, _∙_, subst}
+use mathlib.Core.List.{List, [], _∷_, _++_}
+use mathlib.Core.Bool.{Bool, true, false}
+use native.Mathlib.Omega.{arith}
+use lib.ListN.{length, drop, length-append}
+use Rattle.octets.specs.Limits.{linesMost, informationalMost}
+use Rattle.output.specs.Splice.{splice}
+use Rattle.messages.specs.Message.{InformationalRead, Section, Message}
+use Rattle.messages.specs.Names.{kept}
+use Rattle.messages.specs.Answers.{fieldsNumbers, informationalNumbers, informationalLines}
+use Rattle.messages.specs.declared.Notes.{Notes}
+use Rattle.messages.proofs.Noting.{kept-few}
+use Rattle.ranges.proofs.HeadsStored.{lines-snoc, fields-more, numbers-more}
+use Rattle.binary.specs.Reader.{Got}
+use Rattle.binary.specs.Read.{responseMessage}
+use Rattle.binary_reader.specs.Heads.{informationalRead, HeadStored, SoManyHeads, HeadSays, Headed, HeadsTaken}
+use Rattle.binary_reader.specs.declared.HeadRead.{HeadRead}
+use Rattle.binary_reader.specs.declared.HeadRead.the-variants as head
+use Rattle.binary_reader.specs.declared.HeadsRead.the-variants as heads-read
+
+-- what was read of s up to the place i, where the reader of the whole answers x: informational heads whose fields are stored in hs and whose numbers
+-- are stored in ns
+pub record HeadsTo (x : Got Message) (known : Bool) (s hs₀ hs ns₀ ns : List ℕ) (i count base : ℕ) : Type 0 where
+  pub read : List InformationalRead
+  pub counted : length read ≡ count
+  pub most : count ≤ informationalMost
+  pub fields : length (informationalLines read) ≡ base
+  pub few : base ≤ count * linesMost
+  pub stored : hs ≡ splice hs₀ 0 (fieldsNumbers (informationalLines read))
+  pub numbers : ns ≡ splice ns₀ 0 (informationalNumbers read)
+  pub turn : x ≡ responseMessage known (suc (informationalMost - count)) read i (drop i s)
+
+pub heads-start : (known : Bool) (s hs ns : List ℕ) (from : ℕ)
+    → HeadsTo (responseMessage known (suc informationalMost) [] from (drop from s)) known s hs hs ns ns from 0 0
+unfolding informationalLines informationalNumbers fieldsNumbers
+heads-start known s hs ns from =
+    record {
+      read = [];
+      counted = refl;
+      most = omega arith;
+      fields = refl;
+      few = omega arith;
+      stored = refl;
+      numbers = refl;
+      turn = refl;
+    }
+
+module _ {x : Got Message} {known : Bool} {s hs₀ hs hs′ ns₀ ns : List ℕ} {i count base : ℕ} (to : HeadsTo x known s hs₀ hs ns₀ ns i count base) {r : HeadRead}
+    (w : Headed (SoManyHeads count) (λ f is. responseMessage known (suc f) is i (drop i s)) known s base hs hs′ r) where
+  says : {q : HeadRead} → r ≡ q → HeadSays x known (informationalMost - count) (to .read) s base hs hs′ q
+  says {q} e =
+      subst (λ (y : Got Message). HeadSays y known (informationalMost - count) (to .read) s base hs hs′ q) (sym (to .turn))
+      (subst
+      (λ (z : HeadRead).
+      HeadSays (responseMessage known (suc (informationalMost - count)) (to .read) i (drop i s)) known (informationalMost - count) (to .read) s base hs hs′ z)
+      e (w .by (informationalMost - count) (to .read) (to .counted)))
+
+  pub heads-refused : (ns′ : List ℕ) {k p : ℕ} → r ≡ head.Refused k p → HeadsTaken x known s hs₀ hs′ ns₀ ns′ (heads-read.Refused k p)
+  heads-refused ns′ e = record { says = says e }
+
+  -- the fields of one head more
+  stored-more : {e k : ℕ} {h : Section} → HeadStored s base hs hs′ e k h → hs′ ≡ splice hs₀ 0 (fieldsNumbers (informationalLines (to .read) ++ kept true (h .lines)))
+  stored-more {h = h} q = fields-more hs₀ (informationalLines (to .read)) (kept true (h .lines)) (to .fields) (to .stored) (q .stored)
+
+  module _ {n e k : ℕ} where
+    module _ {notes : Notes} (q : r ≡ head.Final n e k notes) where
+      pub final-some : base ≤ k
+      final-some = omega (arith, says q .1 .count)
+
+      pub heads-final : HeadsTaken x known s hs₀ hs′ ns₀ ns (heads-read.Done n e count (k - base) notes)
+      heads-final =
+          let d = says q in
+          record {
+            says = (
+              to .read,
+              d .0,
+              record { end = d .1 .end; within = d .1 .within; heads = to .counted; fields = omega (arith, d .1 .count); noted = d .2; status = d .3 },
+              d .4,
+              stored-more (d .1),
+              to .numbers,
+            );
+          }
+
+    module _ (q : r ≡ head.Informational n e k) where
+      pub informational-some : (base ≤ k) × (k ≤ base + linesMost) × (count < informationalMost)
+      informational-some =
+          let d = says q in
+          (omega (arith, d .1 .count), omega (arith, d .1 .count, d .1 .few, kept-few true (d .0 .lines)), omega (arith, d .2, to .counted))
+
+      pub heads-next : {ns′ : List ℕ} → ns′ ≡ splice ns (count * 2) (n ∷ (k - base) ∷ []) → HeadsTo x known s hs₀ hs′ ns₀ ns′ e (count + 1) k
+      heads-next stores =
+          let d = says q in
+          let h : Section = d .0 in
+          let few = informational-some in
+          let y : InformationalRead = informationalRead n h in
+          let f : length (kept true (h .lines)) ≡ k - base = omega (arith, d .1 .count) in
+          let g : informationalMost - count ≡ suc (informationalMost - (count + 1)) = omega (arith, few) in
+          record {
+            read = to .read ++ y ∷ [];
+            counted = length-append (to .read) (y ∷ []) ∙ omega (arith, to .counted);
+            most = omega (arith, few);
+            fields = rw (lines-snoc (to .read) y) (length-append (informationalLines (to .read)) (kept true (h .lines)) ∙ omega (arith, to .fields, d .1 .count));
+            few = omega (arith, few, to .few);
+            stored = stored-more (d .1) ∙ rw (lines-snoc (to .read) y) refl;
+            numbers = numbers-more ns₀ (to .read) y (to .counted) (to .numbers) f stores;
+            turn = d .3 ∙ ap (λ (m : ℕ). responseMessage known m (to .read ++ y ∷ []) e (drop e s)) g;
+          }
