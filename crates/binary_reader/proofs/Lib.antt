@@ -7,3 +7,4 @@ pub mod Answered
 pub mod RequestHeads
 pub mod RequestLaws
 pub mod ResponseLaws
+pub mod WholeLaws

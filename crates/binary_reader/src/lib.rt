@@ -3,6 +3,7 @@ pub mod heads;
 pub mod request;
 pub mod response;
 pub mod rest;
+pub mod whole;
 
 use messages::Notes;
 
