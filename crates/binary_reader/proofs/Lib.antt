@@ -1,3 +1,10 @@
-pub mod HeadTurns
 pub mod SectionOutcomes
 pub mod HeadLaws
+pub mod HeadTurns
+pub mod Trailing
+pub mod RestLaws
+pub mod Answered
+pub mod RequestHeads
+pub mod RequestLaws
+pub mod ResponseLaws
+pub mod WholeLaws

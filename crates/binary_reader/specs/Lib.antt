@@ -1,1 +1,5 @@
 pub mod Heads
+pub mod Rest
+pub mod Whole
+pub mod Requests
+pub mod Responses

@@ -1,8 +1,8 @@
 // The entries.
 use crate::numbers_out::give_message;
 use crate::written::give_written;
-use listing::listing;
 use binary_reader::whole::binary_in;
+use listing::listing;
 use messages::Outcome;
 use octets::Refusals;
 use octets::class_table;

@@ -1,0 +1,137 @@
+-- A request, stage by stage, as the code reads it.
+use Prim.Native.Nat.{ℕ, _+_, _≤_}
+use mathlib.Core.Path.{_≡_, refl, sym, ap, _∙_, subst}
+use mathlib.Core.Bool.{Bool, true, false, cond}
+use mathlib.Core.List.{List, [], _∷_, _++_}
+use native.Mathlib.Omega.{arith}
+use lib.ListN.{length, take, drop}
+use Rattle.script.specs.Script.{Answer, accepted, refused}
+use Rattle.script.specs.Do.{Piece, piece, Judged, good, wrong}
+use Rattle.output.specs.Splice.{splice}
+use Rattle.messages.specs.Message.{FieldRead, Section, Start, requestStart, isResponse, Message}
+use Rattle.messages.specs.Names.{kept}
+use Rattle.messages.specs.Notes.{AllLie}
+use Rattle.messages.specs.Rules.{authorityIn, binaryFramingOf, mayState}
+use Rattle.messages.specs.Answers.{fieldsNumbers, informationalNumbers, informationalLines, informationalIn, partOf, recordOf}
+use Rattle.messages.specs.declared.Framing.{Framing}
+use Rattle.messages.specs.declared.Notes.{Notes}
+use Rattle.messages.specs.declared.Outcome.{Outcome}
+use Rattle.messages.specs.declared.Outcome.the-variants as outcome
+use Rattle.binary.specs.Reader.{Got, got, no, Reader, _>>=_, tell}
+use Rattle.binary.specs.Read.{RequestControl, requestControl, section, afterHeaders, requestMessage, answerOf}
+use Rattle.sound.specs.Placed.{Each}
+use Rattle.sound.proofs.Parts.{LineAt}
+use Rattle.ranges.specs.Ranges.{Responded}
+use Rattle.read_binary.specs.Control.{pieceOf}
+use Rattle.read_binary.specs.declared.Span.{Span}
+use Rattle.read_binary.proofs.Places.{part-length}
+use Rattle.binary_reader.specs.Rest.{RestSays, Rested}
+use Rattle.binary_reader.specs.Requests.{bothRules, HeadSays, HeadLies, HeadJudged, partAt, partIs, requestOutcome, controlIs, behindHead, behindControl, HeadFacts, RequestRest, Requested}
+use Rattle.binary_reader.specs.declared.HeadAnswer.{HeadAnswer}
+use Rattle.binary_reader.specs.declared.HeadAnswer.the-variants as head
+use Rattle.binary_reader.specs.declared.RestRead.{RestRead}
+use Rattle.binary_reader.specs.Whole.{MessageSays, MessageIs}
+use Rattle.binary_reader.proofs.Answered.{message-as, message-no, answered-no, with-headers}
+use Rattle.binary_reader.proofs.SectionOutcomes.{SectionDone, behind-no, behind-got}
+
+-- ---- behind the header section
+
+rules-refuse : (k : Piece → Framing → Reader Message) (at : ℕ) (l : List ℕ) (a : Judged Piece) (b : Judged Framing) {n p : ℕ} → bothRules a b ≡ wrong n p
+    → (tell a >>= λ x. tell b >>= λ f. k x f) at l ≡ no n p
+unfolding _>>=_
+rules-refuse k at l (good x) (good f) e = cc
+rules-refuse k at l (good x) (wrong m o) e = cc
+rules-refuse k at l (wrong m o) b e = cc
+
+head-refuses : (known : Bool) (q : RequestControl) (h : Section) (at : ℕ) (l : List ℕ) {n p : ℕ}
+    → bothRules (authorityIn (h .end) (q .authority) (h .lines)) (mayState (h .end) (binaryFramingOf (h .lines))) ≡ wrong n p → behindHead known q h at l ≡ no n p
+unfolding behindHead
+head-refuses known q h at l e =
+    rules-refuse (λ a f. afterHeaders known true (requestStart (q .method) (q .scheme) a (q .path)) h f) at l (authorityIn (h .end) (q .authority) (h .lines)) (mayState (h .end) (binaryFramingOf (h .lines))) e
+
+head-passes : (known : Bool) (q : RequestControl) (h : Section) (at : ℕ) (l : List ℕ) {a : Piece} {f : Framing}
+    → authorityIn (h .end) (q .authority) (h .lines) ≡ good a → mayState (h .end) (binaryFramingOf (h .lines)) ≡ good f
+    → behindHead known q h at l ≡ afterHeaders known true (requestStart (q .method) (q .scheme) a (q .path)) h f at l
+unfolding behindHead _>>=_
+head-passes known q h at l u v = rw (u, v)
+
+part-back : (s : List ℕ) (a : Span) → a .start + a .len ≤ length s → partOf (pieceOf s a) ≡ partIs a
+part-back s a h = ap (partAt (a .start)) (part-length s (a .start) (a .len) h)
+
+-- where the rest was read
+rest-says : (s : List ℕ) (m p : Span) (v : ℕ) (w : List ℕ) (a n k : ℕ) (lines : List FieldRead) (x : Got Message) (cs cs′ ts ts′ : List ℕ) (c : RestRead) (r : Outcome)
+    → m .start + m .len ≤ length s → p .start + p .len ≤ length s → length w ≡ n → length (kept false lines) ≡ k
+    → r ≡ requestOutcome (length s) v m p a n k c
+    → RestSays s (requestStart (pieceOf s m) v (piece a w) (pieceOf s p)) lines x cs cs′ ts ts′ c → MessageSays false [] lines x cs cs′ ts ts′ r
+unfolding recordOf
+rest-says s m p v w a n k lines (got x e l) cs cs′ ts ts′ c r f g h i o u =
+    (o ∙ rw (u .0, u .3, u .4, u .5, i, part-back s m f, part-back s p g, h) refl, u .1, u .2, u .4, ap isResponse (u .3), ap informationalIn (u .3))
+rest-says s m p v w a n k lines (no i j) cs cs′ ts ts′ c r f g h z o u = o ∙ rw u refl
+
+module _ (s : List ℕ) (known : Bool) (m a p : Span) (v end fields : ℕ) (notes : Notes) {r : HeadAnswer} (j : HeadJudged s a end notes r) where
+  said : {o : HeadAnswer} → r ≡ o → (h : Section) → HeadFacts s h end fields notes
+      → HeadSays (authorityIn (h .end) (pieceOf s a) (h .lines)) (mayState (h .end) (binaryFramingOf (h .lines))) (notes .framing) o
+  said {o} e h f =
+      let y = j .by (h .lines) (f .noted) (f .lie) in
+      subst (λ (i : ℕ). HeadSays (authorityIn i (pieceOf s a) (h .lines)) (mayState i (binaryFramingOf (h .lines))) (notes .framing) o) (sym (f .end))
+      (subst (λ (x : HeadAnswer). HeadSays (authorityIn end (pieceOf s a) (h .lines)) (mayState end (binaryFramingOf (h .lines))) (notes .framing) x) e y)
+
+  pub rest-wrong : {n i : ℕ} {cs cs′ ts ts′ : List ℕ} → r ≡ head.Refused n i
+      → RequestRest s known (controlIs s m v a p) end fields notes cs cs′ ts ts′ (outcome.Refusal n i)
+  rest-wrong e = record { by = λ h f. message-no (head-refuses known (controlIs s m v a p) h end (drop end s) (said e h f)) }
+
+  pub head-lies : {i n : ℕ} → r ≡ head.Good i n → i + n ≤ length s
+  head-lies e = subst (λ (x : HeadAnswer). HeadLies s x) e (j .lies)
+
+  pub rest-good : {i n : ℕ} {cs cs′ ts ts′ : List ℕ} {c : RestRead} {o : Outcome} → r ≡ head.Good i n → m .start + m .len ≤ length s
+      → p .start + p .len ≤ length s → Rested s end known true (notes .framing) cs cs′ ts ts′ c → o ≡ requestOutcome (length s) v m p i n fields c
+      → RequestRest s known (controlIs s m v a p) end fields notes cs cs′ ts ts′ o
+  rest-good {i} {n} {cs} {cs′} {ts} {ts′} {c} {o} e f g w q =
+      record {
+        by = λ h y.
+            let u = said e h y in
+            let z = requestStart (pieceOf s m) v (piece i (u .0)) (pieceOf s p) in
+            message-as (head-passes known (controlIs s m v a p) h end (drop end s) (u .1) (u .3))
+            (record { says = rest-says s m p v (u .0) i n fields (h .lines) (afterHeaders known true z h (notes .framing) end (drop end s)) cs cs′ ts ts′ c o f g (u .2) (y .fields) q (w .by z h .says) });
+      }
+
+-- ---- behind control data
+
+pub requested-as : {x y : Got Message} {hs hs′ cs cs′ ts ts′ : List ℕ} {r : Outcome} → x ≡ y → Requested y hs hs′ cs cs′ ts ts′ r
+    → Requested x hs hs′ cs cs′ ts ts′ r
+requested-as {hs = hs} {hs′ = hs′} {cs = cs} {cs′ = cs′} {ts = ts} {ts′ = ts′} {r = r} e h =
+    subst (λ (z : Got Message). Requested z hs hs′ cs cs′ ts ts′ r) (sym e) h
+
+requested-no : {x : Got Message} {hs hs′ cs cs′ ts ts′ : List ℕ} {n p : ℕ} → x ≡ no n p → Requested x hs hs′ cs cs′ ts ts′ (outcome.Refusal n p)
+requested-no e = record { by = λ ns. answered-no e }
+
+all-lie : (s : List ℕ) (fs : List FieldRead) → Each (LineAt s) fs → AllLie s fs
+all-lie s [] h = tt
+all-lie s (f ∷ fs) h = (h .0 .lies .value, all-lie s fs (h .1))
+
+module _ (s : List ℕ) (known : Bool) (q : RequestControl) (from : ℕ) where
+  pub head-no : {hs hs′ cs cs′ ts ts′ : List ℕ} {n p : ℕ} → section known from (drop from s) ≡ no n p
+      → Requested (behindControl known q from (drop from s)) hs hs′ cs cs′ ts ts′ (outcome.Refusal n p)
+  unfolding behindControl
+  head-no e = requested-no (behind-no known (behindHead known q) s from e)
+
+  pub head-done : {hs hs′ cs cs′ ts ts′ : List ℕ} {e c : ℕ} {n : Notes} {r : Outcome} → SectionDone s known from false 0 hs hs′ e c n
+      → RequestRest s known q e c n cs cs′ ts ts′ r → Requested (behindControl known q from (drop from s)) hs hs′ cs cs′ ts ts′ r
+  unfolding behindControl informationalLines informationalNumbers
+  head-done {hs} {hs′} {cs} {cs′} {ts} {ts′} {e} {c} {n} {r} d w =
+      let f : HeadFacts s (d .read) e c n = record { end = d .end; fields = omega (arith, d .count); noted = d .noted; lie = all-lie s (d .read .lines) (d .lines .section .lines) } in
+      requested-as (behind-got known (behindHead known q) s from (d .gives))
+      (record { by = λ ns. with-headers (behindHead known q (d .read) e (drop e s)) (d .stored) refl (w .by (d .read) f) })
+
+-- ---- whole requests
+
+module _ (s : List ℕ) (known : Bool) (from : ℕ) where
+  pub control-refused : {hs hs′ cs cs′ ts ts′ : List ℕ} {n p : ℕ} → requestControl from (drop from s) ≡ no n p
+      → Requested (requestMessage known from (drop from s)) hs hs′ cs cs′ ts ts′ (outcome.Refusal n p)
+  unfolding requestMessage _>>=_
+  control-refused e = requested-no (rw e)
+
+  pub control-then : {q : RequestControl} {e : ℕ} → requestControl from (drop from s) ≡ got q e (drop e s)
+      → requestMessage known from (drop from s) ≡ behindControl known q e (drop e s)
+  unfolding requestMessage behindControl behindHead _>>=_
+  control-then e = rw e

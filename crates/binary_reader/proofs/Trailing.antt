@@ -1,0 +1,124 @@
+-- Trailers that were read, by their rule.
+use Prim.Native.Nat.{ℕ, _+_, _-_, _*_, _<_, _≤_}
+use mathlib.Core.Path.{_≡_, refl, sym, ap, _∙_, subst}
+use mathlib.Core.Bool.{Bool, true, false, cond, _||_}
+use mathlib.Core.List.{List, [], _∷_}
+use native.Mathlib.Omega.{arith}
+use borrow.Author.Tests.{eq-eqb, ne-eqb}
+use lib.Dec.{eqb}
+use lib.ListN.{length, drop, length-drop}
+use Rattle.octets.specs.Refusals.{badLength}
+use Rattle.octets.specs.Text.{isEmpty}
+use Rattle.script.specs.Do.{Judged, good, wrong}
+use Rattle.output.specs.Splice.{splice}
+use Rattle.messages.specs.Message.{FieldRead, Section}
+use Rattle.messages.specs.Names.{areTrailers, kept, keptTrailers}
+use Rattle.messages.specs.Notes.{notesOf}
+use Rattle.messages.specs.Answers.{fieldsNumbers}
+use Rattle.messages.specs.declared.Notes.{Notes}
+use Rattle.messages.proofs.Noting.{trailers-noted}
+use Rattle.binary.specs.Reader.{Got, got, no, _>>=_, tell}
+use Rattle.binary.specs.Read.{section, noLines, trailerRule, trailers}
+use Rattle.read_binary.specs.Section.{Sectioned}
+use Rattle.read_binary.specs.declared.Section as answer
+use Rattle.read_binary.specs.declared.Section.the-variants as section-is
+use Rattle.binary_reader.specs.Rest.{trailersAgree, TrailersSays, Trailed}
+use Rattle.binary_reader.specs.declared.TrailersRead.{TrailersRead}
+use Rattle.binary_reader.specs.declared.TrailersRead.the-variants.{Done, Refused}
+use Rattle.binary_reader.proofs.SectionOutcomes.{SectionDone, section-no, section-done}
+
+trailed-as : {s : List ℕ} {x y : Got (List FieldRead)} {o o′ : List ℕ} {r : TrailersRead} → x ≡ y → TrailersSays s y o o′ r → Trailed s x o o′ r
+trailed-as {s} {o = o} {o′ = o′} {r = r} e h = record { says = subst (λ (z : Got (List FieldRead)). TrailersSays s z o o′ r) (sym e) h }
+
+trailed-no : {s : List ℕ} {x : Got (List FieldRead)} {n p : ℕ} {o o′ : List ℕ} → x ≡ no n p → Trailed s x o o′ (Refused n p)
+trailed-no {n = n} {p = p} e = trailed-as {y = no n p} e refl
+
+-- no line is kept where their number is zero
+none-kept : (fs : List FieldRead) → noLines fs ≡ eqb (length fs) 0
+none-kept [] = refl
+none-kept (f ∷ fs) = sym (ne-eqb (length (f ∷ fs)) 0 (λ z. omega (arith, z)))
+
+-- the rule of a trailer section, by what the code asks
+rule-agrees : (body : Bool) (h : Section) {names : Bool} {n : ℕ} → areTrailers (h .lines) ≡ names → length (keptTrailers (h .lines)) ≡ n
+    → trailerRule body h ≡ cond (trailersAgree names body n) (good (h .lines)) (wrong badLength (h .end))
+unfolding trailerRule trailersAgree
+rule-agrees body h {names} {n} e f = rw (none-kept (keptTrailers (h .lines)), e, f) (on names body (eqb n 0))
+  where
+    on : (a b c : Bool)
+        → cond a (cond (b || c) (good (h .lines)) (wrong badLength (h .end))) (wrong badLength (h .end))
+        ≡ cond (cond a (cond b true c) false) (good (h .lines)) (wrong badLength (h .end))
+    on true true c = refl
+    on true false c = refl
+    on false b c = refl
+
+some-left : (s : List ℕ) (from : ℕ) → from < length s → isEmpty (drop from s) ≡ false
+unfolding isEmpty
+some-left s from h = rw (length-drop from s, ne-eqb (length s - from) 0 (λ z. omega (arith, z)))
+
+section-then : (s : List ℕ) (from : ℕ) (known body : Bool) {h : Section} {end : ℕ} {j : Judged (List FieldRead)} → from < length s
+    → section known from (drop from s) ≡ got h end (drop end s) → trailerRule body h ≡ j → trailers known body from (drop from s) ≡ tell j end (drop end s)
+unfolding trailers _>>=_
+section-then s from known body g e j = rw (some-left s from g, e, j)
+
+module _ (s : List ℕ) (from : ℕ) (known body : Bool) {o o′ : List ℕ} where
+  pub trailers-none : from ≤ length s → length s ≤ from → o′ ≡ o → Trailed s (trailers known body from (drop from s)) o o′ (Done from 0)
+  unfolding trailers _>>=_ isEmpty keptTrailers kept fieldsNumbers
+  trailers-none g h q =
+      let z : length s - from ≡ 0 = omega arith in
+      trailed-as {y = got [] from (drop from s)} (rw (length-drop from s, eq-eqb (length s - from) 0 z)) (refl, q, (g, refl))
+
+  module _ {r : answer.Section} (h : from < length s) (w : Sectioned s (section known from (drop from s)) false 0 o o′ r) where
+    pub trailers-no : {n p : ℕ} → r ≡ section-is.Refused n p → Trailed s (trailers known body from (drop from s)) o o′ (Refused n p)
+    unfolding trailers _>>=_
+    trailers-no e = trailed-no (rw (some-left s from h, section-no s known from w e))
+
+    within : from ≤ length s
+    within = omega (arith, h)
+
+    module _ {end count : ℕ} {notes : Notes} (e : r ≡ section-is.Done end count notes) {t : Bool} (q : t ≡ trailersAgree (notes .trailers) body count) where
+      judged : {b : Bool} → t ≡ b
+          → trailerRule body (section-done s known from w within e .read)
+          ≡ cond b (good (section-done s known from w within e .read .lines)) (wrong badLength end)
+      unfolding keptTrailers
+      judged {b} g = let d = section-done s known from w within e in
+          let c : length (kept false (d .read .lines)) ≡ count = omega (arith, d .count) in
+          rule-agrees body (d .read) (trailers-noted false (d .read .lines) ∙ ap (λ (n : Notes). n .trailers) (sym (d .noted))) c
+          ∙ rw (← q, g, d .end)
+
+      pub trailers-good : t ≡ true → Trailed s (trailers known body from (drop from s)) o o′ (Done end count)
+      unfolding keptTrailers
+      trailers-good g = let d = section-done s known from w within e in
+          let c : count ≡ length (kept false (d .read .lines)) = omega (arith, d .count) in
+          trailed-as {y = got (d .read .lines) end (drop end s)} (section-then s from known body h (d .gives) (judged g)) (ap (Done end) c, d .stored, (d .within, refl))
+
+      pub trailers-bad : t ≡ false → Trailed s (trailers known body from (drop from s)) o o′ (Refused badLength end)
+      trailers-bad g = trailed-no (section-then s from known body h (section-done s known from w within e .gives) (judged g))
+
+-- ---- what the caller learns
+
+pub record TrailersDone (s : List ℕ) (x : Got (List FieldRead)) (o o′ : List ℕ) (end count : ℕ) : Type 0 where
+  pub lines : List FieldRead
+  pub taken : x ≡ got lines end (drop end s)
+  pub counted : length (keptTrailers lines) ≡ count
+  pub stored : o′ ≡ splice o 0 (fieldsNumbers (keptTrailers lines))
+  pub within : end ≤ length s
+
+module _ {s : List ℕ} {x : Got (List FieldRead)} {o o′ : List ℕ} {r : TrailersRead} (h : Trailed s x o o′ r) where
+  pub trailed-refused : {n p : ℕ} → r ≡ Refused n p → x ≡ no n p
+  trailed-refused {n} {p} e = go x (h .says)
+    where
+      go : (y : Got (List FieldRead)) → TrailersSays s y o o′ r → y ≡ no n p
+      go (got a i l) q = let d = q .0 in cc
+      go (no m k) q = cc
+
+  pub trailed-done : {end count : ℕ} → r ≡ Done end count → TrailersDone s x o o′ end count
+  trailed-done {end} {count} e = go x (h .says)
+    where
+      go : (y : Got (List FieldRead)) → TrailersSays s y o o′ r → TrailersDone s y o o′ end count
+      go (got a i l) q =
+          let d = q .0 in
+          let b : i ≡ end = cc in
+          let c : length (keptTrailers a) ≡ count = cc in
+          let k : l ≡ drop end s = q .2 .1 ∙ rw b in
+          record { lines = a; taken = rw (b, k); counted = c; stored = q .1; within = omega (arith, q .2 .0, b) }
+      go (no m k) q = let z : _≡_ {A = ℕ} 0 1 = cc in absurd (omega arith)

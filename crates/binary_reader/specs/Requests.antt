@@ -1,0 +1,114 @@
+-- What the code that reads requests promises, in terms of the readers of Binary HTTP.
+use Prim.Native.Nat.{ℕ, _+_, _≤_}
+use mathlib.Core.Path.{_≡_}
+use mathlib.Core.Bool.{Bool, true, false}
+use mathlib.Core.List.{List, []}
+use lib.ListN.{length, drop}
+use Rattle.script.specs.Do.{Piece, piece, Judged, good, wrong}
+use Rattle.messages.specs.Message.{FieldRead, Section, requestStart, Message}
+use Rattle.messages.specs.Names.{kept}
+use Rattle.messages.specs.Notes.{notesOf, AllLie}
+use Rattle.messages.specs.Rules.{authorityIn, binaryFramingOf, mayState}
+use Rattle.messages.specs.declared.Framing.{Framing}
+use Rattle.messages.specs.declared.Notes.{Notes}
+use Rattle.messages.specs.declared.Part.{Part}
+use Rattle.messages.specs.declared.Outcome.{Outcome}
+use Rattle.messages.specs.declared.Outcome.the-variants as outcome
+use Rattle.binary.specs.Reader.{Got, Reader, _>>=_, tell}
+use Rattle.binary.specs.Read.{RequestControl, section, afterHeaders, answerOf}
+use Rattle.ranges.specs.Ranges.{Responded}
+use Rattle.read_binary.specs.Control.{pieceOf}
+use Rattle.read_binary.specs.declared.Span.{Span}
+use Rattle.binary_reader.specs.Whole.{MessageIs}
+use Rattle.binary_reader.specs.declared.HeadAnswer.{HeadAnswer}
+use Rattle.binary_reader.specs.declared.HeadAnswer.the-variants as head
+use Rattle.binary_reader.specs.declared.RestRead.{RestRead}
+use Rattle.binary_reader.specs.declared.RestRead.the-variants as rest-is
+
+-- ---- the rules of a head
+
+-- both rules of a request's head: host first, then length
+abbrev pub bothRules : Judged Piece → Judged Framing → Judged Framing
+bothRules (good a) f = f
+bothRules (wrong n p) f = wrong n p
+
+-- a head judged by its two rules: the authority's place and length, and the length that is stated
+abbrev pub HeadSays : Judged Piece → Judged Framing → Framing → HeadAnswer → Type 0
+HeadSays a b f (head.Good start len) = (w : List ℕ) × (a ≡ good (piece start w)) × (length w ≡ len) × (b ≡ good f)
+HeadSays a b f (head.Refused n p) = bothRules a b ≡ wrong n p
+
+-- the authority lies in the input
+abbrev pub HeadLies : List ℕ → HeadAnswer → Type 0
+HeadLies s (head.Good start len) = start + len ≤ length s
+HeadLies s (head.Refused n p) = Unit {0}
+
+-- a head that ends at a place, judged by notes: so are all lines in s of which these are the notes
+pub record HeadJudged (s : List ℕ) (authority : Span) (end : ℕ) (notes : Notes) (r : HeadAnswer) : Type 0 where
+  pub by : (lines : List FieldRead) → notes ≡ notesOf false lines → AllLie s lines
+      → HeadSays (authorityIn end (pieceOf s authority) lines) (mayState end (binaryFramingOf lines)) (notes .framing) r
+  pub lies : HeadLies s r
+
+-- ---- the outcome
+
+abbrev pub partAt : ℕ → ℕ → Part
+partAt a n = record { start = a; len = n }
+
+abbrev pub partIs : Span → Part
+partIs a = partAt (a .start) (a .len)
+
+-- the outcome of a request of n octets, by its numbers
+abbrev pub requestOutcome : ℕ → ℕ → Span → Span → ℕ → ℕ → ℕ → RestRead → Outcome
+requestOutcome n scheme method path start len fields (rest-is.Done chunks total trailers) =
+    outcome.Message
+    (record {
+      response = false;
+      scheme = scheme;
+      method = partIs method;
+      authority = partAt start len;
+      path = partIs path;
+      informational = 0;
+      status = 0;
+      headers = fields;
+      chunks = chunks;
+      content = total;
+      trailers = trailers;
+      length = n;
+    })
+requestOutcome n scheme method path start len fields (rest-is.Refused k p) = outcome.Refusal k p
+
+-- ---- behind the head
+
+-- the control data of s that spans name
+abbrev pub controlIs : List ℕ → Span → ℕ → Span → Span → RequestControl
+controlIs s method scheme authority path =
+    record { method = pieceOf s method; scheme = scheme; authority = pieceOf s authority; path = pieceOf s path }
+
+-- behind the header section of a request: its rules, then content, trailers and padding
+unfoldable pub behindHead : Bool → RequestControl → Section → Reader Message
+behindHead known q h = do
+  a ← tell (authorityIn (h .end) (q .authority) (h .lines))
+  f ← tell (mayState (h .end) (binaryFramingOf (h .lines)))
+  afterHeaders known true (requestStart (q .method) (q .scheme) a (q .path)) h f
+
+-- behind the control data of a request: header section and all that follows
+unfoldable pub behindControl : Bool → RequestControl → Reader Message
+behindControl known q = do
+  h ← section known
+  behindHead known q h
+
+-- a header section that was read up to e, in the numbers that the code keeps of it
+pub record HeadFacts (s : List ℕ) (h : Section) (e k : ℕ) (n : Notes) : Type 0 where
+  pub end : h .end ≡ e
+  pub fields : length (kept false (h .lines)) ≡ k
+  pub noted : n ≡ notesOf false (h .lines)
+  pub lie : AllLie s (h .lines)
+
+-- what stands behind any header section that was read up to a place
+pub record RequestRest (s : List ℕ) (known : Bool) (q : RequestControl) (end fields : ℕ) (notes : Notes) (cs cs′ ts ts′ : List ℕ) (r : Outcome) : Type 0 where
+  pub by : (h : Section) → HeadFacts s h end fields notes → MessageIs false [] (h .lines) (behindHead known q h end (drop end s)) cs cs′ ts ts′ r
+
+-- ---- whole requests
+
+-- a request that was read: as a message that might be a response; it has no informational heads, so the ranges lent for them stay as they are
+pub record Requested (x : Got Message) (hs hs′ cs cs′ ts ts′ : List ℕ) (r : Outcome) : Type 0 where
+  pub by : (ns : List ℕ) → Responded (answerOf x) hs hs′ ns ns cs cs′ ts ts′ r

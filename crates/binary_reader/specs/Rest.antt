@@ -1,0 +1,70 @@
+-- What the code that reads behind a header section promises, in terms of the readers of Binary HTTP.
+use Prim.Native.Nat.{ℕ}
+use mathlib.Core.Path.{_≡_}
+use mathlib.Core.Bool.{Bool, true, false, cond}
+use mathlib.Core.List.{List}
+use lib.Dec.{eqb}
+use lib.ListN.{length, drop}
+use Rattle.script.specs.Do.{Piece}
+use Rattle.output.specs.Splice.{splice}
+use Rattle.messages.specs.Message.{FieldRead, Section, Start, Message}
+use Rattle.messages.specs.Names.{keptTrailers}
+use Rattle.messages.specs.Meaning.{contentOf}
+use Rattle.messages.specs.Answers.{fieldsNumbers, chunksNumbers}
+use Rattle.messages.specs.declared.Framing.{Framing}
+use Rattle.binary.specs.Reader.{Got, got, no, Reader, _>>=_, give}
+use Rattle.binary.specs.Read.{trailers, padding, afterHeaders}
+use Rattle.read_binary.specs.Control.{GoesOn}
+use Rattle.binary_reader.specs.declared.TrailersRead.{TrailersRead}
+use Rattle.binary_reader.specs.declared.TrailersRead.the-variants as trailers-are
+use Rattle.binary_reader.specs.declared.RestRead.{RestRead}
+use Rattle.binary_reader.specs.declared.RestRead.the-variants as rest-is
+
+-- ---- trailers
+
+-- whether a section whose names trailers may have, or not, and of which so many lines are kept, agrees with a message that may have content or not
+unfoldable pub trailersAgree : Bool → Bool → ℕ → Bool
+trailersAgree names body n = cond names (cond body true (eqb n 0)) false
+
+-- trailers that were read from s into the lent ranges o: the number of kept lines, behind which the reading goes on
+abbrev pub TrailersSays : List ℕ → Got (List FieldRead) → List ℕ → List ℕ → TrailersRead → Type 0
+TrailersSays s (got fs e l) o o′ r =
+    (r ≡ trailers-are.Done e (length (keptTrailers fs))) × (o′ ≡ splice o 0 (fieldsNumbers (keptTrailers fs))) × GoesOn s e l
+TrailersSays s (no n p) o o′ r = r ≡ trailers-are.Refused n p
+
+-- the promise of trailers that are read
+pub record Trailed (s : List ℕ) (x : Got (List FieldRead)) (o o′ : List ℕ) (r : TrailersRead) : Type 0 where
+  pub says : TrailersSays s x o o′ r
+
+-- ---- all that stands behind a header section
+
+-- behind the content: trailers and padding
+unfoldable pub behindContent : Bool → Bool → Start → List FieldRead → List Piece → Reader Message
+behindContent known body start lines c = do
+  ts ← trailers known body
+  z ← padding
+  give (record { start = start; lines = lines; chunks = c; trailers = ts })
+
+-- a message that was read to the end of s behind its start and its header lines: the ranges of its chunks and kept trailers, and their numbers
+abbrev pub RestSays : List ℕ → Start → List FieldRead → Got Message → List ℕ → List ℕ → List ℕ → List ℕ → RestRead → Type 0
+RestSays s start lines (got m e l) cs cs′ ts ts′ r =
+    (r ≡ rest-is.Done (length (m .chunks)) (length (contentOf (m .chunks))) (length (keptTrailers (m .trailers))))
+    × (cs′ ≡ splice cs 0 (chunksNumbers (m .chunks)))
+    × (ts′ ≡ splice ts 0 (fieldsNumbers (keptTrailers (m .trailers))))
+    × (m .start ≡ start)
+    × (m .lines ≡ lines)
+    × (e ≡ length s)
+RestSays s start lines (no n p) cs cs′ ts ts′ r = r ≡ rest-is.Refused n p
+
+-- the promise of what is read to the end
+pub record RestIs (s : List ℕ) (start : Start) (lines : List FieldRead) (x : Got Message) (cs cs′ ts ts′ : List ℕ) (r : RestRead) : Type 0 where
+  pub says : RestSays s start lines x cs cs′ ts ts′ r
+
+-- what stands behind content of so many chunks and octets, whatever stands before it
+pub record Behind (s : List ℕ) (from : ℕ) (known body : Bool) (count total : ℕ) (ts ts′ : List ℕ) (r : RestRead) : Type 0 where
+  pub by : (start : Start) (lines : List FieldRead) (c : List Piece) (cs cs′ : List ℕ) → length c ≡ count → length (contentOf c) ≡ total
+      → cs′ ≡ splice cs 0 (chunksNumbers c) → RestIs s start lines (behindContent known body start lines c from (drop from s)) cs cs′ ts ts′ r
+
+-- what stands behind any header section, in a message whose head states f
+pub record Rested (s : List ℕ) (from : ℕ) (known body : Bool) (f : Framing) (cs cs′ ts ts′ : List ℕ) (r : RestRead) : Type 0 where
+  pub by : (start : Start) (h : Section) → RestIs s start (h .lines) (afterHeaders known body start h f from (drop from s)) cs cs′ ts ts′ r

@@ -1,0 +1,199 @@
+// Requests.
+use crate::HeadAnswer;
+use crate::RestRead;
+use crate::rest::after_headers;
+use messages::Authority;
+use messages::Notes;
+use messages::Outcome;
+use messages::Part;
+use messages::Record;
+use messages::sections::authority_in;
+use messages::sections::is_clashing;
+use octets::Refusals;
+use read_binary::ControlRead;
+use read_binary::Section;
+use read_binary::Span;
+use read_binary::control::request_control;
+use read_binary::lines::read_section;
+ghost use mathlib.Core.Path.{_≡_};
+ghost use Prim.Native.Nat.{_+_, _≤_, _<_};
+ghost use lib.ListN.{length, drop};
+ghost use Rattle.octets.specs.Table.{classes};
+ghost use Rattle.ranges.specs.Ranges.{placesEnd};
+ghost use Rattle.binary.specs.Read.{requestMessage};
+ghost use Rattle.binary_reader.specs.Requests.{HeadJudged, requestOutcome, controlIs, RequestRest, behindControl, Requested};
+
+// A request's head that ends at `end`, of whose control data `authority` is: host, then length.
+fn judge_head(t: &[u8; 256], s: &[u8], authority: Span, end: usize, notes: Notes) -> HeadAnswer
+    requires { ⌜ (now t ≡ classes) × (authority .start + authority .len ≤ length (now s)) ⌝ }
+    ensures { λ r. ⌜ HeadJudged (now (s .entry)) authority end notes r ⌝ }
+{
+    let hosts = notes.hosts;
+    let a = authority_in(t, s, authority.start, authority.len, hosts);
+    match a {
+        Authority::Wrong => return HeadAnswer::Refused {
+            number: Refusals::BAD_HOST,
+            place: end,
+        },
+        Authority::Found { start, len } => {
+            let f = notes.framing;
+            if is_clashing(f) {
+                return HeadAnswer::Refused {
+                    number: Refusals::BAD_LENGTH,
+                    place: end,
+                };
+            }
+            return HeadAnswer::Good { start, len };
+        }
+    }
+}
+
+// The outcome of a request of n octets of which all was read.
+fn request_outcome(
+    read: RestRead,
+    n: usize,
+    scheme: u32,
+    method: Span,
+    path: Span,
+    start: usize,
+    len: usize,
+    fields: usize,
+) -> Outcome
+    requires { ⌜ (method .start + method .len < placesEnd) × (path .start + path .len < placesEnd) × (start + len < placesEnd) ⌝ }
+    ensures { λ r. ⌜ r ≡ requestOutcome n scheme method path start len fields read ⌝ }
+{
+    match read {
+        RestRead::Refused { number, place } => Outcome::Refusal { number, place },
+        RestRead::Done {
+            chunks,
+            total,
+            trailers,
+        } => Outcome::Message(Record {
+            response: false,
+            scheme,
+            method: Part {
+                start: method.start as u32,
+                len: method.len as u32,
+            },
+            authority: Part {
+                start: start as u32,
+                len: len as u32,
+            },
+            path: Part {
+                start: path.start as u32,
+                len: path.len as u32,
+            },
+            informational: 0,
+            status: 0,
+            headers: fields,
+            chunks,
+            content: total,
+            trailers,
+            length: n,
+        }),
+    }
+}
+
+// What stands behind a request's header section that ends at `end` and has `fields` kept fields: its rules, then content, trailers and padding.
+fn request_rest(
+    t: &[u8; 256],
+    s: &[u8],
+    known: bool,
+    method: Span,
+    scheme: u32,
+    authority: Span,
+    path: Span,
+    end: usize,
+    fields: usize,
+    notes: Notes,
+    chunks: &mut [u32],
+    trailers: &mut [u32],
+) -> Outcome
+    requires { ⌜ (now t ≡ classes) × (end ≤ length (now s)) × (length (now s) < placesEnd) × (method .start + method .len ≤ length (now s)) × (authority .start + authority .len ≤ length (now s)) × (path .start + path .len ≤ length (now s)) × (512 ≤ length (now chunks)) × (256 ≤ length (now trailers)) ⌝ }
+    ensures { λ r. ⌜ RequestRest (now (s .entry)) known (controlIs (now (s .entry)) method scheme authority path) end fields notes (now (chunks .entry)) (now (chunks .exit)) (now (trailers .entry)) (now (trailers .exit)) r ⌝ }
+{
+    let f = notes.framing;
+    let j = judge_head(t, s, authority, end, notes);
+    match j {
+        HeadAnswer::Refused { number, place } => return Outcome::Refusal { number, place },
+        HeadAnswer::Good { start, len } => {
+            let c = after_headers(t, s, end, known, true, f, chunks, trailers);
+            return request_outcome(c, s.len(), scheme, method, path, start, len, fields);
+        }
+    }
+}
+
+// What stands behind the control data of a request that end at `from`.
+fn request_head(
+    t: &[u8; 256],
+    s: &[u8],
+    known: bool,
+    method: Span,
+    scheme: u32,
+    authority: Span,
+    path: Span,
+    from: usize,
+    headers: &mut [u32],
+    chunks: &mut [u32],
+    trailers: &mut [u32],
+) -> Outcome
+    requires { ⌜ (now t ≡ classes) × (from ≤ length (now s)) × (length (now s) < placesEnd) × (method .start + method .len ≤ length (now s)) × (authority .start + authority .len ≤ length (now s)) × (path .start + path .len ≤ length (now s)) × (256 ≤ length (now headers)) × (512 ≤ length (now chunks)) × (256 ≤ length (now trailers)) ⌝ }
+    ensures { λ r. ⌜ Requested (behindControl known (controlIs (now (s .entry)) method scheme authority path) from (drop from (now (s .entry)))) (now (headers .entry)) (now (headers .exit)) (now (chunks .entry)) (now (chunks .exit)) (now (trailers .entry)) (now (trailers .exit)) r ⌝ }
+{
+    let h = read_section(t, s, from, known, false, 0, headers);
+    match h {
+        Section::Refused { number, place } => return Outcome::Refusal { number, place },
+        Section::Done { end, kept, notes } => return request_rest(
+            t,
+            s,
+            known,
+            method,
+            scheme,
+            authority,
+            path,
+            end,
+            kept,
+            notes,
+            chunks,
+            trailers,
+        ),
+    }
+}
+
+// The request from `from` on, behind its framing: its outcome, and the ranges of an accepted one in the lent space.
+pub fn request_in(
+    t: &[u8; 256],
+    s: &[u8],
+    from: usize,
+    known: bool,
+    headers: &mut [u32],
+    chunks: &mut [u32],
+    trailers: &mut [u32],
+) -> Outcome
+    requires { ⌜ (now t ≡ classes) × (length (now s) < placesEnd) × (256 ≤ length (now headers)) × (512 ≤ length (now chunks)) × (256 ≤ length (now trailers)) ⌝ }
+    ensures { λ r. ⌜ Requested (requestMessage known from (drop from (now (s .entry)))) (now (headers .entry)) (now (headers .exit)) (now (chunks .entry)) (now (chunks .exit)) (now (trailers .entry)) (now (trailers .exit)) r ⌝ }
+{
+    let c = request_control(t, s, from);
+    match c {
+        ControlRead::Refused { number, place } => return Outcome::Refusal { number, place },
+        ControlRead::Done {
+            method,
+            scheme,
+            authority,
+            path,
+            end,
+        } => return request_head(
+            t,
+            s,
+            known,
+            method,
+            scheme,
+            authority,
+            path,
+            end,
+            headers,
+            chunks,
+            trailers,
+        ),
+    }
+}

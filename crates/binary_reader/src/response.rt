@@ -1,0 +1,138 @@
+// Responses.
+use crate::FinalAnswer;
+use crate::HeadsRead;
+use crate::RestRead;
+use crate::heads::read_heads;
+use crate::rest::after_headers;
+use messages::BodyAnswer;
+use messages::Framing;
+use messages::Notes;
+use messages::Outcome;
+use messages::Part;
+use messages::Record;
+use messages::parts::is_bodyless;
+use messages::sections::is_clashing;
+use messages::sections::nothing_stated;
+use octets::Refusals;
+ghost use mathlib.Core.Path.{_≡_};
+ghost use mathlib.Core.List.{[]};
+ghost use Prim.Native.Nat.{suc, _≤_, _<_};
+ghost use lib.ListN.{length, drop};
+ghost use Rattle.octets.specs.Table.{classes};
+ghost use Rattle.octets.specs.Limits.{informationalMost};
+ghost use Rattle.binary.specs.Read.{responseMessage, answerOf};
+ghost use Rattle.ranges.specs.Ranges.{placesEnd, Responded};
+ghost use Rattle.binary_reader.specs.Responses.{FinalJudged, responseOutcome, FinalRead};
+
+// A final head that ends at `end`, by what it states.
+fn judge_final(status: u32, framing: Framing, end: usize) -> FinalAnswer
+    ensures { λ r. ⌜ FinalJudged status framing end r ⌝ }
+{
+    if is_bodyless(status as usize) {
+        let b = nothing_stated(framing, end);
+        match b {
+            BodyAnswer::Refused { number, place } => return FinalAnswer::Refused { number, place },
+            BodyAnswer::Read(_) => return FinalAnswer::Good { body: false },
+        }
+    } else {
+        if is_clashing(framing) {
+            return FinalAnswer::Refused {
+                number: Refusals::BAD_LENGTH,
+                place: end,
+            };
+        }
+        return FinalAnswer::Good { body: true };
+    }
+}
+
+// The outcome of a response of n octets of which all was read.
+fn response_outcome(read: RestRead, n: usize, status: u32, heads: usize, fields: usize) -> Outcome
+    ensures { λ r. ⌜ r ≡ responseOutcome n status heads fields read ⌝ }
+{
+    match read {
+        RestRead::Refused { number, place } => Outcome::Refusal { number, place },
+        RestRead::Done {
+            chunks,
+            total,
+            trailers,
+        } => Outcome::Message(Record {
+            response: true,
+            scheme: 0,
+            method: Part { start: 0, len: 0 },
+            authority: Part { start: 0, len: 0 },
+            path: Part { start: 0, len: 0 },
+            informational: heads,
+            status,
+            headers: fields,
+            chunks,
+            content: total,
+            trailers,
+            length: n,
+        }),
+    }
+}
+
+// What stands behind the final head that ends at `end`, behind `heads` informational ones.
+fn after_final(
+    t: &[u8; 256],
+    s: &[u8],
+    known: bool,
+    status: u32,
+    end: usize,
+    heads: usize,
+    fields: usize,
+    notes: Notes,
+    chunks: &mut [u32],
+    trailers: &mut [u32],
+) -> Outcome
+    requires { ⌜ (now t ≡ classes) × (end ≤ length (now s)) × (length (now s) < placesEnd) × (512 ≤ length (now chunks)) × (256 ≤ length (now trailers)) ⌝ }
+    ensures { λ r. ⌜ FinalRead (now (s .entry)) known status end heads fields notes (now (chunks .entry)) (now (chunks .exit)) (now (trailers .entry)) (now (trailers .exit)) r ⌝ }
+{
+    let f = notes.framing;
+    let j = judge_final(status, f, end);
+    match j {
+        FinalAnswer::Refused { number, place } => return Outcome::Refusal { number, place },
+        FinalAnswer::Good { body } => {
+            let c = after_headers(t, s, end, known, body, f, chunks, trailers);
+            return response_outcome(c, s.len(), status, heads, fields);
+        }
+    }
+}
+
+// The response from `from` on, behind its framing: its outcome, and the ranges of an accepted one in the lent space.
+pub fn response_in(
+    t: &[u8; 256],
+    s: &[u8],
+    from: usize,
+    known: bool,
+    headers: &mut [u32],
+    informational: &mut [u32],
+    chunks: &mut [u32],
+    trailers: &mut [u32],
+) -> Outcome
+    requires { ⌜ (now t ≡ classes) × (length (now s) < placesEnd) × (1280 ≤ length (now headers)) × (8 ≤ length (now informational)) × (512 ≤ length (now chunks)) × (256 ≤ length (now trailers)) ⌝ }
+    ensures { λ r. ⌜ Responded (answerOf (responseMessage known (suc informationalMost) [] from (drop from (now (s .entry))))) (now (headers .entry)) (now (headers .exit)) (now (informational .entry)) (now (informational .exit)) (now (chunks .entry)) (now (chunks .exit)) (now (trailers .entry)) (now (trailers .exit)) r ⌝ }
+{
+    let h = read_heads(t, s, from, known, headers, informational);
+    match h {
+        HeadsRead::Refused { number, place } => return Outcome::Refusal { number, place },
+        HeadsRead::Done {
+            status,
+            end,
+            heads,
+            kept,
+            notes,
+        } => return after_final(
+            t,
+            s,
+            known,
+            status,
+            end,
+            heads,
+            kept,
+            notes,
+            chunks,
+            trailers,
+        ),
+    }
+}

@@ -1,0 +1,132 @@
+// What stands behind a header section: content, trailers, padding.
+use crate::RestRead;
+use crate::TrailersRead;
+use messages::Framing;
+use messages::Notes;
+use messages::sections::are_trailers;
+use octets::Refusals;
+use read_binary::ContentRead;
+use read_binary::Padding;
+use read_binary::Section;
+use read_binary::content::check_padding;
+use read_binary::content::content_agrees;
+use read_binary::content::read_content;
+use read_binary::lines::read_section;
+ghost use mathlib.Core.Path.{_≡_};
+ghost use Prim.Native.Nat.{_≤_, _<_};
+ghost use lib.ListN.{length, drop};
+ghost use Rattle.octets.specs.Table.{classes};
+ghost use Rattle.ranges.specs.Ranges.{placesEnd};
+ghost use Rattle.binary.specs.Read.{trailers};
+ghost use Rattle.binary_reader.specs.Rest.{trailersAgree, Trailed, Behind, Rested};
+
+// Whether a trailer section with `kept` kept lines may stand in a message that may have content or not.
+fn trailers_agree(notes: Notes, body: bool, kept: usize) -> bool
+    ensures { λ r. ⌜ r ≡ trailersAgree (notes .trailers) body kept ⌝ }
+{
+    if are_trailers(notes) {
+        if body {
+            return true;
+        }
+        return kept == 0;
+    }
+    false
+}
+
+// The trailers from `from` on; where the message ends before them there are none.
+fn read_trailers(
+    t: &[u8; 256],
+    s: &[u8],
+    from: usize,
+    known: bool,
+    body: bool,
+    out: &mut [u32],
+) -> TrailersRead
+    requires { ⌜ (now t ≡ classes) × (from ≤ length (now s)) × (length (now s) < placesEnd) × (256 ≤ length (now out)) ⌝ }
+    ensures { λ r. ⌜ Trailed (now (s .entry)) (trailers known body from (drop from (now (s .entry)))) (now (out .entry)) (now (out .exit)) r ⌝ }
+{
+    if s.len() <= from {
+        return TrailersRead::Done { end: from, kept: 0 };
+    }
+    let h = read_section(t, s, from, known, false, 0, out);
+    match h {
+        Section::Refused { number, place } => return TrailersRead::Refused { number, place },
+        Section::Done { end, kept, notes } => {
+            if trailers_agree(notes, body, kept) {
+                return TrailersRead::Done { end, kept };
+            }
+            return TrailersRead::Refused {
+                number: Refusals::BAD_LENGTH,
+                place: end,
+            };
+        }
+    }
+}
+
+// Trailers and padding from `from` on, behind content of `count` chunks and `total` octets.
+fn behind_content(
+    t: &[u8; 256],
+    s: &[u8],
+    from: usize,
+    known: bool,
+    body: bool,
+    count: usize,
+    total: usize,
+    trailers: &mut [u32],
+) -> RestRead
+    requires { ⌜ (now t ≡ classes) × (from ≤ length (now s)) × (length (now s) < placesEnd) × (256 ≤ length (now trailers)) ⌝ }
+    ensures { λ r. ⌜ Behind (now (s .entry)) from known body count total (now (trailers .entry)) (now (trailers .exit)) r ⌝ }
+{
+    let h = read_trailers(t, s, from, known, body, trailers);
+    match h {
+        TrailersRead::Refused { number, place } => return RestRead::Refused { number, place },
+        TrailersRead::Done { end, kept } => {
+            let z = check_padding(s, end);
+            match z {
+                Padding::Clean => return RestRead::Done {
+                    chunks: count,
+                    total,
+                    trailers: kept,
+                },
+                Padding::Bad { place } => return RestRead::Refused {
+                    number: Refusals::BAD_PADDING,
+                    place,
+                },
+            }
+        }
+    }
+}
+
+// What stands behind a header section that ends at `from`, to the end of the input: content as the head states it, trailers, padding.
+// `body` says whether the message may have content.
+pub fn after_headers(
+    t: &[u8; 256],
+    s: &[u8],
+    from: usize,
+    known: bool,
+    body: bool,
+    framing: Framing,
+    chunks: &mut [u32],
+    trailers: &mut [u32],
+) -> RestRead
+    requires { ⌜ (now t ≡ classes) × (from ≤ length (now s)) × (length (now s) < placesEnd) × (512 ≤ length (now chunks)) × (256 ≤ length (now trailers)) ⌝ }
+    ensures { λ r. ⌜ Rested (now (s .entry)) from known body framing (now (chunks .entry)) (now (chunks .exit)) (now (trailers .entry)) (now (trailers .exit)) r ⌝ }
+{
+    let c = read_content(s, from, known, chunks);
+    match c {
+        ContentRead::Refused { number, place } => return RestRead::Refused { number, place },
+        ContentRead::Done {
+            end,
+            chunks: count,
+            total,
+        } => {
+            if content_agrees(framing, body, total) {
+                return behind_content(t, s, end, known, body, count, total, trailers);
+            }
+            return RestRead::Refused {
+                number: Refusals::BAD_LENGTH,
+                place: end,
+            };
+        }
+    }
+}

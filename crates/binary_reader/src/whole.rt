@@ -1,0 +1,99 @@
+// Whole messages, the framing first.
+use crate::request::request_in;
+use crate::response::response_in;
+use messages::Outcome;
+use messages::Reading;
+use numbers::Integer;
+use numbers::read_int;
+use octets::Limits;
+use octets::Refusals;
+use octets::class_table;
+use ranges::reading;
+ghost use mathlib.Core.Path.{_≡_};
+ghost use Prim.Native.Nat.{_≤_, _<_};
+ghost use lib.ListN.{length, drop};
+ghost use Rattle.octets.specs.Table.{classes};
+ghost use Rattle.messages.specs.Answers.{readingOf};
+ghost use Rattle.binary.specs.Read.{readBinary, answerOf};
+ghost use Rattle.ranges.specs.Ranges.{placesEnd, Responded};
+ghost use Rattle.binary_reader.specs.Whole.{behindFraming};
+
+// The message behind its framing, which ends at `from`.
+fn framed_in(
+    t: &[u8; 256],
+    s: &[u8],
+    framing: usize,
+    from: usize,
+    headers: &mut [u32],
+    informational: &mut [u32],
+    chunks: &mut [u32],
+    trailers: &mut [u32],
+) -> Outcome
+    requires { ⌜ (now t ≡ classes) × (length (now s) < placesEnd) × (1280 ≤ length (now headers)) × (8 ≤ length (now informational)) × (512 ≤ length (now chunks)) × (256 ≤ length (now trailers)) ⌝ }
+    ensures { λ r. ⌜ Responded (answerOf (behindFraming framing from (drop from (now (s .entry))))) (now (headers .entry)) (now (headers .exit)) (now (informational .entry)) (now (informational .exit)) (now (chunks .entry)) (now (chunks .exit)) (now (trailers .entry)) (now (trailers .exit)) r ⌝ }
+{
+    if framing == 0 {
+        return request_in(t, s, from, true, headers, chunks, trailers);
+    }
+    if framing == 1 {
+        return response_in(t, s, from, true, headers, informational, chunks, trailers);
+    }
+    if framing == 2 {
+        return request_in(t, s, from, false, headers, chunks, trailers);
+    }
+    if framing == 3 {
+        return response_in(t, s, from, false, headers, informational, chunks, trailers);
+    }
+    Outcome::Refusal {
+        number: Refusals::BAD_FRAMING,
+        place: 0,
+    }
+}
+
+// The message that s is: its outcome, and the ranges of an accepted one in the lent space.
+pub fn binary_in(
+    t: &[u8; 256],
+    s: &[u8],
+    headers: &mut [u32],
+    informational: &mut [u32],
+    chunks: &mut [u32],
+    trailers: &mut [u32],
+) -> Outcome
+    requires { ⌜ (now t ≡ classes) × (1280 ≤ length (now headers)) × (8 ≤ length (now informational)) × (512 ≤ length (now chunks)) × (256 ≤ length (now trailers)) ⌝ }
+    ensures { λ r. ⌜ Responded (readBinary (now (s .entry))) (now (headers .entry)) (now (headers .exit)) (now (informational .entry)) (now (informational .exit)) (now (chunks .entry)) (now (chunks .exit)) (now (trailers .entry)) (now (trailers .exit)) r ⌝ }
+{
+    if s.len() <= Limits::BINARY {
+        let v = read_int(s, 0);
+        let Integer::Value { value, next } = v else {
+            return Outcome::Refusal {
+                number: Refusals::CUT_OFF,
+                place: 0,
+            };
+        };
+        return framed_in(t, s, value, next, headers, informational, chunks, trailers);
+    }
+    Outcome::Refusal {
+        number: Refusals::TOO_LARGE,
+        place: 0,
+    }
+}
+
+// A message of Binary HTTP: its answer by value.
+pub fn read_binary(input: &[u8]) -> Reading
+    ensures { λ r. ⌜ r ≡ readingOf (readBinary (now (input .entry))) ⌝ }
+{
+    let t = class_table();
+    let mut informational = [0u32; 8];
+    let mut headers = [0u32; 1280];
+    let mut chunks = [0u32; 512];
+    let mut trailers = [0u32; 256];
+    let o = binary_in(
+        &t,
+        input,
+        &mut headers,
+        &mut informational,
+        &mut chunks,
+        &mut trailers,
+    );
+    reading(o, informational, headers, trailers, chunks)
+}
