@@ -2,7 +2,8 @@
 //! `probe`: speaks the comparing protocol over the proved static library, through the C interface of include/ospirnar.h.
 //!
 //! Build: rustc -O -L native=target/staticlib -o target/compare/probe compare/probe.rs      (compare/build does it)
-//! Run:   target/compare/probe < commands > answers       (--each: each answer is written out before the next command is read)
+//! Run:   target/compare/probe < commands > answers       (--each: each answer is written out before the next command is read;
+//!                                                         --trips: turnings are read back instead, see `trip`)
 //!
 //! What it answers is built from the numbers the library left and from the input, and from nothing else. Beside the protocol's answers:
 //!
@@ -22,6 +23,11 @@ mod entries {
     extern "C" {
         pub fn ospirnar_read_request(input: *const u8, input_len: usize, scheme: u32, ranges: *mut u32, ranges_len: usize, place: *mut usize) -> u32;
         pub fn ospirnar_read_response(input: *const u8, input_len: usize, ranges: *mut u32, ranges_len: usize, place: *mut usize) -> u32;
+        pub fn ospirnar_read_binary(input: *const u8, input_len: usize, ranges: *mut u32, ranges_len: usize, place: *mut usize) -> u32;
+        pub fn ospirnar_request_to_binary(input: *const u8, input_len: usize, scheme: u32, out: *mut u8, out_len: usize, place: *mut usize) -> u32;
+        pub fn ospirnar_response_to_binary(input: *const u8, input_len: usize, out: *mut u8, out_len: usize, place: *mut usize) -> u32;
+        pub fn ospirnar_binary_to_binary(input: *const u8, input_len: usize, out: *mut u8, out_len: usize, place: *mut usize) -> u32;
+        pub fn ospirnar_binary_to_http1(input: *const u8, input_len: usize, scheme: u32, out: *mut u8, out_len: usize, place: *mut usize) -> u32;
         pub fn ospirnar_listing(input: *const u8, input_len: usize, output: *mut u8, output_len: usize, place: *mut usize) -> u32;
     }
 }
@@ -30,7 +36,7 @@ const RANGES_MOST: usize = 2070;
 const TOO_SMALL: Answer = Answer { number: 13, place: 0 };
 
 /// The number a call returned, and what it left in *place.
-#[derive(Clone, Copy, PartialEq)]
+#[derive(Clone, Copy, PartialEq, Debug)]
 struct Answer {
     number: u32,
     place: usize,
@@ -51,6 +57,31 @@ fn read_request(input: &[u8], scheme: u32, ranges: &mut Lent<u32>) -> Answer {
 fn read_response(input: &[u8], ranges: &mut Lent<u32>) -> Answer {
     let (pointer, room) = ranges.lend();
     ask(|place| unsafe { entries::ospirnar_read_response(input.as_ptr(), input.len(), pointer, room, place) })
+}
+
+fn read_binary(input: &[u8], ranges: &mut Lent<u32>) -> Answer {
+    let (pointer, room) = ranges.lend();
+    ask(|place| unsafe { entries::ospirnar_read_binary(input.as_ptr(), input.len(), pointer, room, place) })
+}
+
+fn request_to_binary(input: &[u8], scheme: u32, out: &mut Lent<u8>) -> Answer {
+    let (pointer, room) = out.lend();
+    ask(|place| unsafe { entries::ospirnar_request_to_binary(input.as_ptr(), input.len(), scheme, pointer, room, place) })
+}
+
+fn response_to_binary(input: &[u8], out: &mut Lent<u8>) -> Answer {
+    let (pointer, room) = out.lend();
+    ask(|place| unsafe { entries::ospirnar_response_to_binary(input.as_ptr(), input.len(), pointer, room, place) })
+}
+
+fn binary_to_binary(input: &[u8], out: &mut Lent<u8>) -> Answer {
+    let (pointer, room) = out.lend();
+    ask(|place| unsafe { entries::ospirnar_binary_to_binary(input.as_ptr(), input.len(), pointer, room, place) })
+}
+
+fn binary_to_http1(input: &[u8], scheme: u32, out: &mut Lent<u8>) -> Answer {
+    let (pointer, room) = out.lend();
+    ask(|place| unsafe { entries::ospirnar_binary_to_http1(input.as_ptr(), input.len(), scheme, pointer, room, place) })
 }
 
 fn listing(input: &[u8], output: &mut Lent<u8>) -> Answer {
@@ -377,7 +408,6 @@ fn write_text(room: usize, call: impl Fn(&mut Lent<u8>) -> Answer) -> Result<Str
 }
 
 /// For the turnings.
-#[allow(dead_code)]
 fn write_hex(room: usize, call: impl Fn(&mut Lent<u8>) -> Answer) -> Result<String, &'static str> {
     let octets = match write(room, call)? {
         Ok(octets) => octets,
@@ -387,6 +417,140 @@ fn write_hex(room: usize, call: impl Fn(&mut Lent<u8>) -> Answer) -> Result<Stri
     hex(&mut out, octets);
     out.push('}');
     Ok(out)
+}
+
+/// Calls of bin2h1 one behind the other in one space, and what the request reader takes off then, with `tail` behind.
+fn stream(told: u32, room: usize, tail: &[u8], inputs: &[Vec<u8>]) -> Result<String, &'static str> {
+    let mut space = output(room);
+    let mut written = 0;
+    let mut out = String::from("{\"calls\":");
+    let mut calls = Vec::new();
+    for input in inputs {
+        let before = space.all.clone();
+        let (pointer, left) = (space.all[written..].as_mut_ptr(), room - written);
+        let answer = ask(|place| unsafe { entries::ospirnar_binary_to_http1(input.as_ptr(), input.len(), told, pointer, left, place) });
+        let used = if answer.number == 0 { answer.place } else { 0 };
+        if used > left {
+            return Err("range");
+        }
+        if space.all[..written] != before[..written] || space.all[written + used..] != before[written + used..] {
+            return Err("altered");
+        }
+        written += used;
+        calls.push(answer);
+    }
+    list(&mut out, &calls, |out, answer| match answer.number {
+        0 => out.push_str(&format!("{{\"len\":{},\"n\":0}}", answer.place)),
+        _ => out.push_str(&refused(*answer)),
+    });
+    let mut octets = space.all[..written].to_vec();
+    octets.extend_from_slice(tail);
+    let (mut at, mut taken) = (0, Vec::new());
+    let end = loop {
+        let mut lent = ranges(RANGES_MOST);
+        let answer = read_request(&octets[at..], told, &mut lent);
+        if answer.number != 0 {
+            break answer;
+        }
+        if answer.place == 0 || answer.place > octets.len() - at {
+            return Err("range");
+        }
+        let (m, _) = message(&lent.all[..RANGES_MOST], octets.len() - at)?;
+        let mut text = format!("[{},", answer.place);
+        meaning(&mut text, &octets[at..], &m);
+        text.push(']');
+        taken.push(text);
+        at += answer.place;
+    };
+    out.push_str(&format!(",\"end\":{},\"out\":", refused(end)));
+    hex(&mut out, octets[..written].iter().copied());
+    out.push_str(&format!(",\"rest\":{},\"taken\":", octets.len() - at));
+    list(&mut out, &taken, |out, text| out.push_str(text));
+    out.push('}');
+    Ok(out)
+}
+
+// ---------------------------------------------------------------------------------------- round trips
+
+/// The meaning that a reader's answer has in it.
+fn meaning_of(answer: &str) -> Option<&str> {
+    let from = answer.find("\"m\":")? + 4;
+    let to = answer.find(",\"n\":0,\"r\":")?;
+    answer.get(from..to)
+}
+
+/// `--trips`: each turning that is accepted is read again by the reader of its form; the meaning is that of the input, and in HTTP/1.1
+/// the length is what was written, with octets behind it too. Other commands are passed over.
+fn trip(line: &[u8]) -> Option<Result<(), &'static str>> {
+    let words: Vec<&[u8]> = line.split(|&b| b == b' ').collect();
+    let (told, space, input) = match (words[0], &words[1..]) {
+        (b"h1req2bin" | b"bin2h1", [told, space, input]) => (scheme(told)?, room(space)?, octets(input)?),
+        (b"h1resp2bin" | b"bin2bin", [space, input]) => (0, room(space)?, octets(input)?),
+        _ => return None,
+    };
+    let turn = |out: &mut Lent<u8>| match words[0] {
+        b"h1req2bin" => request_to_binary(&input, told, out),
+        b"h1resp2bin" => response_to_binary(&input, out),
+        b"bin2h1" => binary_to_http1(&input, told, out),
+        _ => binary_to_binary(&input, out),
+    };
+    let source = |ranges: &mut Lent<u32>| match words[0] {
+        b"h1req2bin" => read_request(&input, told, ranges),
+        b"h1resp2bin" => read_response(&input, ranges),
+        _ => read_binary(&input, ranges),
+    };
+    let written = match write(space, turn) {
+        Ok(Ok(written)) => written,
+        Ok(Err(_)) => return None,
+        Err(error) => return Some(Err(error)),
+    };
+    Some((|| {
+        let before = read(&input, source)?;
+        let before = meaning_of(&before).ok_or("the input is not accepted")?;
+        let mut behind = written.clone();
+        if words[0] == b"bin2h1" {
+            behind.extend_from_slice(b"POST / HTTP/1.1\r\n\x00");
+        }
+        let request = before.contains("\"k\":\"req\"");
+        for octets in [&written, &behind] {
+            let back = match (words[0], request) {
+                (b"bin2h1", true) => read(octets, |ranges| read_request(octets, told, ranges))?,
+                (b"bin2h1", false) => read(octets, |ranges| read_response(octets, ranges))?,
+                _ => read(octets, |ranges| read_binary(octets, ranges))?,
+            };
+            if !back.starts_with(&format!("{{\"len\":{},", written.len())) {
+                return Err("the length is another");
+            }
+            if meaning_of(&back) != Some(before) {
+                return Err("the meaning is another");
+            }
+        }
+        // written anew, Binary stays as it is
+        if words[0] != b"bin2h1" && write(written.len(), |out| binary_to_binary(&written, out))? != Ok(written.clone()) {
+            return Err("written anew it is another");
+        }
+        Ok(())
+    })())
+}
+
+/// The trips of all command lines: how many kept the meaning, and the last line as the gate wants it.
+fn trips() -> io::Result<bool> {
+    let (mut passed, mut failed) = (0u64, 0u64);
+    for line in io::stdin().lock().split(b'\n') {
+        let line = line?;
+        match trip(&line) {
+            Some(Ok(())) => passed += 1,
+            Some(Err(error)) => {
+                failed += 1;
+                if failed <= 10 {
+                    println!("FAILED: {error}: {}", String::from_utf8_lossy(&line[..line.len().min(400)]));
+                }
+            }
+            None => {}
+        }
+    }
+    println!("{passed} passed, {failed} failed");
+    Ok(failed == 0 && passed > 0)
 }
 
 // ---------------------------------------------------------------------------------------- the commands
@@ -450,24 +614,29 @@ fn command(line: &[u8]) -> Option<Result<String, &'static str>> {
             write_text(listing_room(&input), |output| listing(&input, output))
         }
         (b"bin", [input]) => {
-            octets(input)?;
-            NOT_BUILT
+            let input = octets(input)?;
+            read(&input, |ranges| read_binary(&input, ranges))
         }
         (b"h1req2bin", [told, space, input]) => {
-            (scheme(told)?, room(space)?, octets(input)?);
-            NOT_BUILT
+            let (told, space, input) = (scheme(told)?, room(space)?, octets(input)?);
+            write_hex(space, |out| request_to_binary(&input, told, out))
         }
         (b"h1resp2bin", [space, input]) => {
-            (room(space)?, octets(input)?);
-            NOT_BUILT
+            let (space, input) = (room(space)?, octets(input)?);
+            write_hex(space, |out| response_to_binary(&input, out))
         }
         (b"bin2h1", [told, space, input]) => {
-            (scheme(told)?, room(space)?, octets(input)?);
-            NOT_BUILT
+            let (told, space, input) = (scheme(told)?, room(space)?, octets(input)?);
+            write_hex(space, |out| binary_to_http1(&input, told, out))
         }
         (b"bin2bin", [space, input]) => {
-            (room(space)?, octets(input)?);
-            NOT_BUILT
+            let (space, input) = (room(space)?, octets(input)?);
+            write_hex(space, |out| binary_to_binary(&input, out))
+        }
+        (b"stream", [told, space, tail, inputs @ ..]) => {
+            let (told, space, tail) = (scheme(told)?, room(space)?, octets(tail)?);
+            let inputs = inputs.iter().map(|input| octets(input)).collect::<Option<Vec<_>>>()?;
+            stream(told, space, &tail, &inputs)
         }
         (b"field_h1req", [told, name, default, input]) => {
             (scheme(told)?, octets(name)?, octets(default)?, octets(input)?);
@@ -522,8 +691,11 @@ fn serve(each: bool) -> io::Result<()> {
 fn main() {
     let arguments: Vec<String> = std::env::args().skip(1).collect();
     let each = arguments == ["--each"];
+    if arguments == ["--trips"] {
+        std::process::exit(if trips().unwrap_or(false) { 0 } else { 1 });
+    }
     if !each && !arguments.is_empty() {
-        eprintln!("usage: probe [--each] < commands > answers");
+        eprintln!("usage: probe [--each | --trips] < commands > answers");
         std::process::exit(2);
     }
     if serve(each).is_err() {
