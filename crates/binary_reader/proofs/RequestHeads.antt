@@ -1,23 +1,21 @@
 -- The rules of a request's head, by what is noted of its lines.
 use Prim.Native.Nat.{ℕ, _+_, _≤_}
-use mathlib.Core.Path.{_≡_, refl, sym, ap, _∙_, subst}
+use mathlib.Core.Path.{_≡_, refl, ap, _∙_}
 use mathlib.Core.Bool.{Bool, true, false, cond}
-use mathlib.Core.List.{List, [], _∷_}
+use mathlib.Core.List.{List}
 use native.Mathlib.Omega.{arith}
 use lib.Dec.{eqb}
-use lib.ListN.{length, take, drop}
+use lib.ListN.{length}
 use Rattle.octets.specs.Refusals.{badHost, badLength}
 use Rattle.script.specs.Script.{Lies}
-use Rattle.script.specs.Do.{Piece, piece, Judged, good, wrong}
 use Rattle.script.proofs.Places.{lies-all, lies-from}
 use Rattle.messages.specs.Message.{FieldRead}
 use Rattle.messages.specs.Control.{isHost}
 use Rattle.messages.specs.Names.{linesOf}
-use Rattle.messages.specs.Notes.{notesOf, hostsFrom, partAt, isInside, hostAt, hostIn, isSameHost, givenIn, authorityNoted, AllLie, isClashing}
-use Rattle.messages.specs.Rules.{authorityIn, binaryFramingOf, mayState}
+use Rattle.messages.specs.Notes.{notesOf, hostsFrom, partAt, isInside, hostAt, hostIn, isSameHost, givenIn, authorityNoted, isClashing}
+use Rattle.messages.specs.Rules.{binaryFramingOf}
 use Rattle.messages.specs.declared.Authority.{Authority}
 use Rattle.messages.specs.declared.Authority.the-variants.{Found, Wrong}
-use Rattle.messages.specs.declared.Framing.{Framing}
 use Rattle.messages.specs.declared.Hosts.{Hosts}
 use Rattle.messages.specs.declared.Hosts.the-variants.{Nothing, One, Several}
 use Rattle.messages.specs.declared.Kind.the-variants as kind
@@ -28,7 +26,7 @@ use Rattle.messages.proofs.Lengths.{may-state, may-not-state}
 use Rattle.read_binary.specs.Control.{pieceOf}
 use Rattle.read_binary.specs.declared.Span.{Span}
 use Rattle.read_binary.proofs.Places.{part-length}
-use Rattle.binary_reader.specs.Requests.{bothRules, HeadJudged}
+use Rattle.binary_reader.specs.Requests.{HeadJudged}
 use Rattle.binary_reader.specs.declared.HeadAnswer.the-variants.{Good, Refused}
 
 -- ---- where the authority lies

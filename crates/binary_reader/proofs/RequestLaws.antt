@@ -1,27 +1,24 @@
 -- A request, stage by stage, as the code reads it.
 use Prim.Native.Nat.{ℕ, _+_, _≤_}
 use mathlib.Core.Path.{_≡_, refl, sym, ap, _∙_, subst}
-use mathlib.Core.Bool.{Bool, true, false, cond}
-use mathlib.Core.List.{List, [], _∷_, _++_}
+use mathlib.Core.Bool.{Bool, true, false}
+use mathlib.Core.List.{List, [], _∷_}
 use native.Mathlib.Omega.{arith}
-use lib.ListN.{length, take, drop}
-use Rattle.script.specs.Script.{Answer, accepted, refused}
+use lib.ListN.{length, drop}
 use Rattle.script.specs.Do.{Piece, piece, Judged, good, wrong}
-use Rattle.output.specs.Splice.{splice}
-use Rattle.messages.specs.Message.{FieldRead, Section, Start, requestStart, isResponse, Message}
+use Rattle.messages.specs.Message.{FieldRead, Section, requestStart, isResponse, Message}
 use Rattle.messages.specs.Names.{kept}
 use Rattle.messages.specs.Notes.{AllLie}
 use Rattle.messages.specs.Rules.{authorityIn, binaryFramingOf, mayState}
-use Rattle.messages.specs.Answers.{fieldsNumbers, informationalNumbers, informationalLines, informationalIn, partOf, recordOf}
+use Rattle.messages.specs.Answers.{informationalNumbers, informationalLines, informationalIn, partOf, recordOf}
 use Rattle.messages.specs.declared.Framing.{Framing}
 use Rattle.messages.specs.declared.Notes.{Notes}
 use Rattle.messages.specs.declared.Outcome.{Outcome}
 use Rattle.messages.specs.declared.Outcome.the-variants as outcome
 use Rattle.binary.specs.Reader.{Got, got, no, Reader, _>>=_, tell}
-use Rattle.binary.specs.Read.{RequestControl, requestControl, section, afterHeaders, requestMessage, answerOf}
+use Rattle.binary.specs.Read.{RequestControl, requestControl, section, afterHeaders, requestMessage}
 use Rattle.sound.specs.Placed.{Each}
 use Rattle.sound.proofs.Parts.{LineAt}
-use Rattle.ranges.specs.Ranges.{Responded}
 use Rattle.read_binary.specs.Control.{pieceOf}
 use Rattle.read_binary.specs.declared.Span.{Span}
 use Rattle.read_binary.proofs.Places.{part-length}
@@ -30,7 +27,7 @@ use Rattle.binary_reader.specs.Requests.{bothRules, HeadSays, HeadLies, 
 use Rattle.binary_reader.specs.declared.HeadAnswer.{HeadAnswer}
 use Rattle.binary_reader.specs.declared.HeadAnswer.the-variants as head
 use Rattle.binary_reader.specs.declared.RestRead.{RestRead}
-use Rattle.binary_reader.specs.Whole.{MessageSays, MessageIs}
+use Rattle.binary_reader.specs.Whole.{MessageSays}
 use Rattle.binary_reader.proofs.Answered.{message-as, message-no, answered-no, with-headers}
 use Rattle.binary_reader.proofs.SectionOutcomes.{SectionDone, behind-no, behind-got}
 

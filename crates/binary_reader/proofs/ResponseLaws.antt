@@ -1,12 +1,11 @@
 -- A response, behind its heads, as the code reads it.
-use Prim.Native.Nat.{ℕ, suc, _+_, _≤_}
+use Prim.Native.Nat.{ℕ, _≤_}
 use mathlib.Core.Path.{_≡_, refl, sym, ap, _∙_, subst}
-use mathlib.Core.Bool.{Bool, true, false, cond}
-use mathlib.Core.List.{List, [], _∷_, _++_}
-use native.Mathlib.Omega.{arith}
+use mathlib.Core.Bool.{Bool, true, false}
+use mathlib.Core.List.{List}
 use lib.ListN.{length, drop}
 use Rattle.octets.specs.Refusals.{badLength}
-use Rattle.script.specs.Do.{Judged, good, wrong}
+use Rattle.script.specs.Do.{good, wrong}
 use Rattle.messages.specs.Message.{FieldRead, Section, InformationalRead, responseStart, isResponse, Message}
 use Rattle.messages.specs.Control.{isBodyless}
 use Rattle.messages.specs.Names.{kept}
@@ -26,7 +25,7 @@ use Rattle.binary.specs.Read.{afterHeaders, answerOf}
 use Rattle.ranges.specs.Ranges.{Responded}
 use Rattle.binary_reader.specs.Heads.{behindFinal, HeadsFacts, HeadsSays, HeadsTaken}
 use Rattle.binary_reader.specs.Rest.{RestSays, Rested}
-use Rattle.binary_reader.specs.Whole.{MessageSays, MessageIs}
+use Rattle.binary_reader.specs.Whole.{MessageSays}
 use Rattle.binary_reader.specs.Responses.{FinalSays, FinalJudged, responseOutcome, FinalRead}
 use Rattle.binary_reader.specs.declared.FinalAnswer.{FinalAnswer}
 use Rattle.binary_reader.specs.declared.FinalAnswer.the-variants as final

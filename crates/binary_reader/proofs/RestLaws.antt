@@ -1,17 +1,12 @@
 -- What stands behind a header section, stage by stage, as the code reads it.
-use Prim.Native.Nat.{ℕ, _+_, _<_, _≤_}
-use mathlib.Core.Path.{_≡_, refl, sym, ap, _∙_, subst}
+use Prim.Native.Nat.{ℕ}
+use mathlib.Core.Path.{_≡_, refl, sym, _∙_, subst}
 use mathlib.Core.Bool.{Bool, true, false, cond}
-use mathlib.Core.List.{List, [], _∷_}
-use native.Mathlib.Omega.{arith}
+use mathlib.Core.List.{List}
 use lib.ListN.{length, drop}
 use Rattle.octets.specs.Refusals.{badLength, badPadding}
-use Rattle.script.specs.Do.{Piece, Judged, good, wrong}
-use Rattle.output.specs.Splice.{splice}
+use Rattle.script.specs.Do.{Piece, good, wrong}
 use Rattle.messages.specs.Message.{FieldRead, Section, Start, Message}
-use Rattle.messages.specs.Names.{keptTrailers}
-use Rattle.messages.specs.Meaning.{contentOf}
-use Rattle.messages.specs.Answers.{fieldsNumbers, chunksNumbers}
 use Rattle.messages.specs.declared.Framing.{Framing}
 use Rattle.binary.specs.Reader.{Got, got, no, _>>=_}
 use Rattle.binary.specs.Read.{content, contentRule, trailers, padding, afterHeaders}
@@ -20,14 +15,14 @@ use Rattle.read_binary.specs.declared.ContentRead.{ContentRead}
 use Rattle.read_binary.specs.declared.ContentRead.the-variants as content-is
 use Rattle.read_binary.specs.declared.Padding.{Padding}
 use Rattle.read_binary.specs.declared.Padding.the-variants as padding-is
-use Rattle.read_binary.proofs.Contents.{rule-agrees, content-no, ContentDone, content-done}
-use Rattle.read_binary.proofs.PaddingLaws.{PaddingDone, padding-bad, padding-clean}
+use Rattle.read_binary.proofs.Contents.{rule-agrees, content-no, content-done}
+use Rattle.read_binary.proofs.PaddingLaws.{padding-bad, padding-clean}
 use Rattle.binary_reader.specs.Rest.{Trailed, behindContent, RestIs, Behind, Rested}
 use Rattle.binary_reader.specs.declared.TrailersRead.{TrailersRead}
 use Rattle.binary_reader.specs.declared.TrailersRead.the-variants as trailers-are
 use Rattle.binary_reader.specs.declared.RestRead.{RestRead}
 use Rattle.binary_reader.specs.declared.RestRead.the-variants.{Done, Refused}
-use Rattle.binary_reader.proofs.Trailing.{trailed-refused, TrailersDone, trailed-done}
+use Rattle.binary_reader.proofs.Trailing.{trailed-refused, trailed-done}
 
 -- an answer that equals another promises the same
 rest-as : {s : List ℕ} {start : Start} {lines : List FieldRead} {x y : Got Message} {cs cs′ ts ts′ : List ℕ} {r : RestRead} → x ≡ y

@@ -1,5 +1,5 @@
 -- Trailers that were read, by their rule.
-use Prim.Native.Nat.{ℕ, _+_, _-_, _*_, _<_, _≤_}
+use Prim.Native.Nat.{ℕ, _-_, _<_, _≤_}
 use mathlib.Core.Path.{_≡_, refl, sym, ap, _∙_, subst}
 use mathlib.Core.Bool.{Bool, true, false, cond, _||_}
 use mathlib.Core.List.{List, [], _∷_}
@@ -13,7 +13,6 @@ use Rattle.script.specs.Do.{Judged, good, wrong}
 use Rattle.output.specs.Splice.{splice}
 use Rattle.messages.specs.Message.{FieldRead, Section}
 use Rattle.messages.specs.Names.{areTrailers, kept, keptTrailers}
-use Rattle.messages.specs.Notes.{notesOf}
 use Rattle.messages.specs.Answers.{fieldsNumbers}
 use Rattle.messages.specs.declared.Notes.{Notes}
 use Rattle.messages.proofs.Noting.{trailers-noted}
@@ -25,7 +24,7 @@ use Rattle.read_binary.specs.declared.Section.the-variants as section-is
 use Rattle.binary_reader.specs.Rest.{trailersAgree, TrailersSays, Trailed}
 use Rattle.binary_reader.specs.declared.TrailersRead.{TrailersRead}
 use Rattle.binary_reader.specs.declared.TrailersRead.the-variants.{Done, Refused}
-use Rattle.binary_reader.proofs.SectionOutcomes.{SectionDone, section-no, section-done}
+use Rattle.binary_reader.proofs.SectionOutcomes.{section-no, section-done}
 
 trailed-as : {s : List ℕ} {x y : Got (List FieldRead)} {o o′ : List ℕ} {r : TrailersRead} → x ≡ y → TrailersSays s y o o′ r → Trailed s x o o′ r
 trailed-as {s} {o = o} {o′ = o′} {r = r} e h = record { says = subst (λ (z : Got (List FieldRead)). TrailersSays s z o o′ r) (sym e) h }

@@ -1,7 +1,7 @@
 -- A message, from its framing on, and its answer by value.
 use Prim.Native.Nat.{ℕ, suc, _≤_, _<_}
-use mathlib.Core.Path.{_≡_, refl, sym, ap, _∙_, subst}
-use mathlib.Core.Bool.{Bool, true, false, cond}
+use mathlib.Core.Path.{_≡_, refl, sym, ap, subst}
+use mathlib.Core.Bool.{true, false}
 use mathlib.Core.List.{List, []}
 use native.Mathlib.Omega.{arith}
 use borrow.Author.Tests.{le-leb, lt-leb}
@@ -16,7 +16,7 @@ use Rattle.messages.specs.Message.{Message}
 use Rattle.messages.specs.Answers.{readingOf}
 use Rattle.messages.specs.declared.Outcome.{Outcome}
 use Rattle.messages.specs.declared.Outcome.the-variants as outcome
-use Rattle.binary.specs.Reader.{Got, got, no, _>>=_}
+use Rattle.binary.specs.Reader.{no, _>>=_}
 use Rattle.binary.specs.Read.{requestMessage, responseMessage, message, answerOf, readBinary}
 use Rattle.binary_sound.proofs.Sound.{binary-sound}
 use Rattle.ranges.specs.Ranges.{Responded, readingFrom}

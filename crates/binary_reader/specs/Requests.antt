@@ -50,9 +50,11 @@ pub record HeadJudged (s : List ℕ) (authority : Span) (end : ℕ) (notes : Not
 
 -- ---- the outcome
 
+-- a part by its place and its length
 abbrev pub partAt : ℕ → ℕ → Part
 partAt a n = record { start = a; len = n }
 
+-- the part that a span names
 abbrev pub partIs : Span → Part
 partIs a = partAt (a .start) (a .len)
 

@@ -4,14 +4,14 @@ use mathlib.Core.Path.{_≡_}
 use mathlib.Core.Bool.{Bool, true}
 use mathlib.Core.List.{List}
 use lib.ListN.{drop}
-use Rattle.messages.specs.Message.{Section, InformationalRead, responseStart, Message}
+use Rattle.messages.specs.Message.{Section, InformationalRead, responseStart}
 use Rattle.messages.specs.Rules.{binaryFramingOf}
 use Rattle.messages.specs.Answers.{noPart}
 use Rattle.messages.specs.declared.Framing.{Framing}
 use Rattle.messages.specs.declared.Notes.{Notes}
 use Rattle.messages.specs.declared.Outcome.{Outcome}
 use Rattle.messages.specs.declared.Outcome.the-variants as outcome
-use Rattle.binary.specs.Reader.{Got, no}
+use Rattle.binary.specs.Reader.{no}
 use Rattle.binary.specs.Read.{afterHeaders}
 use Rattle.binary_reader.specs.Heads.{behindFinal, HeadsFacts}
 use Rattle.binary_reader.specs.Whole.{MessageIs}
