@@ -6,6 +6,7 @@ use mathlib.Core.Bool.{Bool, true, false, cond}
 use native.Mathlib.Omega.{arith}
 use borrow.Author.Tests.{eq-eqb, ne-eqb, le-leb, lt-leb}
 use lib.ListN.{length, take, drop}
+use Rattle.ranges.specs.Ranges.{AnyHeads, FewHeads, SoManyHeads}
 use Rattle.octets.specs.Limits.{informationalMost}
 use Rattle.octets.specs.Refusals.{tooLarge, cutOff}
 use Rattle.numbers.specs.Integer.{readInt}
@@ -26,7 +27,7 @@ use Rattle.read_binary.specs.Section.{Sectioned}
 use Rattle.read_binary.specs.declared.Section as answer
 use Rattle.read_binary.specs.declared.Section.the-variants as section-read
 use Rattle.read_binary.proofs.Places.{integer-cut, integer-got}
-use Rattle.binary_reader.specs.Heads.{informationalRead, behindInformational, behindFinal, informationalRest, finalRest, FinalStatus, HeadStored, AnyHeads, FewHeads, SoManyHeads, HeadSays, Headed}
+use Rattle.binary_reader.specs.Heads.{informationalRead, behindInformational, behindFinal, informationalRest, finalRest, FinalStatus, HeadStored, HeadSays, Headed}
 use Rattle.binary_reader.specs.declared.HeadRead.{HeadRead}
 use Rattle.binary_reader.specs.declared.HeadRead.the-variants as head
 use Rattle.binary_reader.proofs.SectionOutcomes.{SectionDone, section-no, section-done, behind-no, behind-got}

@@ -5,6 +5,7 @@ use mathlib.Core.List.{List, [], _∷_, _++_}
 use mathlib.Core.Bool.{Bool, true, false}
 use native.Mathlib.Omega.{arith}
 use lib.ListN.{length, drop, length-append}
+use Rattle.ranges.specs.Ranges.{SoManyHeads}
 use Rattle.octets.specs.Limits.{linesMost, informationalMost}
 use Rattle.output.specs.Splice.{splice}
 use Rattle.messages.specs.Message.{InformationalRead, Section, Message}
@@ -15,7 +16,7 @@ use Rattle.messages.proofs.Noting.{kept-few}
 use Rattle.ranges.proofs.HeadsStored.{lines-snoc, fields-more, numbers-more}
 use Rattle.binary.specs.Reader.{Got}
 use Rattle.binary.specs.Read.{responseMessage}
-use Rattle.binary_reader.specs.Heads.{informationalRead, HeadStored, SoManyHeads, HeadSays, Headed, HeadsTaken}
+use Rattle.binary_reader.specs.Heads.{informationalRead, HeadStored, HeadSays, Headed, HeadsTaken}
 use Rattle.binary_reader.specs.declared.HeadRead.{HeadRead}
 use Rattle.binary_reader.specs.declared.HeadRead.the-variants as head
 use Rattle.binary_reader.specs.declared.HeadsRead.the-variants as heads-read

@@ -4,6 +4,7 @@ use mathlib.Core.Path.{_≡_}
 use mathlib.Core.Bool.{Bool, true, false, cond}
 use mathlib.Core.List.{List, [], _∷_, _++_}
 use lib.ListN.{length, drop}
+use Rattle.ranges.specs.Ranges.{FewHeads}
 use Rattle.octets.specs.Limits.{linesMost, informationalMost}
 use Rattle.output.specs.Splice.{splice}
 use Rattle.messages.specs.Message.{InformationalRead, Section, responseStart, Message}
@@ -68,18 +69,6 @@ pub record HeadStored (s : List ℕ) (base : ℕ) (hs hs′ : List ℕ) (e k : �
   pub few : length (h .lines) ≤ linesMost
   pub count : base + length (kept true (h .lines)) ≡ k
   pub stored : hs′ ≡ splice hs (base * 4) (fieldsNumbers (kept true (h .lines)))
-
--- any informational heads
-abbrev pub AnyHeads : List InformationalRead → Type 0
-AnyHeads is = Unit {0}
-
--- fewer informational heads than there may be
-abbrev pub FewHeads : List InformationalRead → Type 0
-FewHeads is = length is < informationalMost
-
--- so many informational heads
-abbrev pub SoManyHeads : ℕ → List InformationalRead → Type 0
-SoManyHeads n is = length is ≡ n
 
 -- a head that was read behind the informational heads `is`, where the reader answers x
 abbrev pub HeadSays : Got Message → Bool → ℕ → List InformationalRead → List ℕ → ℕ → List ℕ → List ℕ → HeadRead → Type 0

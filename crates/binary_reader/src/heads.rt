@@ -16,11 +16,12 @@ ghost use mathlib.Core.Path.{_≡_};
 ghost use mathlib.Core.List.{[]};
 ghost use Prim.Native.Nat.{suc, _+_, _*_, _≤_, _<_};
 ghost use lib.ListN.{length, drop};
+ghost use Rattle.ranges.specs.Ranges.{AnyHeads, FewHeads, SoManyHeads};
 ghost use Rattle.octets.specs.Table.{classes};
 ghost use Rattle.octets.specs.Limits.{informationalMost};
 ghost use Rattle.ranges.specs.Ranges.{placesEnd};
 ghost use Rattle.binary.specs.Read.{responseMessage};
-ghost use Rattle.binary_reader.specs.Heads.{informationalRest, finalRest, FinalStatus, AnyHeads, FewHeads, SoManyHeads, Headed, HeadsTaken};
+ghost use Rattle.binary_reader.specs.Heads.{informationalRest, finalRest, FinalStatus, Headed, HeadsTaken};
 
 // The section of an informational head, behind its status that ends at `next`.
 fn informational_head(

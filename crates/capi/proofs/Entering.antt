@@ -11,7 +11,8 @@ use Rattle.messages.specs.Names.{kept, keptTrailers}
 use Rattle.messages.specs.Answers.{fieldsNumbers, chunksNumbers, informationalNumbers, informationalLines, informationalIn, padded, recordOf}
 use Rattle.messages.specs.declared.Record.{Record}
 use Rattle.ranges.proofs.Stored.{numbers-length}
-use Rattle.ranges.proofs.Outcomes.{Given, front-part, chunks-size, record-length, record-chunks, record-trailers}
+use Rattle.ranges.proofs.Outcomes.{Given, front-part, record-length, record-chunks, record-trailers}
+use Rattle.ranges.proofs.Stored.{chunks-length}
 use Rattle.capi.specs.Entries.{recordNumbers, entryNumbers, Entered, Numbered}
 
 -- an accepted message, given by its numbers
@@ -30,7 +31,7 @@ module _ {x : Answer Message} {hs hs′ cs cs′ ts ts′ : List ℕ} {r : Recor
       let kc : r .chunks ≡ length (g .message .chunks) = ap (λ (q : Record). q .chunks) (g .numbers) ∙ record-chunks (g .long) (g .message) in
       let kt : r .trailers ≡ length (keptTrailers (g .message .trailers)) = ap (λ (q : Record). q .trailers) (g .numbers) ∙ record-trailers (g .long) (g .message) in
       let b : part cs′ 0 (r .chunks * 2) ≡ chunksNumbers (g .message .chunks) =
-      rw (g .pieces) (front-part cs (chunksNumbers (g .message .chunks)) (r .chunks * 2) (chunks-size (g .message .chunks) ∙ ap (λ (k : ℕ). k * 2) (sym kc)) hc) in
+      rw (g .pieces) (front-part cs (chunksNumbers (g .message .chunks)) (r .chunks * 2) (chunks-length (g .message .chunks) ∙ ap (λ (k : ℕ). k * 2) (sym kc)) hc) in
       let c : part ts′ 0 (r .trailers * 4) ≡ fieldsNumbers (keptTrailers (g .message .trailers)) =
       rw (g .trailers) (front-part ts (fieldsNumbers (keptTrailers (g .message .trailers))) (r .trailers * 4) (numbers-length (keptTrailers (g .message .trailers)) ∙ ap (λ (k : ℕ). k * 4) (sym kt)) ht) in
       let l : r .length ≡ g .long = ap (λ (q : Record). q .length) (g .numbers) ∙ record-length (g .long) (g .message) in

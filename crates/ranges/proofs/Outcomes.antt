@@ -24,7 +24,7 @@ use Rattle.messages.proofs.Valid.{meaning-ok}
 use Rattle.sound.specs.Placed.{Each}
 use Rattle.sound.specs.Sound.{Sound, GoodHeads, GoodSection}
 use Rattle.ranges.specs.Ranges.{headNumbers, trailerNumbers, OutcomeSays, Outcomed, InformationalSays, Responded, SmallRecord, Begins, Held}
-use Rattle.ranges.proofs.Stored.{numbers-length}
+use Rattle.ranges.proofs.Stored.{numbers-length, chunks-length}
 
 -- what was stored at the front is what is taken from there
 pub front-part : (o l : List ℕ) (n : ℕ) → length l ≡ n → n ≤ length o → part (splice o 0 l) 0 n ≡ l
@@ -81,11 +81,6 @@ pub response-outcomed : {x : Answer Message} {hs hs′ ns ns′ cs cs′ ts ts�
 response-outcomed h = record { says = h .says }
 
 -- ---- counts
-
-pub chunks-size : (cs : List Piece) → length (chunksNumbers cs) ≡ length cs * 2
-unfolding chunksNumbers
-chunks-size [] = refl
-chunks-size (c ∷ cs) = omega (arith, chunks-size cs)
 
 pub record-length : (n : ℕ) (m : Message) → recordOf n m .length ≡ n
 unfolding recordOf
@@ -186,7 +181,7 @@ module _ {s : List ℕ} {m : Message} (h : Sound s m) where
       go (responseStart hs c) g = omega (arith, heads-size hs, g .1)
 
   pub chunks-small : length (chunksNumbers (m .chunks)) ≤ 512
-  chunks-small = omega (arith, chunks-size (m .chunks), h .chunks .few)
+  chunks-small = omega (arith, chunks-length (m .chunks), h .chunks .few)
 
   pub trailers-small : length (trailerNumbers m) ≤ 256
   unfolding keptTrailers

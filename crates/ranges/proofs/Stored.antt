@@ -7,9 +7,10 @@ use native.Mathlib.Omega.{arith}
 use lib.ListN.{length, length-append}
 use Rattle.output.specs.Splice.{splice}
 use Rattle.output.proofs.Laws.{splice-append}
+use Rattle.script.specs.Do.{Piece}
 use Rattle.messages.specs.Message.{FieldRead}
 use Rattle.messages.specs.Names.{kept, travels, lineKind}
-use Rattle.messages.specs.Answers.{fieldsNumbers}
+use Rattle.messages.specs.Answers.{fieldsNumbers, chunksNumbers}
 
 pub kept-append : (host : Bool) (a b : List FieldRead) → kept host (a ++ b) ≡ kept host a ++ kept host b
 unfolding kept
@@ -42,3 +43,23 @@ stored-next host o₀ b fs gs {o} {o′} {k} e q h =
 pub count-next : (host : Bool) (b : ℕ) (fs gs : List FieldRead) {k : ℕ} → k ≡ b + length (kept host fs)
     → k + length (kept host gs) ≡ b + length (kept host (fs ++ gs))
 count-next host b fs gs {k} q = rw (kept-append host fs gs) (omega (arith, q, length-append (kept host fs) (kept host gs)))
+
+-- ---- chunks
+
+pub chunks-append : (a b : List Piece) → chunksNumbers (a ++ b) ≡ chunksNumbers a ++ chunksNumbers b
+unfolding chunksNumbers
+chunks-append [] b = refl
+chunks-append (p ∷ a) b = rw (chunks-append a b)
+
+pub chunks-length : (a : List Piece) → length (chunksNumbers a) ≡ length a * 2
+unfolding chunksNumbers
+chunks-length [] = refl
+chunks-length (p ∷ a) = omega (arith, chunks-length a)
+
+-- one chunk behind others
+pub chunk-next : (c : Piece) (cs : List Piece) (o₀ : List ℕ) {o o′ : List ℕ} {k n : ℕ} → length (c .text) ≡ n → length cs ≡ k → o ≡ splice o₀ 0 (chunksNumbers cs)
+    → o′ ≡ splice o (k * 2) (c .place ∷ n ∷ []) → o′ ≡ splice o₀ 0 (chunksNumbers (cs ++ c ∷ []))
+unfolding chunksNumbers
+chunk-next c cs o₀ {o} {o′} {k} {n} l h e q =
+    let z : k * 2 ≡ 0 + length (chunksNumbers cs) = omega (arith, chunks-length cs, h) in
+    q ∙ rw (e, z, splice-append o₀ 0 (chunksNumbers cs) (c .place ∷ n ∷ []), chunks-append cs (c ∷ []), l)

@@ -1,6 +1,6 @@
 -- The ranges of a message in lent arrays of numbers (01, "The two forms and the meaning between them": ranges name control data, fields and content
 -- chunks): what a reader leaves there, and what a writer finds there.
-use Prim.Native.Nat.{ℕ, _+_, _*_, _≤_}
+use Prim.Native.Nat.{ℕ, _+_, _*_, _≤_, _<_}
 use mathlib.Core.Path.{_≡_}
 use mathlib.Core.Bool.{Bool, true, false, cond}
 use mathlib.Core.List.{List, [], _∷_, _++_}
@@ -8,7 +8,7 @@ use lib.ListN.{length}
 use Rattle.octets.specs.Limits.{linesMost, chunksMost, contentMost, informationalMost}
 use Rattle.script.specs.Script.{Answer, accepted, refused, more}
 use Rattle.output.specs.Splice.{splice}
-use Rattle.messages.specs.Message.{FieldRead, isResponse, Message}
+use Rattle.messages.specs.Message.{FieldRead, InformationalRead, isResponse, Message}
 use Rattle.messages.specs.Names.{kept, keptTrailers}
 use Rattle.messages.specs.Answers.{fieldsNumbers, chunksNumbers, informationalNumbers, informationalLines, informationalIn, recordOf, readingOf}
 use Rattle.messages.specs.declared.Outcome.{Outcome}
@@ -52,6 +52,16 @@ abbrev pub InformationalSays : Answer Message → List ℕ → List ℕ → Type
 InformationalSays (accepted n m) ns ns′ = ns′ ≡ splice ns 0 (informationalNumbers (informationalIn (m .start)))
 InformationalSays (refused k p) ns ns′ = Unit {0}
 InformationalSays more ns ns′ = Unit {0}
+
+-- any informational heads, fewer than there may be, or so many
+abbrev pub AnyHeads : List InformationalRead → Type 0
+AnyHeads is = Unit {0}
+
+abbrev pub FewHeads : List InformationalRead → Type 0
+FewHeads is = length is < informationalMost
+
+abbrev pub SoManyHeads : ℕ → List InformationalRead → Type 0
+SoManyHeads n is = length is ≡ n
 
 -- an answer, and the ranges of an accepted message that may be a response, in the lent space
 pub record Responded (x : Answer Message) (hs hs′ ns ns′ cs cs′ ts ts′ : List ℕ) (r : Outcome) : Type 0 where

@@ -12,6 +12,7 @@ use Rattle.octets.specs.Refusals.{badLength}
 use Rattle.octets.specs.Text.{isEmpty}
 use Rattle.script.specs.Do.{Piece, piece, Judged, good, wrong}
 use Rattle.output.specs.Splice.{splice}
+use Rattle.ranges.proofs.Stored.{chunk-next}
 use Rattle.output.proofs.Laws.{splice-append}
 use Rattle.messages.specs.Meaning.{contentOf}
 use Rattle.messages.specs.Answers.{chunksNumbers}
@@ -68,16 +69,6 @@ module _ {s : List ℕ} {at count total : ℕ} {r : ChunkRead} (h : Chunked s at
         → x ≡ openChunks (suc (chunksMost - (count + 1))) (cs ++ piece start (take len (drop start s)) ∷ []) (total + len) (start + len) (drop (start + len) s)
     next-said e = let f : chunksMost - count ≡ suc (chunksMost - (count + 1)) = omega (arith, chunk-bounds e) in rw (← f) (said e)
 
-numbers-append : (a b : List Piece) → chunksNumbers (a ++ b) ≡ chunksNumbers a ++ chunksNumbers b
-unfolding chunksNumbers
-numbers-append [] b = refl
-numbers-append (p ∷ a) b = rw (numbers-append a b)
-
-numbers-length : (a : List Piece) → length (chunksNumbers a) ≡ length a * 2
-unfolding chunksNumbers
-numbers-length [] = refl
-numbers-length (p ∷ a) = omega (arith, numbers-length a)
-
 -- one chunk more
 module _ (s : List ℕ) (start len : ℕ) (within : start + len ≤ length s) where
   pub content-next : (cs : List Piece) {total : ℕ} → length (contentOf cs) ≡ total
@@ -86,10 +77,7 @@ module _ (s : List ℕ) (start len : ℕ) (within : start + len ≤ length s) wh
 
   pub chunk-stored : (cs : List Piece) (o₀ : List ℕ) {o o′ : List ℕ} {k : ℕ} → length cs ≡ k → o ≡ splice o₀ 0 (chunksNumbers cs)
       → o′ ≡ splice o (k * 2) (start ∷ len ∷ []) → o′ ≡ splice o₀ 0 (chunksNumbers (cs ++ piece start (take len (drop start s)) ∷ []))
-  unfolding chunksNumbers
-  chunk-stored cs o₀ {o} {o′} {k} c e q =
-      let z : k * 2 ≡ 0 + length (chunksNumbers cs) = omega (arith, numbers-length cs, c) in
-      q ∙ rw (e, z, splice-append o₀ 0 (chunksNumbers cs) (start ∷ len ∷ []), numbers-append cs (piece start (take len (drop start s)) ∷ []), part-length s start len within)
+  chunk-stored cs o₀ c e q = chunk-next (piece start (take len (drop start s))) cs o₀ (part-length s start len within) c e q
 
 -- ---- content of known length
 

@@ -15,6 +15,7 @@ use Rattle.script.specs.Do.{_>>=_, andThen, Piece, piece}
 use Rattle.script.proofs.Laws.{run-done, run-stop}
 use Rattle.script.proofs.Places.{run-bind, octets-more, octets-in}
 use Rattle.output.specs.Splice.{splice}
+use Rattle.ranges.proofs.Stored.{chunk-next}
 use Rattle.output.proofs.Laws.{splice-append, splice-length}
 use Rattle.messages.specs.Names.{areTrailers, kept, keptTrailers}
 use Rattle.messages.specs.Meaning.{contentOf}
@@ -124,16 +125,6 @@ unfolding contentOf
 content-append [] b = omega arith
 content-append (p ∷ a) b = omega (arith, content-append a b, length-append (p .text) (contentOf (a ++ b)), length-append (p .text) (contentOf a))
 
-numbers-append : (a b : List Piece) → chunksNumbers (a ++ b) ≡ chunksNumbers a ++ chunksNumbers b
-unfolding chunksNumbers
-numbers-append [] b = refl
-numbers-append (p ∷ a) b = rw (numbers-append a b)
-
-numbers-length : (a : List Piece) → length (chunksNumbers a) ≡ length a * 2
-unfolding chunksNumbers
-numbers-length [] = refl
-numbers-length (p ∷ a) = omega (arith, numbers-length a)
-
 -- one chunk more
 module _ (s : List ℕ) (start len : ℕ) (within : start + (len + 2) ≤ length s) where
   long : length (take len (drop start s)) ≡ len
@@ -147,10 +138,7 @@ module _ (s : List ℕ) (start len : ℕ) (within : start + (len + 2) ≤ length
 
   pub chunk-stored : (cs : List Piece) (o₀ : List ℕ) {o o′ : List ℕ} {k : ℕ} → length cs ≡ k → o ≡ splice o₀ 0 (chunksNumbers cs)
       → o′ ≡ splice o (k * 2) (start ∷ len ∷ []) → o′ ≡ splice o₀ 0 (chunksNumbers (cs ++ piece start (take len (drop start s)) ∷ []))
-  unfolding chunksNumbers
-  chunk-stored cs o₀ {o} {o′} {k} c e q =
-      let z : k * 2 ≡ 0 + length (chunksNumbers cs) = omega (arith, numbers-length cs, c) in
-      q ∙ rw (e, z, splice-append o₀ 0 (chunksNumbers cs) (start ∷ len ∷ []), numbers-append cs (piece start (take len (drop start s)) ∷ []), long)
+  chunk-stored cs o₀ c e q = chunk-next (piece start (take len (drop start s))) cs o₀ long c e q
 
 -- ---- content by its length
 

@@ -7,6 +7,7 @@ use native.Mathlib.Omega.{arith}
 use lib.ListN.{length, take, drop, length-drop}
 use lib.Seq.{length-take-le}
 use borrow.Author.Tests.{le-leb, lt-leb}
+use Rattle.ranges.specs.Ranges.{AnyHeads, FewHeads, SoManyHeads}
 use Rattle.octets.specs.Limits.{headMost, linesMost, informationalMost}
 use Rattle.octets.specs.Refusals.{badSyntax, tooLarge}
 use Rattle.script.specs.Script.{Answer, accepted, refused, more, Script, done, stop, need, run, lineOf}
@@ -32,7 +33,7 @@ use Rattle.read_http1.specs.declared.Section.{Section}
 use Rattle.read_http1.specs.declared.Section.the-variants as section-read
 use Rattle.readers.proofs.Facts.{Ended, SectionFacts, section-facts}
 use Rattle.readers.proofs.Outcomes.{SectionDone, sectioned-more, sectioned-refused, sectioned-done, behind-more, behind-refused, behind-done}
-use Rattle.readers.specs.Responses.{informationalRead, afterInformational, informationalRest, finalRest, HeadStored, AnyHeads, FewHeads, SoManyHeads, HeadSays, Headed}
+use Rattle.readers.specs.Responses.{informationalRead, afterInformational, informationalRest, finalRest, HeadStored, HeadSays, Headed}
 use Rattle.readers.specs.declared.HeadRead.{HeadRead}
 use Rattle.readers.specs.declared.HeadRead.the-variants as head
 

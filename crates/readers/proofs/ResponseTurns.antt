@@ -5,6 +5,7 @@ use mathlib.Core.List.{List, [], _∷_, _++_}
 use mathlib.Core.Bool.{Bool, true, false}
 use native.Mathlib.Omega.{arith}
 use lib.ListN.{length, drop, length-append}
+use Rattle.ranges.specs.Ranges.{SoManyHeads}
 use Rattle.octets.specs.Limits.{headMost, linesMost, informationalMost}
 use Rattle.script.specs.Script.{Answer, accepted, refused, more, run}
 use Rattle.output.specs.Splice.{splice}
@@ -15,7 +16,7 @@ use Rattle.messages.specs.declared.Notes.{Notes}
 use Rattle.messages.proofs.Noting.{kept-few}
 use Rattle.http1.specs.Read.{Lines, heads, readResponse}
 use Rattle.ranges.proofs.HeadsStored.{lines-snoc, fields-more, numbers-more}
-use Rattle.readers.specs.Responses.{informationalRead, HeadStored, SoManyHeads, HeadSays, Headed, HeadsFacts, HeadsSays, HeadsTaken}
+use Rattle.readers.specs.Responses.{informationalRead, HeadStored, HeadSays, Headed, HeadsFacts, HeadsSays, HeadsTaken}
 use Rattle.readers.specs.declared.HeadRead.{HeadRead}
 use Rattle.readers.specs.declared.HeadRead.the-variants as head
 use Rattle.readers.specs.declared.HeadsRead.{HeadsRead}

@@ -4,6 +4,7 @@ use mathlib.Core.Path.{_≡_}
 use mathlib.Core.Bool.{Bool, true, false}
 use mathlib.Core.List.{List, [], _∷_, _++_}
 use lib.ListN.{length, drop}
+use Rattle.ranges.specs.Ranges.{FewHeads}
 use Rattle.octets.specs.Limits.{headMost, linesMost, informationalMost}
 use Rattle.script.specs.Script.{Answer, accepted, refused, more, Script, run}
 use Rattle.script.specs.Do.{_>>=_, tell}
@@ -56,16 +57,6 @@ pub record HeadStored (s : List ℕ) (base : ℕ) (hs hs′ : List ℕ) (e k : �
   pub few : length (h .lines) ≤ linesMost
   pub count : base + length (kept true (h .lines)) ≡ k
   pub stored : hs′ ≡ splice hs (base * 4) (fieldsNumbers (kept true (h .lines)))
-
--- any informational heads, fewer than there may be, or so many
-abbrev pub AnyHeads : List InformationalRead → Type 0
-AnyHeads is = Unit {0}
-
-abbrev pub FewHeads : List InformationalRead → Type 0
-FewHeads is = length is < informationalMost
-
-abbrev pub SoManyHeads : ℕ → List InformationalRead → Type 0
-SoManyHeads n is = length is ≡ n
 
 -- a head that was read behind the informational heads `is`, where the script answers x
 abbrev pub HeadSays : Answer Message → ℕ → List InformationalRead → List ℕ → ℕ → List ℕ → List ℕ → HeadRead → Type 0

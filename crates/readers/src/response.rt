@@ -26,13 +26,14 @@ use script::line_end;
 ghost use mathlib.Core.Path.{_≡_};
 ghost use Prim.Native.Nat.{suc, _+_, _-_, _*_, _≤_, _<_};
 ghost use lib.ListN.{length, drop};
+ghost use Rattle.ranges.specs.Ranges.{AnyHeads, FewHeads, SoManyHeads};
 ghost use Rattle.octets.specs.Table.{classes};
 ghost use Rattle.octets.specs.Limits.{headMost};
 ghost use Rattle.script.specs.Script.{run};
 ghost use Rattle.messages.specs.Answers.{readingOf};
 ghost use Rattle.http1.specs.Read.{heads, readResponse};
 ghost use Rattle.ranges.specs.Ranges.{Responded};
-ghost use Rattle.readers.specs.Responses.{informationalRest, finalRest, AnyHeads, FewHeads, SoManyHeads, Headed, HeadsTaken, responseOutcome, FinalRead};
+ghost use Rattle.readers.specs.Responses.{informationalRest, finalRest, Headed, HeadsTaken, responseOutcome, FinalRead};
 
 // The section of an informational head, behind its status line that ends at `next`.
 fn informational_head(

@@ -1,6 +1,6 @@
+use Rattle.ranges.specs.Ranges.{AnyHeads}
 use Rattle.http1.specs.Read.{afterFinal}
 use Rattle.readers.proofs.ResponseHeads.{rest-more, rest-refused, final-ends}
-use Rattle.readers.specs.Responses.{AnyHeads}
 use borrow.Author.Needs.{needs}
 use Rattle.readers.proofs.response.final_head.Statement.{statement}
 use Rattle.readers.proofs.response.final_head.Tie as tie

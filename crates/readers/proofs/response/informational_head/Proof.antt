@@ -1,5 +1,6 @@
 use mathlib.Core.Path.{sym, _∙_}
-use Rattle.readers.specs.Responses.{afterInformational, FewHeads}
+use Rattle.ranges.specs.Ranges.{FewHeads}
+use Rattle.readers.specs.Responses.{afterInformational}
 use Rattle.readers.proofs.ResponseHeads.{rest-more, rest-refused, informational-states, informational-ends}
 use borrow.Author.Needs.{needs}
 use Rattle.readers.proofs.response.informational_head.Statement.{statement}
