@@ -1,51 +1,74 @@
-/* The C example: takes HTTP/1.1 requests off standard input, as the box's main program does.
+/* The C example, as the box's main program does: takes HTTP/1.1 requests off standard input under http, turns each into Binary HTTP for the radio hop and, on the
+ * other side of it, back into HTTP/1.1 behind what was written before; then takes that stream off again.
  *
  *     target/box/box < file of requests
  *
  * A line for each message; then where the stream ends, or the number and place it stops with. Status 0 where every octet was taken, 1 where a
- * message was refused or is not whole, 2 where the input could not be read.
+ * message was refused or is not whole, 2 where the input could not be read or the written stream is another.
  */
+#include <stdbool.h>
 #include <stdint.h>
 #include <stdio.h>
 
 #include "ospirnar.h"
 
-enum { INPUT_MOST = 1 << 20 };
+enum { STREAM_MOST = 1 << 20, BINARY_MOST = 65536 };
 
-static uint8_t input[INPUT_MOST];
+static uint8_t input[STREAM_MOST], binary[BINARY_MOST], written[STREAM_MOST];
 static uint32_t ranges[OSPIRNAR_RANGES_MOST];
 
-/* The part of `message` whose start and length stand at ranges[at]. */
-static void print_part(const uint8_t *message, size_t at)
+static void print_part(const uint8_t *octets, const uint32_t *part)
 {
-    fwrite(message + ranges[at], 1, ranges[at + 1], stdout);
+    fwrite(octets + part[0], 1, part[1], stdout);
+}
+
+/* What a call that is not accepted answers: its number and its place, counted from `at` on. */
+static int stop(const char *what, uint32_t number, size_t place, size_t at)
+{
+    printf("%s: %u at %zu\n", what, (unsigned)number, at + place);
+    return 1;
+}
+
+/* Takes all requests off a stream that was written: how many there are, and that nothing is left. */
+static bool take_off(const uint8_t *octets, size_t len, size_t count)
+{
+    size_t at = 0, taken = 0, place;
+    for (; at < len; at += place, taken++)
+        if (ospirnar_read_request(octets + at, len - at, 0, ranges, OSPIRNAR_RANGES_MOST, &place) != 0)
+            return false;
+    return taken == count;
 }
 
 int main(void)
 {
-    size_t length = fread(input, 1, INPUT_MOST, stdin);
-    if (ferror(stdin) || (length == INPUT_MOST && getchar() != EOF)) {
-        fprintf(stderr, "box: standard input cannot be read or passes %d octets\n", INPUT_MOST);
+    size_t len = fread(input, 1, sizeof input, stdin), at = 0, out = 0, count = 0, place, binary_len, http1_len;
+    if (ferror(stdin) || (len == sizeof input && getchar() != EOF)) {
+        fprintf(stderr, "box: standard input cannot be read or passes %d octets\n", STREAM_MOST);
         return 2;
     }
-
-    size_t start = 0;
-    for (unsigned count = 1; start < length; count++) {
-        const uint8_t *message = input + start;
-        size_t place;
-        uint32_t number = ospirnar_read_request(message, length - start, 0, ranges, OSPIRNAR_RANGES_MOST, &place);
-        if (number != 0) {
-            /* 1 is no refusal: a box that reads from a connection would wait for more octets and call again. */
-            printf("%s: %u at %zu\n", number == 1 ? "more octets are needed" : "refused", (unsigned)number, start + place);
-            return 1;
-        }
-        printf("%u: ", count);
-        print_part(message, 2);
+    while (at < len) {
+        uint32_t number = ospirnar_read_request(input + at, len - at, 0, ranges, OSPIRNAR_RANGES_MOST, &place);
+        if (number != 0) /* 1 is no refusal: a box that reads from a connection would wait for more octets and call again */
+            return stop(number == 1 ? "more octets are needed" : "refused", number, place, at);
+        printf("%zu: ", ++count);
+        print_part(input + at, ranges + 2);
         putchar(' ');
-        print_part(message, 6);
-        printf(", %u fields, %u octets of content\n", (unsigned)ranges[10], (unsigned)ranges[12]);
-        start += place; /* the next message begins behind this one */
+        print_part(input + at, ranges + 6);
+        printf(", %u fields, %u octets of content", (unsigned)ranges[10], (unsigned)ranges[12]);
+        number = ospirnar_request_to_binary(input + at, len - at, 0, binary, sizeof binary, &binary_len);
+        if (number != 0)
+            return stop("; not turned", number, binary_len, 0);
+        number = ospirnar_binary_to_http1(binary, binary_len, 0, written + out, sizeof written - out, &http1_len);
+        if (number != 0)
+            return stop("; not turned back", number, http1_len, 0);
+        printf("; %zu octets, as Binary %zu, turned back %zu\n", place, binary_len, http1_len);
+        at += place; /* the next message begins behind this one */
+        out += http1_len;
     }
-    printf("end at %zu\n", start);
+    if (!take_off(written, out, count)) {
+        printf("the written stream is not taken off as it was written\n");
+        return 2;
+    }
+    printf("end at %zu; %zu requests taken off the %zu octets written\n", at, count, out);
     return 0;
 }
