@@ -11,6 +11,7 @@ use Rattle.messages.specs.Message.{FieldRead}
 use Rattle.messages.specs.Names.{kept}
 use Rattle.messages.specs.Notes.{notesOf, noteLine, noNotes}
 use Rattle.messages.specs.Answers.{fieldsNumbers}
+use Rattle.messages.specs.declared.Kind.{Kind}
 use Rattle.messages.specs.declared.Notes.{Notes}
 use Rattle.messages.proofs.Noting.{notes-none, notes-more, kept-few}
 use Rattle.ranges.proofs.Stored.{stored-next, count-next}
@@ -38,14 +39,15 @@ module _ {host : Bool} {base : ℕ} {o : List ℕ} {fs : List FieldRead} {l k : 
   pub gathered-few : length fs < linesMost
   gathered-few = omega (arith, g .lines)
 
-  pub gathered-next : {s : List ℕ} {a : ℕ} {x : Got FieldRead} {o″ : List ℕ} {end c : ℕ} {m : Notes} (f : NextLine s a x host k n o′ o″ end c m)
-      → Gathered host base o (fs ++ f .line ∷ []) (l + 1) c m o″
-  gathered-next f =
+  -- with the next line, which leaves the notes m
+  pub gathered-next : {s : List ℕ} {a : ℕ} {x : Got FieldRead} {o″ : List ℕ} {end c : ℕ} {kind : Kind} {name len : ℕ} {m : Notes}
+      (f : NextLine s a x host k o′ o″ end c kind name len) → m ≡ noteLine false n (f .line) → Gathered host base o (fs ++ f .line ∷ []) (l + 1) c m o″
+  gathered-next f e =
       record {
         lines = length-append fs (f .line ∷ []) ∙ omega (arith, g .lines);
         most = omega arith;
         count = f .count ∙ count-next host base fs (f .line ∷ []) (g .count);
-        notes = f .noted ∙ ap (λ (n : Notes). noteLine false n (f .line)) (g .notes) ∙ sym (notes-more false fs (f .line));
+        notes = e ∙ ap (λ (n : Notes). noteLine false n (f .line)) (g .notes) ∙ sym (notes-more false fs (f .line));
         stored = stored-next host o base fs (f .line ∷ []) (g .stored) (g .count) (f .stored);
         same = f .same ∙ g .same;
       }

@@ -1,4 +1,4 @@
--- A field line whose halves are in, as the code judges, notes and stores it.
+-- A field line whose halves are in, as the code judges and stores it.
 use Prim.Native.Nat.{ℕ, _+_, _*_}
 use mathlib.Core.Path.{_≡_, refl, sym, _∙_, subst}
 use mathlib.Core.List.{List, [], _∷_, map}
@@ -12,10 +12,8 @@ use Rattle.script.specs.Do.{Piece, piece, Judged, good, wrong}
 use Rattle.messages.specs.Message.{FieldRead}
 use Rattle.messages.specs.Names.{kindOf, lineKind, kept, travels}
 use Rattle.messages.specs.Control.{isLowerName, isTrimmedValue}
-use Rattle.messages.specs.Notes.{noteOf}
 use Rattle.messages.specs.Answers.{fieldsNumbers}
 use Rattle.messages.specs.declared.Kind.{Kind}
-use Rattle.messages.specs.declared.Notes.{Notes}
 use Rattle.ranges.specs.Ranges.{Kept}
 use Rattle.binary.specs.Read.{lineOf}
 use Rattle.read_binary.specs.Section.{JudgedSays, JudgedLine}
@@ -32,32 +30,31 @@ line-as p n v y e = rw e (go (isLowerName (n .text)) (isTrimmedValue (v .text)) 
     go true b x = refl
     go false b x = refl
 
-judged-as : {i j : Judged FieldRead} {end : ℕ} {host : Bool} {k : ℕ} {n : Notes} {o o′ : List ℕ} {r : LineRead}
-    → i ≡ j → JudgedSays j end host k n o o′ r → JudgedLine i end host k n o o′ r
-judged-as {end = end} {host = host} {k = k} {n = n} {o = o} {o′ = o′} {r = r} e h =
-    record { says = subst (λ (z : Judged FieldRead). JudgedSays z end host k n o o′ r) (sym e) h }
+judged-as : {i j : Judged FieldRead} {end : ℕ} {host : Bool} {k : ℕ} {o o′ : List ℕ} {r : LineRead}
+    → i ≡ j → JudgedSays j end host k o o′ r → JudgedLine i end host k o o′ r
+judged-as {end = end} {host = host} {k = k} {o = o} {o′ = o′} {r = r} e h =
+    record { says = subst (λ (z : Judged FieldRead). JudgedSays z end host k o o′ r) (sym e) h }
 
 module _ (p n v : ℕ) (name value : List ℕ) {y : Bool} (e : y ≡ cond (isLowerName name) (isTrimmedValue value) false) where
   -- a line that is none
-  pub line-wrong : {end : ℕ} {host : Bool} {k : ℕ} {notes : Notes} {o o′ : List ℕ} → y ≡ false
-      → JudgedLine (lineOf p (piece n name) (piece v value)) end host k notes o o′ (read.Refused badSyntax p)
+  pub line-wrong : {end : ℕ} {host : Bool} {k : ℕ} {o o′ : List ℕ} → y ≡ false
+      → JudgedLine (lineOf p (piece n name) (piece v value)) end host k o o′ (read.Refused badSyntax p)
   line-wrong h = judged-as {j = wrong badSyntax p} (line-as p (piece n name) (piece v value) y e ∙ rw h refl) refl
 
   line : FieldRead
   line = record { name = piece n name; value = piece v value }
 
-  pub line-good : {end : ℕ} {host : Bool} {k : ℕ} {notes noted : Notes} {o o′ : List ℕ} {kind : Kind} {t : Bool} {r : ℕ} → y ≡ true
-      → kind ≡ kindOf (map lowerOf name) → noted ≡ noteOf false notes kind n v value → t ≡ travels host kind
-      → Kept t k (n ∷ length name ∷ v ∷ length value ∷ []) o o′ r
-      → JudgedLine (lineOf p (piece n name) (piece v value)) end host k notes o o′ (read.Next end r noted)
+  pub line-good : {end : ℕ} {host : Bool} {k : ℕ} {o o′ : List ℕ} {kind : Kind} {t : Bool} {r : ℕ} → y ≡ true
+      → kind ≡ kindOf (map lowerOf name) → t ≡ travels host kind → Kept t k (n ∷ length name ∷ v ∷ length value ∷ []) o o′ r
+      → JudgedLine (lineOf p (piece n name) (piece v value)) end host k o o′ (read.Next end r kind n (length value))
   unfolding kept fieldsNumbers lineKind line
-  line-good {end} {host} {k} {notes} {noted} {o} {o′} {kind} {t} {r} h ek en et u =
+  line-good {end} {host} {k} {o} {o′} {kind} {t} {r} h ek et u =
       judged-as {j = good line} (line-as p (piece n name) (piece v value) y e ∙ rw h refl) (rw (← ek, ← et) (pick t u))
     where
       pick : (x : Bool) → Kept x k (n ∷ length name ∷ v ∷ length value ∷ []) o o′ r
-          → (read.Next end r noted ≡ read.Next end (k + length (cond x (line ∷ []) [])) (noteOf false notes kind n v value))
+          → (read.Next end r kind n (length value) ≡ read.Next end (k + length (cond x (line ∷ []) [])) kind n (length value))
           × (o′ ≡ splice o (k * 4) (fieldsNumbers (cond x (line ∷ []) [])))
-      pick true g = (rw (g .count, en), g .stored)
+      pick true g = (rw (g .count), g .stored)
       pick false g =
           let z : k + 0 ≡ k = omega arith in
-          (rw (g .count, en, z), g .stored)
+          (rw (g .count, z), g .stored)

@@ -1,11 +1,11 @@
 -- One line of a section, and one turn of each section loop, by what comes next.
-use Prim.Native.Nat.{ℕ, suc, _+_, _*_, _<_, _≤_}
-use mathlib.Core.Path.{_≡_, refl, ap, _∙_}
+use Prim.Native.Nat.{ℕ, suc, _+_, _-_, _*_, _<_, _≤_}
+use mathlib.Core.Path.{_≡_, refl, sym, ap, _∙_}
 use mathlib.Core.List.{List, [], _∷_, _++_}
 use mathlib.Core.Bool.{Bool, true, false}
 use native.Mathlib.Omega.{arith}
 use borrow.Author.Tests.{eq-eqb, ne-eqb, le-leb, lt-leb}
-use lib.ListN.{length, drop, length-drop}
+use lib.ListN.{length, take, drop, length-drop}
 use Rattle.octets.specs.Text.{isEmpty}
 use Rattle.octets.specs.Limits.{linesMost}
 use Rattle.octets.specs.Refusals.{badSection, cutOff, tooLarge}
@@ -15,10 +15,12 @@ use Rattle.output.specs.Splice.{splice}
 use Rattle.output.proofs.Laws.{splice-length}
 use Rattle.script.specs.Do.{Piece}
 use Rattle.messages.specs.Message.{FieldRead}
-use Rattle.messages.specs.Names.{kept}
-use Rattle.messages.specs.Notes.{noteLine}
+use Rattle.messages.specs.Names.{lineKind, kept}
+use Rattle.messages.specs.Notes.{isNoted, noteOf, noteLine}
 use Rattle.messages.specs.Answers.{fieldsNumbers}
+use Rattle.messages.specs.declared.Kind.{Kind}
 use Rattle.messages.specs.declared.Notes.{Notes}
+use Rattle.messages.proofs.Noting.{noted-nothing}
 use Rattle.binary.specs.Reader.{Got, got, no, onGot, _>>=_, tell, integer, octets}
 use Rattle.binary.specs.Read.{part, lineOf, knownLine, knownLines, openLine, openLines}
 use Rattle.read_binary.specs.Section.{restLine, LineSays, Lined}
@@ -60,31 +62,54 @@ open-rest p n at s = go (octets n cutOff p at s)
 
 -- ---- what the caller learns of a line
 
--- a line that was read in the part s at the place a, up to `end`
-pub record NextLine (s : List ℕ) (a : ℕ) (x : Got FieldRead) (host : Bool) (k : ℕ) (n : Notes) (o o′ : List ℕ) (end c : ℕ) (m : Notes) : Type 0 where
+-- a line that was read in the part s at the place a, up to `end`: c fields are kept with it; its kind, the place of its name, the size of its value
+pub record NextLine (s : List ℕ) (a : ℕ) (x : Got FieldRead) (host : Bool) (k : ℕ) (o o′ : List ℕ) (end c : ℕ) (kind : Kind) (name len : ℕ) : Type 0 where
   pub line : FieldRead
   pub is : x ≡ got line (a + end) (drop end s)
   pub within : end ≤ length s
   pub count : c ≡ k + length (kept host (line ∷ []))
-  pub noted : m ≡ noteLine false n line
+  pub kind-is : kind ≡ lineKind line
+  pub name-at : name ≡ line .name .place
+  pub long : len ≤ end
+  pub value-at : line .value .place ≡ a + (end - len)
+  pub value-is : line .value .text ≡ take len (drop (end - len) s)
   pub stored : o′ ≡ splice o (k * 4) (fieldsNumbers (kept host (line ∷ [])))
   pub same : length o′ ≡ length o
 
-module _ {s : List ℕ} {a : ℕ} {x : Got FieldRead} {host : Bool} {k : ℕ} {n : Notes} {o o′ : List ℕ} {r : LineRead} (h : Lined s a x host k n o o′ r) where
-  pub lined-next : {end c : ℕ} {m : Notes} → r ≡ read.Next end c m → NextLine s a x host k n o o′ end c m
-  lined-next {end} {c} {m} e = go x (h .says)
+module _ {s : List ℕ} {a : ℕ} {x : Got FieldRead} {host : Bool} {k : ℕ} {o o′ : List ℕ} {end c : ℕ} {kind : Kind} {name len : ℕ}
+    (f : NextLine s a x host k o o′ end c kind name len) (n : Notes) where
+  -- a line that was noted, and one of which nothing is noted
+  pub note-taken : {noted : Notes} {v : ℕ} → v ≡ a + (end - len) → noted ≡ noteOf false n kind name v (take (end - (end - len)) (drop (end - len) s))
+      → noted ≡ noteLine false n (f .line)
+  note-taken e q = let z : end - (end - len) ≡ len = omega (arith, f .long) in
+      q ∙ rw (z, e, ← f .value-at, ← f .value-is, f .kind-is, f .name-at)
+
+  pub note-passed : isNoted kind ≡ false → n ≡ noteLine false n (f .line)
+  note-passed q =
+      sym (noted-nothing false n kind (f .line .name .place) (f .line .value .place) (f .line .value .text) q)
+      ∙ ap (λ (k : Kind). noteOf false n k (f .line .name .place) (f .line .value .place) (f .line .value .text)) (f .kind-is)
+
+module _ {s : List ℕ} {a : ℕ} {x : Got FieldRead} {host : Bool} {k : ℕ} {o o′ : List ℕ} {r : LineRead} (h : Lined s a x host k o o′ r) where
+  pub lined-next : {end c : ℕ} {kind : Kind} {name len : ℕ} → r ≡ read.Next end c kind name len → NextLine s a x host k o o′ end c kind name len
+  lined-next {end} {c} {kind} {name} {len} e = go x (h .says)
     where
-      go : (y : Got FieldRead) → LineSays s a y host k n o o′ r → NextLine s a y host k n o o′ end c m
+      go : (y : Got FieldRead) → LineSays s a y host k o o′ r → NextLine s a y host k o o′ end c kind name len
       go (got f i l) q =
           let z : q .0 ≡ end = cc in
           let u : c ≡ k + length (kept host (f ∷ [])) = cc in
-          let v : m ≡ noteLine false n f = cc in
+          let v : kind ≡ lineKind f = cc in
+          let w : name ≡ f .name .place = cc in
+          let y : length (f .value .text) ≡ len = cc in
           record {
             line = f;
-            is = rw (q .3, q .5, z);
-            within = rw z at (q .4);
+            is = rw (q .4, q .6, z);
+            within = rw z at (q .5);
             count = u;
-            noted = v;
+            kind-is = v;
+            name-at = w;
+            long = rw (y, z) at (q .3 .long);
+            value-at = q .3 .place ∙ rw (y, z);
+            value-is = q .3 .text ∙ rw (y, z);
             stored = q .2;
             same = ap length (q .2) ∙ splice-length o (k * 4) (fieldsNumbers (kept host (f ∷ [])));
           }
@@ -93,7 +118,7 @@ module _ {s : List ℕ} {a : ℕ} {x : Got FieldRead} {host : Bool} {k : ℕ} {n
   pub lined-refused : {y p : ℕ} → r ≡ read.Refused y p → x ≡ no y p
   lined-refused {y} {p} e = go x (h .says)
     where
-      go : (z : Got FieldRead) → LineSays s a z host k n o o′ r → z ≡ no y p
+      go : (z : Got FieldRead) → LineSays s a z host k o o′ r → z ≡ no y p
       go (got f i l) q = let z : _≡_ {A = ℕ} 0 1 = cc in absurd (omega arith)
       go (no u v) q = cc
 

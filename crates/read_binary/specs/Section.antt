@@ -1,17 +1,16 @@
 -- What the code that reads field sections promises, in terms of the readers of Binary HTTP.
-use Prim.Native.Nat.{ℕ, _+_, _*_, _≤_}
+use Prim.Native.Nat.{ℕ, _+_, _-_, _*_, _≤_}
 use mathlib.Core.Path.{_≡_}
 use mathlib.Core.Bool.{Bool, false, cond}
 use mathlib.Core.List.{List, [], _∷_}
-use lib.ListN.{length, drop}
+use lib.ListN.{length, take, drop}
 use Rattle.octets.specs.Refusals.{cutOff, badSection}
-use Rattle.script.specs.Do.{Judged, good, wrong}
+use Rattle.script.specs.Do.{Piece, Judged, good, wrong}
 use Rattle.output.specs.Splice.{splice}
 use Rattle.messages.specs.Message.{FieldRead, Section}
-use Rattle.messages.specs.Names.{kept}
-use Rattle.messages.specs.Notes.{notesOf, noteLine}
+use Rattle.messages.specs.Names.{lineKind, kept}
+use Rattle.messages.specs.Notes.{notesOf}
 use Rattle.messages.specs.Answers.{fieldsNumbers}
-use Rattle.messages.specs.declared.Notes.{Notes}
 use Rattle.binary.specs.Reader.{Got, got, no, Reader, _>>=_, here, tell, integer, octets}
 use Rattle.binary.specs.Read.{lineOf}
 use Rattle.read_binary.specs.declared.LineRead.{LineRead}
@@ -38,31 +37,40 @@ restLine known p n = do
   v ← octets b (cutNumber known) (cutPlace known p q)
   tell (lineOf p w v)
 
--- a line that was judged: it is noted and, where it travels, stored behind the k entries of o; the reading goes on at `end`
-abbrev pub JudgedSays : Judged FieldRead → ℕ → Bool → ℕ → Notes → List ℕ → List ℕ → LineRead → Type 0
-JudgedSays (good f) end host k n o o′ r =
-    (r ≡ line.Next end (k + length (kept host (f ∷ []))) (noteLine false n f))
-    × (o′ ≡ splice o (k * 4) (fieldsNumbers (kept host (f ∷ []))))
-JudgedSays (wrong x p) end host k n o o′ r = r ≡ line.Refused x p
+-- a good line f as the code answers it, where k fields are kept before it and the reading goes on at `end`
+abbrev pub nextLine : FieldRead → ℕ → Bool → ℕ → LineRead
+nextLine f end host k = line.Next end (k + length (kept host (f ∷ []))) (lineKind f) (f .name .place) (length (f .value .text))
+
+-- a line that was judged: where it travels it is stored behind the k entries of o; the reading goes on at `end`
+abbrev pub JudgedSays : Judged FieldRead → ℕ → Bool → ℕ → List ℕ → List ℕ → LineRead → Type 0
+JudgedSays (good f) end host k o o′ r = (r ≡ nextLine f end host k) × (o′ ≡ splice o (k * 4) (fieldsNumbers (kept host (f ∷ []))))
+JudgedSays (wrong x p) end host k o o′ r = r ≡ line.Refused x p
 
 -- what a judged line promises, as one fact
-pub record JudgedLine (j : Judged FieldRead) (end : ℕ) (host : Bool) (k : ℕ) (n : Notes) (o o′ : List ℕ) (r : LineRead) : Type 0 where
-  pub says : JudgedSays j end host k n o o′ r
+pub record JudgedLine (j : Judged FieldRead) (end : ℕ) (host : Bool) (k : ℕ) (o o′ : List ℕ) (r : LineRead) : Type 0 where
+  pub says : JudgedSays j end host k o o′ r
+
+-- the piece v ends at the index `end` of the part s, whose first octet is at the place a
+pub record EndsAt (s : List ℕ) (a end : ℕ) (v : Piece) : Type 0 where
+  pub long : length (v .text) ≤ end
+  pub place : v .place ≡ a + (end - length (v .text))
+  pub text : v .text ≡ take (length (v .text)) (drop (end - length (v .text)) s)
 
 -- a line that was read in the part s, whose first octet is at the place a: the answer's `end` is counted in the part
-abbrev pub LineSays : List ℕ → ℕ → Got FieldRead → Bool → ℕ → Notes → List ℕ → List ℕ → LineRead → Type 0
-LineSays s a (got f e l) host k n o o′ r =
+abbrev pub LineSays : List ℕ → ℕ → Got FieldRead → Bool → ℕ → List ℕ → List ℕ → LineRead → Type 0
+LineSays s a (got f e l) host k o o′ r =
     (end : ℕ)
-    × (r ≡ line.Next end (k + length (kept host (f ∷ []))) (noteLine false n f))
+    × (r ≡ nextLine f end host k)
     × (o′ ≡ splice o (k * 4) (fieldsNumbers (kept host (f ∷ []))))
+    × EndsAt s a end (f .value)
     × (e ≡ a + end)
     × (end ≤ length s)
     × (l ≡ drop end s)
-LineSays s a (no x p) host k n o o′ r = r ≡ line.Refused x p
+LineSays s a (no x p) host k o o′ r = r ≡ line.Refused x p
 
 -- what a line that was read promises, as one fact
-pub record Lined (s : List ℕ) (a : ℕ) (x : Got FieldRead) (host : Bool) (k : ℕ) (n : Notes) (o o′ : List ℕ) (r : LineRead) : Type 0 where
-  pub says : LineSays s a x host k n o o′ r
+pub record Lined (s : List ℕ) (a : ℕ) (x : Got FieldRead) (host : Bool) (k : ℕ) (o o′ : List ℕ) (r : LineRead) : Type 0 where
+  pub says : LineSays s a x host k o o′ r
 
 -- ---- sections
 

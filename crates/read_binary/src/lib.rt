@@ -3,6 +3,7 @@ pub mod content;
 pub mod control;
 pub mod lines;
 
+use messages::Kind;
 use messages::Notes;
 
 // So many octets of the input from a place on.
@@ -84,12 +85,15 @@ pub enum Section {
     },
 }
 
-// A field line that was read: the place behind it in the part that was lent, the count of kept fields and the notes with it.
+// A field line that was read: the index behind it in the part that was lent, the count of kept fields with it, its kind, the place of its name, and the
+// size of its value, which ends where the line ends.
 pub enum LineRead {
     Next {
         end: usize,
         kept: usize,
-        notes: Notes,
+        kind: Kind,
+        name: usize,
+        len: usize,
     },
     Refused {
         number: u32,

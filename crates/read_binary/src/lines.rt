@@ -1,11 +1,11 @@
 // Field lines and field sections, of known and of indeterminate length.
 use crate::LineRead;
 use crate::Section;
-use messages::Notes;
 use messages::parts::does_travel;
 use messages::parts::is_lower_name;
 use messages::parts::is_trimmed_value;
 use messages::parts::kind_of;
+use messages::sections::is_noted;
 use messages::sections::no_notes;
 use messages::sections::note;
 use numbers::Integer;
@@ -56,7 +56,7 @@ fn is_line(t: &[u8; 256], name: &[u8], value: &[u8]) -> bool
     false
 }
 
-// The line at the place p whose halves are in, the name at the place n and the value at the place v: judged, noted and, where it travels, stored.
+// The line at the place p whose halves are in, the name at the place n and the value at the place v: judged and, where it travels, stored.
 fn store_line(
     t: &[u8; 256],
     p: usize,
@@ -67,15 +67,13 @@ fn store_line(
     end: usize,
     host: bool,
     kept: usize,
-    notes: Notes,
     out: &mut [u32],
 ) -> LineRead
     requires { ⌜ (now t ≡ classes) × (n + length (now name) < placesEnd) × (v + length (now value) < placesEnd) × (kept * 4 + 4 ≤ length (now out)) ⌝ }
-    ensures { λ r. ⌜ JudgedLine (lineOf p (piece n (now (name .entry))) (piece v (now (value .entry)))) end host kept notes (now (out .entry)) (now (out .exit)) r ⌝ }
+    ensures { λ r. ⌜ JudgedLine (lineOf p (piece n (now (name .entry))) (piece v (now (value .entry)))) end host kept (now (out .entry)) (now (out .exit)) r ⌝ }
 {
     if is_line(t, name, value) {
         let kind = kind_of(name);
-        let noted = note(notes, kind, n, v, value, false);
         let k = keep(
             out,
             kept,
@@ -88,7 +86,9 @@ fn store_line(
         return LineRead::Next {
             end,
             kept: k,
-            notes: noted,
+            kind,
+            name: n,
+            len: value.len(),
         };
     } else {
         return LineRead::Refused {
@@ -109,11 +109,10 @@ fn rest_line(
     known: bool,
     host: bool,
     kept: usize,
-    notes: Notes,
     out: &mut [u32],
 ) -> LineRead
     requires { ⌜ (now t ≡ classes) × (at ≤ length (now s)) × (a + length (now s) < placesEnd) × (kept * 4 + 4 ≤ length (now out)) ⌝ }
-    ensures { λ r. ⌜ Lined (now (s .entry)) a (restLine known p n (a + at) (drop at (now (s .entry)))) host kept notes (now (out .entry)) (now (out .exit)) r ⌝ }
+    ensures { λ r. ⌜ Lined (now (s .entry)) a (restLine known p n (a + at) (drop at (now (s .entry)))) host kept (now (out .entry)) (now (out .exit)) r ⌝ }
 {
     let number = cut_number(known);
     if s.len() - at < n {
@@ -138,7 +137,6 @@ fn rest_line(
         end,
         host,
         kept,
-        notes,
         out,
     )
 }
@@ -151,11 +149,10 @@ fn known_line(
     at: usize,
     host: bool,
     kept: usize,
-    notes: Notes,
     out: &mut [u32],
 ) -> LineRead
     requires { ⌜ (now t ≡ classes) × (at ≤ length (now s)) × (a + length (now s) < placesEnd) × (kept * 4 + 4 ≤ length (now out)) ⌝ }
-    ensures { λ r. ⌜ Lined (now (s .entry)) a (knownLine (a + at) (drop at (now (s .entry)))) host kept notes (now (out .entry)) (now (out .exit)) r ⌝ }
+    ensures { λ r. ⌜ Lined (now (s .entry)) a (knownLine (a + at) (drop at (now (s .entry)))) host kept (now (out .entry)) (now (out .exit)) r ⌝ }
 {
     let p = a + at;
     let Integer::Value { value: n, next } = read_int(s, at) else {
@@ -170,7 +167,7 @@ fn known_line(
             place: p,
         };
     }
-    rest_line(t, s, a, p, next, n, true, host, kept, notes, out)
+    rest_line(t, s, a, p, next, n, true, host, kept, out)
 }
 
 // The lines that fill the body s of a known-length section, whose first octet is at the place a: at most 64 of them. Kept fields are stored behind
@@ -204,18 +201,23 @@ fn known_lines(
                 place: a + i,
             };
         }
-        let line = known_line(t, s, a, i, host, count, notes, out);
+        let line = known_line(t, s, a, i, host, count, out);
         match line {
             LineRead::Refused { number, place } => return Section::Refused { number, place },
             LineRead::Next {
                 end,
                 kept,
-                notes: noted,
+                kind,
+                name,
+                len,
             } => {
                 count = kept;
-                notes = noted;
                 lines += 1;
                 i = end;
+                if is_noted(kind) {
+                    let v = end - len;
+                    notes = note(notes, kind, name, a + v, &s[v..end], false);
+                }
             }
         }
     }
@@ -284,18 +286,23 @@ fn open_section(
                 place: i,
             };
         }
-        let line = rest_line(t, s, 0, i, next, n, false, host, count, notes, out);
+        let line = rest_line(t, s, 0, i, next, n, false, host, count, out);
         match line {
             LineRead::Refused { number, place } => return Section::Refused { number, place },
             LineRead::Next {
                 end,
                 kept,
-                notes: noted,
+                kind,
+                name,
+                len,
             } => {
                 count = kept;
-                notes = noted;
                 lines += 1;
                 i = end;
+                if is_noted(kind) {
+                    let v = end - len;
+                    notes = note(notes, kind, name, v, &s[v..end], false);
+                }
             }
         }
     }

@@ -7,55 +7,50 @@ use Rattle.read_binary.proofs.lines.store_line.Reads as reads
 use Rattle.read_binary.proofs.lines.store_line.Lts as lts
 use Rattle.messages.proofs.parts.does_travel.Reads as does-travel-reads
 use Rattle.messages.proofs.parts.kind_of.Reads as kind-of-reads
-use Rattle.messages.proofs.sections.note.Reads as note-reads
 use Rattle.ranges.proofs.keep.Reads as keep-reads
 use Rattle.read_binary.proofs.lines.is_line.Reads as is-line-reads
 
--- src/lines.rt:69:8
+-- src/lines.rt:75:8
 is-line-requires : tie.Need-is-line-requires
 is-line-requires c κs = search needs
 
--- src/lines.rt:70:13
+-- src/lines.rt:76:13
 kind-of-requires : tie.Need-kind-of-requires
 kind-of-requires c κs = search needs
 
--- src/lines.rt:71:13
-note-requires : tie.Need-note-requires
-note-requires c κs = search needs
-
--- src/lines.rt:75:13
+-- src/lines.rt:80:13
 does-travel-requires : tie.Need-does-travel-requires
 does-travel-requires c κs = search needs
 
--- src/lines.rt:76:13
+-- src/lines.rt:81:13
 cast-keep : tie.Need-cast-keep
 cast-keep c = search needs
 
--- src/lines.rt:77:13
+-- src/lines.rt:82:13
 cast-keep-2 : tie.Need-cast-keep-2
 cast-keep-2 c = search needs
 
--- src/lines.rt:78:13
+-- src/lines.rt:83:13
 cast-keep-3 : tie.Need-cast-keep-3
 cast-keep-3 c = search needs
 
--- src/lines.rt:79:13
+-- src/lines.rt:84:13
 cast-keep-4 : tie.Need-cast-keep-4
 cast-keep-4 c = search needs
 
--- src/lines.rt:72:13
+-- src/lines.rt:77:13
 keep-requires : tie.Need-keep-requires
 keep-requires c κs = search needs
 
--- src/lines.rt:81:9
+-- src/lines.rt:86:9
 same-length : tie.Need-same-length
 same-length c = search needs
 
--- src/lines.rt:81:9
+-- src/lines.rt:86:9
 returns : tie.Need-returns
-returns c = line-good _ _ _ _ _ (c .before .before .before .before .before .before .before .before .is-line .ensures) (c .before .before .before .before .before .before .before .if1 .taken) (c .before .before .before .before .before .before .kind-of .ensures) (c .before .before .before .before .before .note .ensures) (c .before .before .before .does-travel .ensures) (c .before .before .keep .ensures)
+returns c = line-good _ _ _ _ _ (c .before .before .before .before .before .before .before .is-line .ensures) (c .before .before .before .before .before .before .if1 .taken) (c .before .before .before .before .before .kind-of .ensures) (c .before .before .before .does-travel .ensures) (c .before .before .keep .ensures)
 
--- src/lines.rt:87:9
+-- src/lines.rt:94:9
 returns-2 : tie.Need-returns-2
 returns-2 c = line-wrong _ _ _ _ _ (c .before .is-line .ensures) (c .if1 .left)
 
@@ -65,7 +60,6 @@ store-line-spec =
     (tie.spec
     is-line-requires
     kind-of-requires
-    note-requires
     does-travel-requires
     cast-keep
     cast-keep-2
