@@ -179,10 +179,7 @@ pub fn is_lower_name(t: &[u8; 256], n: &[u8]) -> bool
     if n.len() == 0 {
         return false;
     }
-    if octets::all_of(t, n, TOKEN) {
-        return octets::is_lower_case(n);
-    }
-    false
+    octets::all_lower_of(t, n, TOKEN)
 }
 
 pub fn is_trimmed_value(t: &[u8; 256], v: &[u8]) -> bool

@@ -67,6 +67,21 @@ module _ (p : ℕ → Bool) (s : List ℕ) (i : ℕ) {w : Bool} (inv : all p (dr
 
 pub ruleset steps = (needs, all-more, all-stop, all-done)
 
+-- two tests in one walk
+module _ (a b : Bool) where
+  pub both-pass : true ≡ a → true ≡ b → true ≡ cond a b false
+  both-pass e f = rw (← e) f
+
+  pub first-stops : false ≡ a → false ≡ cond a b false
+  first-stops e = rw (← e)
+
+  pub second-stops : false ≡ b → false ≡ cond a b false
+  second-stops e = rw (← e) (pick a)
+    where
+      pick : (c : Bool) → false ≡ cond c false false
+      pick true = refl
+      pick false = refl
+
 -- ---- runs and all octets
 
 module _ (p : ℕ → Bool) where

@@ -1,5 +1,6 @@
 // Octets: their classes, lower case, trimming, comparing; the sizes and the refusal numbers.
 ghost use mathlib.Core.Path.{_≡_};
+ghost use mathlib.Core.Bool.{cond, false};
 ghost use mathlib.Core.List.{map};
 ghost use Prim.Native.Nat.{_+_, _≤_};
 ghost use lib.Dec.{leb};
@@ -380,14 +381,19 @@ pub fn is_lower(b: u8) -> bool
     lower(b) == b
 }
 
-// Whether a text has no letter of upper case.
-pub fn is_lower_case(s: &[u8]) -> bool
-    ensures { λ r. ⌜ r ≡ all isLower (now (s .entry)) ⌝ }
+// Whether all octets are of a class and none is a letter of upper case.
+pub fn all_lower_of(t: &[u8; 256], s: &[u8], mask: u8) -> bool
+    requires { ⌜ now t ≡ classes ⌝ }
+    ensures { λ r. ⌜ r ≡ cond (all (hasClass mask) (now (s .entry))) (all isLower (now (s .entry))) false ⌝ }
 {
     let mut i = 0;
     while i < s.len() {
-        if is_lower(s[i]) {
-            i += 1;
+        if has(t, s[i], mask) {
+            if is_lower(s[i]) {
+                i += 1;
+            } else {
+                return false;
+            }
         } else {
             return false;
         }

@@ -6,4 +6,4 @@ use Rattle.messages.proofs.parts.is_lower_name.Tie as tie
 
 pub is-lower-name-spec : {M : Type 1} → statement M
 unfolding isLowerName isEmpty
-is-lower-name-spec = tie.close (tie.spec (λ c. search picks) (λ c κs. search picks) (λ c κs. search picks) (λ c. search picks) (λ c. search picks))
+is-lower-name-spec = tie.close (tie.spec (λ c. search picks) (λ c κs. search picks) (λ c. search picks))
