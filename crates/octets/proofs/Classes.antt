@@ -1,29 +1,18 @@
 -- The classes of octets: the table is what the definitions say, and what a class of one bit means.
 use Prim.Native.Nat.{ℕ, _+_, _<_, _≤_}
-use mathlib.Core.Path.{_≡_, refl, ap, _∙_}
-use mathlib.Core.List.{List}
+use mathlib.Core.Path.{_≡_, refl, ap, sym, _∙_}
 use mathlib.Core.Bool.{Bool, true, false, not, cond, _&&_, Bool·beq}
 use mathlib.Core.Logic.{_⊎_, ⊎-elim}
 use native.Mathlib.Omega.{arith}
 use borrow.Author.Tests.{ne-eqb, lt-leb, le-ltb, ltb-true, eqb-true}
 use lib.Dec.{eqb, leb, ltb, T}
 use lib.Bits.{bitAnd}
-use lib.ListN.{getD}
+use lib.ListN.{getD, List·getD-eq-default}
 use Rattle.octets.specs.Class.{classOf, hasClass, isToken, isValue, isPath, isAuthority, isBlank, token, value, path, authority}
-use Rattle.octets.specs.Table.{classes}
+use Rattle.octets.specs.Table.{classes, hasIn}
 use Rattle.octets.specs.Text.{lowerOf}
 use Rattle.octets.proofs.Kit.{split, and-false}
 use Rattle.octets.proofs.Computed.{allBelow, equal-below, implied-below}
-
--- ---- the table
-
-pub class-at : (b : ℕ) → b < 256 → getD classes b 0 ≡ classOf b
-unfolding classes classOf isToken isValue isPath isAuthority
-class-at b h = equal-below (λ k. getD classes k 0) classOf 256 tt b h
-
-pub lent-has : (l : List ℕ) (b mask : ℕ) → l ≡ classes → b < 256 → not (eqb (bitAnd (getD l b 0) mask) 0) ≡ hasClass mask b
-unfolding hasClass
-lent-has l b mask e h = rw (e, class-at b h)
 
 -- ---- one bit
 
@@ -87,15 +76,25 @@ module _ (b : ℕ) (h : 256 ≤ b) where
   unfolding classOf isToken isValue isPath isAuthority
   class-past = simp (past-leb, past-eqb, and-false)
 
+-- what holds at all octets and past them holds
+everywhere : {P : ℕ → Type 0} → ((b : ℕ) → b < 256 → P b) → ((b : ℕ) → 256 ≤ b → P b) → (b : ℕ) → P b
+everywhere lo hi b = ⊎-elim (lo b) (hi b) (split b 256)
+
+-- ---- the table: the mask of every octet, and nothing past them
+
+class-at : (b : ℕ) → getD classes b 0 ≡ classOf b
+unfolding classes classOf isToken isValue isPath isAuthority
+class-at = everywhere (equal-below (λ k. getD classes k 0) classOf 256 tt) (λ b h. List·getD-eq-default classes 0 h ∙ sym (class-past b h))
+
+pub in-classes : (mask b : ℕ) → hasIn classes mask b ≡ hasClass mask b
+unfolding hasIn hasClass
+in-classes mask b = rw (class-at b)
+
 -- ---- lower case
 
 pub lower-past : (b : ℕ) → 91 ≤ b → lowerOf b ≡ b
 unfolding lowerOf
 lower-past b h = let g : 65 ≤ b = omega arith in rw (le-ltb b 65 g, lt-leb b 90 h)
-
--- what holds at all octets and past them holds
-everywhere : {P : ℕ → Type 0} → ((b : ℕ) → b < 256 → P b) → ((b : ℕ) → 256 ≤ b → P b) → (b : ℕ) → P b
-everywhere lo hi b = ⊎-elim (lo b) (hi b) (split b 256)
 
 pub lower-lower : (b : ℕ) → lowerOf (lowerOf b) ≡ lowerOf b
 unfolding lowerOf

@@ -5,8 +5,8 @@ ghost use mathlib.Core.List.{map};
 ghost use Prim.Native.Nat.{_+_, _≤_};
 ghost use lib.Dec.{leb};
 ghost use lib.ListN.{length, drop};
-ghost use Rattle.octets.specs.Class.{hasClass, isBlank};
-ghost use Rattle.octets.specs.Table.{classes};
+ghost use Rattle.octets.specs.Class.{isBlank};
+ghost use Rattle.octets.specs.Table.{classes, hasIn};
 ghost use Rattle.octets.specs.Text.{spanLen, all, lowerOf, isLower, sameText, trimBack};
 ghost use Rattle.octets.specs.Limits.{methodMost, authorityMost, pathMost, headMost, trailerMost, chunkLineMost};
 ghost use Rattle.octets.specs.Limits.{linesMost, chunksMost, contentMost, binaryMost, informationalMost, listingMost};
@@ -280,18 +280,16 @@ pub fn class_table() -> [u8; 256]
     CLASSES
 }
 
-// Whether an octet is of one of the classes of mask.
+// Whether an octet is of one of the classes of mask, by the table that is lent.
 pub fn has(t: &[u8; 256], b: u8, mask: u8) -> bool
-    requires { ⌜ now t ≡ classes ⌝ }
-    ensures { λ r. ⌜ r ≡ hasClass mask b ⌝ }
+    ensures { λ r. ⌜ r ≡ hasIn (now (t .entry)) mask b ⌝ }
 {
     t[b as usize] & mask != 0
 }
 
-// Where the run of octets of a class from `from` on ends.
+// Where the run of octets of a class from `from` on ends: at `from` itself where s is shorter.
 pub fn span(t: &[u8; 256], s: &[u8], from: usize, mask: u8) -> usize
-    requires { ⌜ (now t ≡ classes) × (from ≤ length (now s)) ⌝ }
-    ensures { λ r. ⌜ (r ≡ from + spanLen (hasClass mask) (drop from (now (s .entry)))) × (r ≤ length (now (s .entry))) ⌝ }
+    ensures { λ r. ⌜ r ≡ from + spanLen (hasIn (now (t .entry)) mask) (drop from (now (s .entry))) ⌝ }
 {
     let mut i = from;
     while i < s.len() {
@@ -306,8 +304,7 @@ pub fn span(t: &[u8; 256], s: &[u8], from: usize, mask: u8) -> usize
 
 // Whether all octets are of a class.
 pub fn all_of(t: &[u8; 256], s: &[u8], mask: u8) -> bool
-    requires { ⌜ now t ≡ classes ⌝ }
-    ensures { λ r. ⌜ r ≡ all (hasClass mask) (now (s .entry)) ⌝ }
+    ensures { λ r. ⌜ r ≡ all (hasIn (now (t .entry)) mask) (now (s .entry)) ⌝ }
 {
     let mut i = 0;
     while i < s.len() {
@@ -332,8 +329,7 @@ pub fn is_blank(b: u8) -> bool
 
 // Where the run of spaces and tabs from `from` on ends.
 pub fn blank_end(s: &[u8], from: usize) -> usize
-    requires { ⌜ from ≤ length (now s) ⌝ }
-    ensures { λ r. ⌜ (r ≡ from + spanLen isBlank (drop from (now (s .entry)))) × (r ≤ length (now (s .entry))) ⌝ }
+    ensures { λ r. ⌜ r ≡ from + spanLen isBlank (drop from (now (s .entry))) ⌝ }
 {
     let mut i = from;
     while i < s.len() {
@@ -383,8 +379,7 @@ pub fn is_lower(b: u8) -> bool
 
 // Whether all octets are of a class and none is a letter of upper case.
 pub fn all_lower_of(t: &[u8; 256], s: &[u8], mask: u8) -> bool
-    requires { ⌜ now t ≡ classes ⌝ }
-    ensures { λ r. ⌜ r ≡ cond (all (hasClass mask) (now (s .entry))) (all isLower (now (s .entry))) false ⌝ }
+    ensures { λ r. ⌜ r ≡ cond (all (hasIn (now (t .entry)) mask) (now (s .entry))) (all isLower (now (s .entry))) false ⌝ }
 {
     let mut i = 0;
     while i < s.len() {
