@@ -1,4 +1,4 @@
-// Names with a rule of their own, and the rules of single parts. A table is the one of `octets::class_table`.
+// Names with a rule of their own, and the rules of single parts. What a promise says of a lent table is given that it is the one of `octets::class_table`.
 use crate::Kind;
 use octets::Limits;
 use octets::Refusals;
@@ -81,8 +81,7 @@ fn is_unsupported(m: &[u8]) -> bool
 }
 
 pub fn method_verdict(t: &[u8; 256], m: &[u8]) -> u32
-    requires { ⌜ now t ≡ classes ⌝ }
-    ensures { λ r. ⌜ r ≡ methodVerdict (now (m .entry)) ⌝ }
+    ensures { λ r. ⌜ (now (t .entry) ≡ classes → r ≡ methodVerdict (now (m .entry))) ⌝ }
 {
     if m.len() == 0 {
         return Refusals::BAD_SYNTAX;
@@ -100,8 +99,7 @@ pub fn method_verdict(t: &[u8; 256], m: &[u8]) -> u32
 }
 
 pub fn path_verdict(t: &[u8; 256], p: &[u8]) -> u32
-    requires { ⌜ now t ≡ classes ⌝ }
-    ensures { λ r. ⌜ r ≡ pathVerdict (now (p .entry)) ⌝ }
+    ensures { λ r. ⌜ (now (t .entry) ≡ classes → r ≡ pathVerdict (now (p .entry))) ⌝ }
 {
     if p.len() == 0 {
         return Refusals::BAD_SYNTAX;
@@ -119,8 +117,7 @@ pub fn path_verdict(t: &[u8; 256], p: &[u8]) -> u32
 }
 
 pub fn authority_verdict(t: &[u8; 256], a: &[u8]) -> u32
-    requires { ⌜ now t ≡ classes ⌝ }
-    ensures { λ r. ⌜ r ≡ authorityVerdict (now (a .entry)) ⌝ }
+    ensures { λ r. ⌜ (now (t .entry) ≡ classes → r ≡ authorityVerdict (now (a .entry))) ⌝ }
 {
     if octets::all_of(t, a, AUTHORITY) {
         return 0;
@@ -130,8 +127,7 @@ pub fn authority_verdict(t: &[u8; 256], a: &[u8]) -> u32
 
 // Whether the value of a host line names an authority.
 pub fn is_host(t: &[u8; 256], a: &[u8]) -> bool
-    requires { ⌜ now t ≡ classes ⌝ }
-    ensures { λ r. ⌜ r ≡ isHost (now (a .entry)) ⌝ }
+    ensures { λ r. ⌜ (now (t .entry) ≡ classes → r ≡ isHost (now (a .entry))) ⌝ }
 {
     if a.len() == 0 {
         return false;
@@ -173,8 +169,7 @@ pub fn is_bodyless(n: usize) -> bool
 }
 
 pub fn is_lower_name(t: &[u8; 256], n: &[u8]) -> bool
-    requires { ⌜ now t ≡ classes ⌝ }
-    ensures { λ r. ⌜ r ≡ isLowerName (now (n .entry)) ⌝ }
+    ensures { λ r. ⌜ (now (t .entry) ≡ classes → r ≡ isLowerName (now (n .entry))) ⌝ }
 {
     if n.len() == 0 {
         return false;
@@ -183,8 +178,7 @@ pub fn is_lower_name(t: &[u8; 256], n: &[u8]) -> bool
 }
 
 pub fn is_trimmed_value(t: &[u8; 256], v: &[u8]) -> bool
-    requires { ⌜ now t ≡ classes ⌝ }
-    ensures { λ r. ⌜ r ≡ isTrimmedValue (now (v .entry)) ⌝ }
+    ensures { λ r. ⌜ (now (t .entry) ≡ classes → r ≡ isTrimmedValue (now (v .entry))) ⌝ }
 {
     if octets::all_of(t, v, VALUE) {
         if octets::blank_end(v, 0) == 0 {

@@ -176,8 +176,7 @@ fn is_inside(s: &[u8], start: usize, len: usize) -> bool
 
 // The value of a host line, len octets from start on, as the authority.
 fn host_at(t: &[u8; 256], s: &[u8], start: usize, len: usize) -> Authority
-    requires { ⌜ now t ≡ classes ⌝ }
-    ensures { λ r. ⌜ r ≡ hostAt (now (s .entry)) start len ⌝ }
+    ensures { λ r. ⌜ (now (t .entry) ≡ classes → r ≡ hostAt (now (s .entry)) start len) ⌝ }
 {
     if is_inside(s, start, len) {
         let end = start + len;
@@ -190,8 +189,7 @@ fn host_at(t: &[u8; 256], s: &[u8], start: usize, len: usize) -> Authority
 
 // The authority by the host lines of a request in s, where control data have none, as in HTTP/1.1.
 pub fn host_in(t: &[u8; 256], s: &[u8], hosts: Hosts) -> Authority
-    requires { ⌜ now t ≡ classes ⌝ }
-    ensures { λ r. ⌜ r ≡ hostIn (now (s .entry)) hosts ⌝ }
+    ensures { λ r. ⌜ (now (t .entry) ≡ classes → r ≡ hostIn (now (s .entry)) hosts) ⌝ }
 {
     match hosts {
         Hosts::Nothing => Authority::Wrong,
@@ -235,8 +233,7 @@ fn given_in(s: &[u8], start: usize, len: usize, hosts: Hosts) -> Authority
 
 // The authority of a request in s whose control data have len octets from start on for it.
 pub fn authority_in(t: &[u8; 256], s: &[u8], start: usize, len: usize, hosts: Hosts) -> Authority
-    requires { ⌜ now t ≡ classes ⌝ }
-    ensures { λ r. ⌜ r ≡ authorityNoted (now (s .entry)) start len hosts ⌝ }
+    ensures { λ r. ⌜ (now (t .entry) ≡ classes → r ≡ authorityNoted (now (s .entry)) start len hosts) ⌝ }
 {
     if len == 0 {
         return host_in(t, s, hosts);
