@@ -39,8 +39,8 @@ pub fn is_hop_by_hop(name: &[u8]) -> bool
     octets::same(name, b"upgrade")
 }
 
-// The kind of a name, in any case of letters.
-pub fn kind_of(name: &[u8]) -> Kind
+// The kind of a name, in any case of letters, by each name of a kind in turn.
+fn kind_by_names(name: &[u8]) -> Kind
     ensures { λ r. ⌜ r ≡ kindOf (map lowerOf (now (name .entry))) ⌝ }
 {
     if octets::same(name, b"host") {
@@ -56,6 +56,17 @@ pub fn kind_of(name: &[u8]) -> Kind
         return Kind::HopByHop;
     }
     Kind::Ordinary
+}
+
+// The kind of a name, in any case of letters. Most names have no name's length that is of a kind, and are compared with none.
+pub fn kind_of(name: &[u8]) -> Kind
+    ensures { λ r. ⌜ r ≡ kindOf (map lowerOf (now (name .entry))) ⌝ }
+{
+    let n = name.len();
+    match n {
+        2 | 4 | 7 | 10 | 14 | 16 | 17 => kind_by_names(name),
+        _ => Kind::Ordinary,
+    }
 }
 
 // Whether a line of a kind travels; `host` says whether host lines do.
