@@ -37,15 +37,15 @@ path-verdict-requires c κs = search needs
 
 -- src/control.rt:83:1
 returns : tie.Need-returns
-returns c = c .method-verdict .ensures ∙ ap (λ (k : Ruled). verdictOf k (c .before .before .before .before .args .w .now)) (sym (c .before .enum-told .given .1))
+returns c = c .method-verdict .ensures (c .before .before .before .before .pre) ∙ ap (λ (k : Ruled). verdictOf k (c .before .before .before .before .args .w .now)) (sym (c .before .enum-told .given .1))
 
 -- src/control.rt:83:1
 returns-2 : tie.Need-returns-2
-returns-2 c = c .authority-verdict .ensures ∙ ap (λ (k : Ruled). verdictOf k (c .before .before .before .before .args .w .now)) (sym (c .before .enum-told2 .given .1))
+returns-2 c = c .authority-verdict .ensures (c .before .before .before .before .pre) ∙ ap (λ (k : Ruled). verdictOf k (c .before .before .before .before .args .w .now)) (sym (c .before .enum-told2 .given .1))
 
 -- src/control.rt:83:1
 returns-3 : tie.Need-returns-3
-returns-3 c = c .path-verdict .ensures ∙ ap (λ (k : Ruled). verdictOf k (c .before .before .before .before .args .w .now)) (sym (c .before .enum-told3 .given .1))
+returns-3 c = c .path-verdict .ensures (c .before .before .before .before .pre) ∙ ap (λ (k : Ruled). verdictOf k (c .before .before .before .before .args .w .now)) (sym (c .before .enum-told3 .given .1))
 
 pub verdict-of-spec : {M : Type 1} → statement M
 verdict-of-spec =
