@@ -1,7 +1,9 @@
 -- What a writer leaves in the octets that it was lent, and the part of a source that it copies.
 use mathlib.Core.Path.{_≡_}
+use mathlib.Core.Bool.{Bool, cond}
 use mathlib.Core.List.{List, [], _∷_}
-use Prim.Native.Nat.{ℕ, zero, suc, _+_}
+use Prim.Native.Nat.{ℕ, zero, suc, _+_, _≤_}
+use lib.Dec.{leb}
 use lib.ListN.{length, getD, set}
 
 -- the octets `bs` put into `o` one by one from the place `at` on, all else as it was
@@ -23,6 +25,20 @@ pub record Put (o : List ℕ) (at : ℕ) (bs : List ℕ) (n : ℕ) (o′ : List 
   pub next : r ≡ at + n
   pub size : length bs ≡ n
   pub all : o′ ≡ splice o at bs
+
+-- whether `n` octets have room in `o` from the place `at` on
+abbrev pub hasRoom : List ℕ → ℕ → ℕ → Bool
+hasRoom o at n = leb (at + n) (length o)
+
+-- what a writer of all or nothing leaves, which writes where the test `may` passes: the same; else `o` as it was, and its answer is `at`
+pub record PutIf (may : Bool) (o : List ℕ) (at : ℕ) (bs : List ℕ) (n : ℕ) (o′ : List ℕ) (r : ℕ) : Type 0 where
+  pub next : r ≡ cond may (at + n) at
+  pub size : length bs ≡ n
+  pub all : o′ ≡ cond may (splice o at bs) o
+
+-- the same, given that there is room
+abbrev pub Puts : List ℕ → ℕ → List ℕ → ℕ → List ℕ → ℕ → Type 0
+Puts o at bs n o′ r = at + n ≤ length o → Put o at bs n o′ r
 
 -- what is left of a run of writes: the octets `bs`, n of them, put into `o` from `at` on give what `bs₀` give in `o₀` from `at₀` on
 pub record Left (o₀ : List ℕ) (at₀ : ℕ) (bs₀ : List ℕ) (n₀ : ℕ) (o : List ℕ) (at : ℕ) (bs : List ℕ) (n : ℕ) : Type 0 where

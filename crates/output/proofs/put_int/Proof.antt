@@ -1,38 +1,53 @@
-use Prim.Native.Nat.{_+_, _≤_}
-use mathlib.Core.Path.{_≡_, refl}
 use native.Mathlib.Omega.{arith}
-use lib.ListN.{length, length-set}
+use mathlib.Core.Path.{refl, sym, ap, _∙_}
+use Rattle.numbers.proofs.IntegerForm.{has-form}
+use Rattle.numbers.proofs.IntegerLaws.{int-length}
+use Rattle.output.proofs.Room.{put-if, put-not, put-nothing, room-by}
 use borrow.Author.Needs.{needs}
-use Rattle.numbers.specs.Integer.{plain}
-use Rattle.numbers.proofs.IntegerForm.{fits-tag}
-use Rattle.output.proofs.Backwards.{toPut, put-place, put-int-end}
 use Rattle.output.proofs.put_int.Statement.{statement}
 use Rattle.output.proofs.put_int.Tie as tie
+use Rattle.output.proofs.put_int.Reads as reads
+use Rattle.output.proofs.put_int.Lts as lts
+use Rattle.numbers.proofs.int_len.Reads as int-len-reads
+use Rattle.output.proofs.lay_int.Reads as lay-int-reads
+use Rattle.output.proofs.lies_within.Reads as lies-within-reads
 
-abbrev Inv-loop : tie.InvT-loop
-Inv-loop out₀ at v n w₀ k₀ out w k = (length out ≡ length out₀) × (at + k ≤ length out) × (toPut plain 256 at k w out ≡ toPut plain 256 at n w₀ out₀)
+-- src/lib.rt:121:9
+int-len-requires : tie.Need-int-len-requires
+int-len-requires c κs = search needs
 
-abbrev μ-loop : tie.MeasureT-loop
-μ-loop out₀ at v n w₀ k₀ out w k = k
+-- src/lib.rt:123:9
+returns : tie.Need-returns
+returns c = put-nothing _ _ (int-length _) (sym (c .before .int-len .ensures) ∙ c .if1 .taken)
+
+-- src/lib.rt:125:8
+lies-within-requires : tie.Need-lies-within-requires
+lies-within-requires c κs = search needs
+
+-- src/lib.rt:126:9
+lay-int-requires : tie.Need-lay-int-requires
+lay-int-requires c κs = (has-form _ (λ z. c .before .before .before .if1 .left (c .before .before .before .before .int-len .ensures ∙ z)), c .before .before .before .before .int-len .ensures, room-by _ _ _ (c .before .before .lies-within .ensures) (c .before .if2 .taken))
+
+-- src/lib.rt:126:9
+same-length : tie.Need-same-length
+same-length c = search needs
+
+-- src/lib.rt:126:9
+returns-2 : tie.Need-returns-2
+returns-2 c = put-if (rw (sym (c .before .before .before .before .before .before .before .int-len .ensures)) (sym (c .before .before .before .before .before .lies-within .ensures) ∙ c .before .before .before .before .if2 .taken)) (c .before .before .lay-int .ensures)
+
+-- src/lib.rt:118:1
+returns-3 : tie.Need-returns-3
+returns-3 c = put-not (rw (sym (c .before .before .before .int-len .ensures)) (sym (c .before .lies-within .ensures) ∙ c .if2 .left)) (int-length _)
 
 pub put-int-spec : {M : Type 1} → statement M
 put-int-spec =
     tie.close
     (tie.spec
-    Inv-loop
-    μ-loop
-    (λ c κs. search needs)  -- int-len-requires
-    (λ c κs. search needs)  -- int-tag-requires
-    (λ c. search fits-tag)  -- add-w
-    (λ c. (refl, omega arith, refl))  -- loop-holds
-    (λ c. search needs)  -- cast-out
-    (λ c. search needs)  -- add-out
-    (λ c. search needs)  -- sub-out
-    (λ c. search needs)  -- slice-write-out
-    (λ c. search needs)  -- sub-k
-    (λ c. search needs)  -- loop-less
-    (λ c. (simp length-set (search needs), simp length-set (omega arith), search put-place))  -- loop-again
-    (λ c. search needs)  -- add-result
-    (λ c. search needs)  -- same-length
-    (λ c. search put-int-end)  -- returns
-    )
+    int-len-requires
+    returns
+    lies-within-requires
+    lay-int-requires
+    same-length
+    returns-2
+    returns-3)

@@ -1,51 +1,52 @@
--- `put_lower` meets its contract, as `put_part` does.
-use mathlib.Core.Path.{_≡_, refl, ap, _∙_}
-use mathlib.Core.List.{map}
-use Prim.Native.Nat.{_+_, _-_, _≤_}
-use native.Mathlib.Nat.{add-zero, sub-zero}
-use lib.ListN.{length, length-set, length-map}
+use native.Mathlib.Omega.{arith}
+use mathlib.Core.Path.{refl, sym, _∙_}
+use lib.ListN.{length-map}
+use Rattle.output.proofs.Laws.{elements-length}
+use Rattle.output.proofs.Room.{put-if, put-not, room-by}
 use borrow.Author.Needs.{needs}
-use Rattle.output.specs.Splice.{splice, part}
-use Rattle.octets.specs.Text.{lowerOf}
-use Rattle.output.proofs.Laws.{elements-length, elements-more, elements-none, put-turn}
 use Rattle.output.proofs.put_lower.Statement.{statement}
 use Rattle.output.proofs.put_lower.Tie as tie
+use Rattle.output.proofs.put_lower.Reads as reads
+use Rattle.output.proofs.put_lower.Lts as lts
+use Rattle.output.proofs.copy_lower.Reads as copy-lower-reads
+use Rattle.output.proofs.lies_within.Reads as lies-within-reads
 
-abbrev Inv-loop : tie.InvT-loop
-Inv-loop out₀ at src from len i₀ out i =
-    (i ≤ len) × (length out ≡ length out₀)
-    × (splice out (at + i) (map lowerOf (part src (from + i) (len - i))) ≡ splice out₀ at (map lowerOf (part src from len)))
+-- src/lib.rt:85:8
+lies-within-requires : tie.Need-lies-within-requires
+lies-within-requires c κs = search needs
 
-abbrev μ-loop : tie.MeasureT-loop
-μ-loop out₀ at src from len i₀ out i = len - i
+-- src/lib.rt:86:12
+lies-within-requires-2 : tie.Need-lies-within-requires-2
+lies-within-requires-2 c κs = search needs
+
+-- src/lib.rt:87:13
+copy-lower-requires : tie.Need-copy-lower-requires
+copy-lower-requires c κs = (room-by _ _ _ (c .before .before .lies-within2 .ensures) (c .before .if2 .taken), room-by _ _ _ (c .before .before .before .before .lies-within .ensures) (c .before .before .before .if1 .taken))
+
+-- src/lib.rt:87:13
+same-length : tie.Need-same-length
+same-length c = search needs
+
+-- src/lib.rt:87:13
+returns : tie.Need-returns
+returns c = put-if (rw (sym (c .before .before .before .before .before .before .before .lies-within .ensures) ∙ c .before .before .before .before .before .before .if1 .taken, sym (c .before .before .before .before .before .lies-within2 .ensures) ∙ c .before .before .before .before .if2 .taken)) (c .before .before .copy-lower .ensures)
+
+-- src/lib.rt:82:1
+returns-2 : tie.Need-returns-2
+returns-2 c = put-not (rw (sym (c .before .before .before .lies-within .ensures) ∙ c .before .before .if1 .taken, sym (c .before .lies-within2 .ensures) ∙ c .if2 .left)) (rw length-map (elements-length _ _ _ _))
+
+-- src/lib.rt:82:1
+returns-3 : tie.Need-returns-3
+returns-3 c = put-not (rw (sym (c .before .lies-within .ensures) ∙ c .if1 .left)) (rw length-map (elements-length _ _ _ _))
 
 pub put-lower-spec : {M : Type 1} → statement M
 put-lower-spec =
     tie.close
     (tie.spec
-    Inv-loop
-    μ-loop
-    (λ c. (search needs, refl, simp (add-zero, sub-zero)))  -- loop-holds
-    (λ c. search needs)  -- add-lower
-    (λ c. search needs)  -- shared-slice-read-lower
-    (λ c κs. search needs)  -- lower-requires
-    (λ c. search needs)  -- add-out
-    (λ c. search needs)  -- slice-write-out
-    (λ c. search needs)  -- add-i
-    (λ c. search needs)  -- loop-less
-    (λ c. (
-      search needs,
-      simp length-set (search needs),
-      rw (c .lower .ensures)
-          (put-turn _ _ _ _ _ _ (ap (map lowerOf) (elements-more _ _ _ _ _ (c .before .before .loop-test .taken)))
-          ∙ c .before .before .before .loop .inv .2),
-    ))  -- loop-again
-    (λ c. search needs)  -- add-result
-    (λ c. search needs)  -- same-length
-    (λ c.
-    record {
-      next = refl;
-      size = simp (length-map, elements-length);
-      all = rw (elements-none _ _ _ _ _ (c .loop-test .left)) at (c .before .loop .inv .2);
-    })  -- returns
-    )
+    lies-within-requires
+    lies-within-requires-2
+    copy-lower-requires
+    same-length
+    returns
+    returns-2
+    returns-3)

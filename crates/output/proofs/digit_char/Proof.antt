@@ -1,7 +1,7 @@
 use Rattle.numbers.specs.Digits.{charOf}
 use Rattle.octets.proofs.Kit.{kit}
-use Rattle.numbers.proofs.digit_char.Statement.{statement}
-use Rattle.numbers.proofs.digit_char.Tie as tie
+use Rattle.output.proofs.digit_char.Statement.{statement}
+use Rattle.output.proofs.digit_char.Tie as tie
 
 pub digit-char-spec : {M : Type 1} → statement M
 unfolding charOf
