@@ -2,7 +2,10 @@ use Prim.Native.Nat.{ℕ, _+_, _-_, _*_, _≤_, _<_}
 use mathlib.Core.Path.{_≡_, refl, sym, ap, _∙_}
 use native.Mathlib.Omega.{arith}
 use lib.ListN.{length, getD}
+use borrow.Author.Needs.{needs}
+use borrow.Author.Tests.{le-leb}
 use Rattle.output.specs.Splice.{Left}
+use Rattle.output.proofs.Room.{puts-part}
 use Rattle.messages.specs.Meaning.{contentOf}
 use Rattle.ranges.specs.Entries.{chunksIn}
 use Rattle.write_binary.proofs.Steps.{content-begin, left-over, left-chunk, content-room, content-none}
@@ -45,7 +48,7 @@ number-at-requires-2 c κs = omega (arith, c .before .before .before .before .be
 
 -- src/put.rt:52:9
 put-part-requires : tie.Need-put-part-requires Inv-loop μ-loop
-put-part-requires c κs = (omega (arith, c .before .before .before .before .before .before .before .before .pre .1, c .before .before .before .before .loop .inv .1 .next, c .before .before .before .before .loop .inv .1 .kept, c .before .number-at2 .ensures .0, content-room (c .before .before .before .before .before .before .before .before .args .s .now) (c .before .before .before .before .before .before .before .before .args .chunks .now) (c .before .before .before .before .loop .i) (c .before .before .before .before .before .before .before .before .args .n) (c .before .before .before .loop-test .taken)), omega (arith, c .before .before .number-at .ensures .0, c .before .number-at2 .ensures .0, c .before .before .before .before .before .before .before .before .pre .0 .each (c .before .before .before .before .loop .i) (c .before .before .before .loop-test .taken)))
+put-part-requires c κs = search needs
 
 -- src/put.rt:53:9
 add-i : tie.Need-add-i Inv-loop μ-loop
@@ -57,7 +60,10 @@ loop-less c = omega arith
 
 -- src/put.rt:49:5
 loop-again : tie.Need-loop-again Inv-loop μ-loop
-loop-again c = (omega arith, left-chunk (c .before .before .before .before .before .before .before .before .before .before .before .args .s .now) (c .before .before .before .before .before .before .before .before .before .before .before .args .chunks .now) (c .before .before .before .before .before .before .before .loop .i) (c .before .before .before .before .before .before .before .before .before .before .before .args .n) (c .before .before .before .before .before .before .loop-test .taken) (c .before .before .before .before .before .number-at .ensures .0) (c .before .before .before .before .number-at2 .ensures .0) (c .before .before .before .before .before .before .before .loop .inv .1) (c .before .before .put-part .ensures))
+loop-again c =
+    let within : c .before .before .before .before .before .number-at .result + c .before .before .before .before .number-at2 .result ≤ length (c .before .before .before .before .before .before .before .before .before .before .before .args .s .now) = omega (arith, c .before .before .before .before .before .number-at .ensures .0, c .before .before .before .before .number-at2 .ensures .0, c .before .before .before .before .before .before .before .before .before .before .before .pre .0 .each (c .before .before .before .before .before .before .before .loop .i) (c .before .before .before .before .before .before .loop-test .taken)) in
+    let p = puts-part (le-leb _ _ within) (c .before .before .put-part .ensures) (omega (arith, c .before .before .before .before .before .before .before .before .before .before .before .pre .1, c .before .before .before .before .before .before .before .loop .inv .1 .next, c .before .before .before .before .before .before .before .loop .inv .1 .kept, c .before .before .before .before .number-at2 .ensures .0, content-room (c .before .before .before .before .before .before .before .before .before .before .before .args .s .now) (c .before .before .before .before .before .before .before .before .before .before .before .args .chunks .now) (c .before .before .before .before .before .before .before .loop .i) (c .before .before .before .before .before .before .before .before .before .before .before .args .n) (c .before .before .before .before .before .before .loop-test .taken))) in
+    (omega arith, left-chunk (c .before .before .before .before .before .before .before .before .before .before .before .args .s .now) (c .before .before .before .before .before .before .before .before .before .before .before .args .chunks .now) (c .before .before .before .before .before .before .before .loop .i) (c .before .before .before .before .before .before .before .before .before .before .before .args .n) (c .before .before .before .before .before .before .loop-test .taken) (c .before .before .before .before .before .number-at .ensures .0) (c .before .before .before .before .number-at2 .ensures .0) (c .before .before .before .before .before .before .before .loop .inv .1) p)
 
 -- src/put.rt:43:1
 same-length : tie.Need-same-length Inv-loop μ-loop

@@ -1,10 +1,9 @@
-use mathlib.Core.Path.{_≡_, refl, sym, ap, _∙_}
 use native.Mathlib.Omega.{arith}
 use borrow.Author.Needs.{needs}
 use Rattle.output.proofs.Laws.{put-then, put-count}
+use Rattle.output.proofs.Room.{puts}
 use Rattle.write_binary.proofs.Lengths.{counted-is}
 use Rattle.write_binary.proofs.Steps.{put-as}
-use borrow.Author.Needs.{needs}
 use Rattle.write_binary.proofs.put.put_content.Statement.{statement}
 use Rattle.write_binary.proofs.put.put_content.Tie as tie
 use Rattle.write_binary.proofs.put.put_content.Reads as reads
@@ -18,7 +17,7 @@ put-int-requires c κs = search needs
 
 -- src/put.rt:83:5
 put-chunks-requires : tie.Need-put-chunks-requires
-put-chunks-requires c κs = search needs
+put-chunks-requires c κs = let p = puts (c .before .before .before .put-int .ensures) (omega (arith, c .before .before .before .before .before .before .before .before .pre .3)) in (c .before .before .before .before .before .before .before .before .pre .0, omega (arith, c .before .before .before .before .before .before .before .before .pre .1, c .before .before .before .before .before .before .before .before .pre .3, c .before .before .before .put-int .kept, p .next))
 
 -- src/put.rt:78:1
 same-length : tie.Need-same-length
@@ -26,7 +25,7 @@ same-length c = search needs
 
 -- src/put.rt:78:1
 returns : tie.Need-returns
-returns c = put-as (counted-is _ _ (c .before .before .before .before .before .before .before .before .before .before .before .pre .1)) (put-count (omega (arith, c .before .before .before .before .before .before .before .before .before .before .before .pre .1)) (put-then (c .before .before .before .before .before .before .put-int .ensures) (c .before .before .put-chunks .ensures)))
+returns c = put-as (counted-is _ _ (c .before .before .before .before .before .before .before .before .before .before .before .pre .1)) (put-count (omega (arith, c .before .before .before .before .before .before .before .before .before .before .before .pre .1)) (put-then (puts (c .before .before .before .before .before .before .put-int .ensures) (omega (arith, c .before .before .before .before .before .before .before .before .before .before .before .pre .3))) (c .before .before .put-chunks .ensures)))
 
 pub put-content-spec : {M : Type 1} → statement M
 put-content-spec = tie.close (tie.spec put-int-requires put-chunks-requires same-length returns)

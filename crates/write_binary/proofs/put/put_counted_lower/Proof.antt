@@ -1,10 +1,8 @@
-use mathlib.Core.Path.{_≡_, refl, sym, ap, _∙_}
-use native.Mathlib.Omega.{arith}
 use borrow.Author.Needs.{needs}
-use Rattle.output.proofs.Laws.{put-then}
-use Rattle.write_binary.proofs.Lengths.{counted-is, part-length, lower-length}
+use borrow.Author.Tests.{le-leb}
+use Rattle.output.proofs.Room.{puts, puts-part, puts-then}
+use Rattle.write_binary.proofs.Lengths.{counted-is, lower-length}
 use Rattle.write_binary.proofs.Steps.{put-as}
-use borrow.Author.Needs.{needs}
 use Rattle.write_binary.proofs.put.put_counted_lower.Statement.{statement}
 use Rattle.write_binary.proofs.put.put_counted_lower.Tie as tie
 use Rattle.write_binary.proofs.put.put_counted_lower.Reads as reads
@@ -26,7 +24,7 @@ same-length c = search needs
 
 -- src/put.rt:34:1
 returns : tie.Need-returns
-returns c = put-as (counted-is _ _ (lower-length _ _ _)) (put-then (c .before .before .before .before .before .before .put-int .ensures) (c .before .before .put-lower .ensures))
+returns c = put-as (counted-is _ _ (lower-length _ _ _)) (puts-then (puts (c .before .before .before .before .before .before .put-int .ensures)) (puts-part (le-leb _ _ (c .before .before .before .before .before .before .before .before .before .before .pre .1)) (c .before .before .put-lower .ensures)) (c .before .before .before .before .before .before .before .before .before .before .pre .2))
 
 pub put-counted-lower-spec : {M : Type 1} → statement M
 put-counted-lower-spec =

@@ -1,8 +1,7 @@
-use mathlib.Core.Path.{_≡_, refl, sym, ap, _∙_}
 use native.Mathlib.Omega.{arith}
 use borrow.Author.Needs.{needs}
 use Rattle.output.proofs.Laws.{put-then}
-use borrow.Author.Needs.{needs}
+use Rattle.output.proofs.Room.{puts}
 use Rattle.write_binary.proofs.put.put_head.Statement.{statement}
 use Rattle.write_binary.proofs.put.put_head.Tie as tie
 use Rattle.write_binary.proofs.put.put_head.Reads as reads
@@ -16,7 +15,7 @@ put-int-requires c κs = search needs
 
 -- src/put.rt:126:5
 put-section-requires : tie.Need-put-section-requires
-put-section-requires c κs = search needs
+put-section-requires c κs = let p = puts (c .before .before .before .put-int .ensures) (omega (arith, c .before .before .before .before .before .before .before .before .pre .2)) in (c .before .before .before .before .before .before .before .before .pre .1, omega (arith, c .before .before .before .before .before .before .before .before .pre .2, c .before .before .before .put-int .kept, p .next))
 
 -- src/put.rt:113:1
 same-length : tie.Need-same-length
@@ -24,7 +23,7 @@ same-length c = search needs
 
 -- src/put.rt:113:1
 returns : tie.Need-returns
-returns c = put-then (c .before .before .before .before .before .before .put-int .ensures) (c .before .before .put-section .ensures)
+returns c = put-then (puts (c .before .before .before .before .before .before .put-int .ensures) (omega (arith, c .before .before .before .before .before .before .before .before .before .before .before .pre .2))) (c .before .before .put-section .ensures)
 
 pub put-head-spec : {M : Type 1} → statement M
 put-head-spec = tie.close (tie.spec put-int-requires put-section-requires same-length returns)

@@ -1,8 +1,7 @@
-use mathlib.Core.Path.{_≡_, refl, sym, ap, _∙_}
 use native.Mathlib.Omega.{arith}
 use borrow.Author.Needs.{needs}
+use Rattle.output.proofs.Room.{puts}
 use Rattle.write_binary.proofs.Steps.{put-request}
-use borrow.Author.Needs.{needs}
 use Rattle.write_binary.proofs.put.put_request.Statement.{statement}
 use Rattle.write_binary.proofs.put.put_request.Tie as tie
 use Rattle.write_binary.proofs.put.put_request.Reads as reads
@@ -17,19 +16,19 @@ put-octet-requires c κs = search needs
 
 -- src/put.rt:169:9
 put-counted-part-requires : tie.Need-put-counted-part-requires
-put-counted-part-requires c κs = search needs
+put-counted-part-requires c κs = let p = puts (c .before .before .before .put-octet .ensures) (omega (arith, c .before .before .before .before .before .before .before .pre .3)) in (c .before .before .before .before .before .before .before .pre .0, omega (arith, c .before .before .before .before .before .before .before .pre .3, c .before .before .before .put-octet .kept, p .next))
 
 -- src/put.rt:170:9
 put-scheme-requires : tie.Need-put-scheme-requires
-put-scheme-requires c κs = search needs
+put-scheme-requires c κs = let p = puts (c .before .before .before .before .before .before .before .put-octet .ensures) (omega (arith, c .before .before .before .before .before .before .before .before .before .before .before .pre .3)) in omega (arith, c .before .before .before .before .before .before .before .before .before .before .before .pre .3, c .before .before .before .before .before .before .before .put-octet .kept, p .next, c .before .before .before .put-counted-part .kept, c .before .before .before .put-counted-part .ensures .next)
 
 -- src/put.rt:171:9
 put-counted-part-requires-2 : tie.Need-put-counted-part-requires-2
-put-counted-part-requires-2 c κs = search needs
+put-counted-part-requires-2 c κs = let p = puts (c .before .before .before .before .before .before .before .before .before .before .before .put-octet .ensures) (omega (arith, c .before .before .before .before .before .before .before .before .before .before .before .before .before .before .before .pre .3)) in (c .before .before .before .before .before .before .before .before .before .before .before .before .before .before .before .pre .1, omega (arith, c .before .before .before .before .before .before .before .before .before .before .before .before .before .before .before .pre .3, c .before .before .before .before .before .before .before .before .before .before .before .put-octet .kept, p .next, c .before .before .before .before .before .before .before .put-counted-part .kept, c .before .before .before .before .before .before .before .put-counted-part .ensures .next, c .before .before .before .put-scheme .kept, c .before .before .before .put-scheme .ensures .next))
 
 -- src/put.rt:172:5
 put-counted-part-requires-3 : tie.Need-put-counted-part-requires-3
-put-counted-part-requires-3 c κs = search needs
+put-counted-part-requires-3 c κs = let p = puts (c .before .before .before .before .before .before .before .before .before .before .before .before .before .before .before .put-octet .ensures) (omega (arith, c .before .before .before .before .before .before .before .before .before .before .before .before .before .before .before .before .before .before .before .pre .3)) in (c .before .before .before .before .before .before .before .before .before .before .before .before .before .before .before .before .before .before .before .pre .2, omega (arith, c .before .before .before .before .before .before .before .before .before .before .before .before .before .before .before .before .before .before .before .pre .3, c .before .before .before .before .before .before .before .before .before .before .before .before .before .before .before .put-octet .kept, p .next, c .before .before .before .before .before .before .before .before .before .before .before .put-counted-part .kept, c .before .before .before .before .before .before .before .before .before .before .before .put-counted-part .ensures .next, c .before .before .before .before .before .before .before .put-scheme .kept, c .before .before .before .before .before .before .before .put-scheme .ensures .next, c .before .before .before .put-counted-part2 .kept, c .before .before .before .put-counted-part2 .ensures .next))
 
 -- src/put.rt:157:1
 same-length : tie.Need-same-length
@@ -37,7 +36,7 @@ same-length c = search needs
 
 -- src/put.rt:157:1
 returns : tie.Need-returns
-returns c = put-request _ _ _ _ (c .before .before .before .before .before .before .before .before .before .before .before .before .before .before .before .before .before .before .put-octet .ensures) (c .before .before .before .before .before .before .before .before .before .before .before .before .before .before .put-counted-part .ensures) (c .before .before .before .before .before .before .before .before .before .before .put-scheme .ensures) (c .before .before .before .before .before .before .put-counted-part2 .ensures) (c .before .before .put-counted-part3 .ensures)
+returns c = put-request _ _ _ _ (puts (c .before .before .before .before .before .before .before .before .before .before .before .before .before .before .before .before .before .before .put-octet .ensures) (omega (arith, c .before .before .before .before .before .before .before .before .before .before .before .before .before .before .before .before .before .before .before .before .before .before .pre .3))) (c .before .before .before .before .before .before .before .before .before .before .before .before .before .before .put-counted-part .ensures) (c .before .before .before .before .before .before .before .before .before .before .put-scheme .ensures) (c .before .before .before .before .before .before .put-counted-part2 .ensures) (c .before .before .put-counted-part3 .ensures)
 
 pub put-request-spec : {M : Type 1} → statement M
 put-request-spec =

@@ -1,8 +1,7 @@
-use mathlib.Core.Path.{_≡_, refl, sym, ap, _∙_}
 use native.Mathlib.Omega.{arith}
 use borrow.Author.Needs.{needs}
+use Rattle.output.proofs.Room.{puts}
 use Rattle.write_binary.proofs.Steps.{put-response}
-use borrow.Author.Needs.{needs}
 use Rattle.write_binary.proofs.put.put_response.Statement.{statement}
 use Rattle.write_binary.proofs.put.put_response.Tie as tie
 use Rattle.write_binary.proofs.put.put_response.Reads as reads
@@ -17,7 +16,7 @@ put-octet-requires c κs = search needs
 
 -- src/put.rt:188:9
 put-heads-requires : tie.Need-put-heads-requires
-put-heads-requires c κs = search needs
+put-heads-requires c κs = let p = puts (c .before .before .before .put-octet .ensures) (omega (arith, c .before .before .before .before .before .before .before .before .before .pre .1)) in (c .before .before .before .before .before .before .before .before .before .pre .0, omega (arith, c .before .before .before .before .before .before .before .before .before .pre .1, c .before .before .before .put-octet .kept, p .next))
 
 -- src/put.rt:189:5
 put-int-requires : tie.Need-put-int-requires
@@ -29,7 +28,9 @@ same-length c = search needs
 
 -- src/put.rt:176:1
 returns : tie.Need-returns
-returns c = put-response _ _ (c .before .before .before .before .before .before .before .before .before .before .put-octet .ensures) (c .before .before .before .before .before .before .put-heads .ensures) (c .before .before .put-int .ensures)
+returns c =
+    let p = puts (c .before .before .before .before .before .before .before .before .before .before .put-octet .ensures) (omega (arith, c .before .before .before .before .before .before .before .before .before .before .before .before .before .before .before .before .pre .1)) in
+    put-response _ _ p (c .before .before .before .before .before .before .put-heads .ensures) (puts (c .before .before .put-int .ensures) (omega (arith, c .before .before .before .before .before .before .before .before .before .before .before .before .before .before .before .before .pre .1, c .before .before .before .before .before .before .before .before .before .before .put-octet .kept, p .next, c .before .before .before .before .before .before .put-heads .kept, c .before .before .before .before .before .before .put-heads .ensures .next)))
 
 pub put-response-spec : {M : Type 1} → statement M
 put-response-spec =

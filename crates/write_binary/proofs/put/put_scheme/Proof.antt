@@ -1,8 +1,7 @@
-use mathlib.Core.Path.{_≡_, refl, sym, ap, _∙_}
 use native.Mathlib.Omega.{arith}
 use borrow.Author.Needs.{needs}
+use Rattle.output.proofs.Room.{puts}
 use Rattle.write_binary.proofs.Steps.{scheme-http, scheme-https, put-http, put-https}
-use borrow.Author.Needs.{needs}
 use Rattle.write_binary.proofs.put.put_scheme.Statement.{statement}
 use Rattle.write_binary.proofs.put.put_scheme.Tie as tie
 use Rattle.write_binary.proofs.put.put_scheme.Reads as reads
@@ -15,7 +14,7 @@ slice-aggregate-put-text c = search needs
 
 -- src/put.rt:64:9
 put-text-requires : tie.Need-put-text-requires
-put-text-requires c κs = omega (arith, c .before .before .before .before .pre, scheme-http (c .before .before .before .before .args .scheme) (c .before .before .if1 .taken))
+put-text-requires c κs = search needs
 
 -- src/put.rt:64:9
 same-length : tie.Need-same-length
@@ -23,7 +22,7 @@ same-length c = search needs
 
 -- src/put.rt:64:9
 returns : tie.Need-returns
-returns c = put-http (c .before .before .before .before .before .if1 .taken) (c .before .before .put-text .ensures)
+returns c = put-http (c .before .before .before .before .before .if1 .taken) (puts (c .before .before .put-text .ensures) (omega (arith, c .before .before .before .before .before .before .before .pre, scheme-http (c .before .before .before .before .before .before .before .args .scheme) (c .before .before .before .before .before .if1 .taken))))
 
 -- src/put.rt:66:23
 slice-aggregate-put-text-2 : tie.Need-slice-aggregate-put-text-2
@@ -31,7 +30,7 @@ slice-aggregate-put-text-2 c = search needs
 
 -- src/put.rt:66:5
 put-text-requires-2 : tie.Need-put-text-requires-2
-put-text-requires-2 c κs = omega (arith, c .before .before .before .before .pre, scheme-https (c .before .before .before .before .args .scheme) (c .before .before .if1 .left))
+put-text-requires-2 c κs = search needs
 
 -- src/put.rt:59:1
 same-length-2 : tie.Need-same-length-2
@@ -39,7 +38,7 @@ same-length-2 c = search needs
 
 -- src/put.rt:59:1
 returns-2 : tie.Need-returns-2
-returns-2 c = put-https (c .before .before .before .before .before .if1 .left) (c .before .before .put-text2 .ensures)
+returns-2 c = put-https (c .before .before .before .before .before .if1 .left) (puts (c .before .before .put-text2 .ensures) (omega (arith, c .before .before .before .before .before .before .before .pre, scheme-https (c .before .before .before .before .before .before .before .args .scheme) (c .before .before .before .before .before .if1 .left))))
 
 pub put-scheme-spec : {M : Type 1} → statement M
 put-scheme-spec =

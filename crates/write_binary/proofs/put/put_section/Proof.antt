@@ -1,10 +1,10 @@
-use mathlib.Core.Path.{_≡_, refl, sym, ap, _∙_}
+use mathlib.Core.Path.{ap}
 use Prim.Native.Nat.{ℕ}
 use native.Mathlib.Omega.{arith}
 use borrow.Author.Needs.{needs}
 use Rattle.numbers.specs.Integer.{intLen}
+use Rattle.output.proofs.Room.{puts}
 use Rattle.write_binary.proofs.Steps.{put-section}
-use borrow.Author.Needs.{needs}
 use Rattle.write_binary.proofs.put.put_section.Statement.{statement}
 use Rattle.write_binary.proofs.put.put_section.Tie as tie
 use Rattle.write_binary.proofs.put.put_section.Reads as reads
@@ -13,25 +13,30 @@ use Rattle.output.proofs.put_int.Reads as put-int-reads
 use Rattle.write_binary.proofs.measure.fields_size.Reads as fields-size-reads
 use Rattle.write_binary.proofs.put.put_fields.Reads as put-fields-reads
 
--- src/put.rt:106:9
+-- src/put.rt:110:9
 fields-size-requires : tie.Need-fields-size-requires
 fields-size-requires c κs = search needs
 
--- src/put.rt:107:9
+-- src/put.rt:111:9
 put-int-requires : tie.Need-put-int-requires
-put-int-requires c κs = (omega (arith, c .before .fields-size .ensures .1), omega (arith, c .before .before .before .before .before .pre .1, c .before .fields-size .ensures .0, ap (λ (n : ℕ). intLen n) (c .before .fields-size .ensures .0)))
+put-int-requires c κs = search needs
 
--- src/put.rt:108:5
+-- src/put.rt:112:5
 put-fields-requires : tie.Need-put-fields-requires
-put-fields-requires c κs = (c .before .before .before .before .before .before .before .before .before .pre .0, omega (arith, c .before .before .before .before .before .before .before .before .before .pre .1, c .before .before .before .put-int .kept, c .before .before .before .put-int .ensures .next, ap (λ (n : ℕ). intLen n) (c .before .before .before .before .before .fields-size .ensures .0)))
+put-fields-requires c κs =
+    let e = ap (λ (n : ℕ). intLen n) (c .before .before .before .before .before .fields-size .ensures .0) in
+    let p = puts (c .before .before .before .put-int .ensures) (omega (arith, c .before .before .before .before .before .before .before .before .before .pre .1, e)) in
+    (c .before .before .before .before .before .before .before .before .before .pre .0, omega (arith, c .before .before .before .before .before .before .before .before .before .pre .1, c .before .before .before .put-int .kept, p .next, e))
 
--- src/put.rt:102:1
+-- src/put.rt:106:1
 same-length : tie.Need-same-length
 same-length c = search needs
 
--- src/put.rt:102:1
+-- src/put.rt:106:1
 returns : tie.Need-returns
-returns c = put-section (c .before .before .before .before .before .before .before .before .before .before .before .before .args .s .now) (c .before .before .before .before .before .before .before .before .before .before .before .before .args .ranges .now) (c .before .before .before .before .before .before .before .before .before .before .before .before .args .k) (c .before .before .before .before .before .before .before .before .before .before .before .before .args .n) (c .before .before .before .before .before .before .before .before .fields-size .ensures .0) (c .before .before .before .before .before .before .put-int .ensures) (c .before .before .put-fields .ensures)
+returns c =
+    let p = puts (c .before .before .before .before .before .before .put-int .ensures) (omega (arith, c .before .before .before .before .before .before .before .before .before .before .before .before .pre .1, ap (λ (n : ℕ). intLen n) (c .before .before .before .before .before .before .before .before .fields-size .ensures .0))) in
+    put-section (c .before .before .before .before .before .before .before .before .before .before .before .before .args .s .now) (c .before .before .before .before .before .before .before .before .before .before .before .before .args .ranges .now) (c .before .before .before .before .before .before .before .before .before .before .before .before .args .k) (c .before .before .before .before .before .before .before .before .before .before .before .before .args .n) (c .before .before .before .before .before .before .before .before .fields-size .ensures .0) p (c .before .before .put-fields .ensures)
 
 pub put-section-spec : {M : Type 1} → statement M
 put-section-spec =
