@@ -1,6 +1,6 @@
 use borrow.Author.Needs.{needs}
-use native.Mathlib.Omega.{arith}
-use Rattle.output.proofs.Laws.{put-then}
+use borrow.Author.Tests.{le-leb}
+use Rattle.output.proofs.Room.{puts, puts-part, puts-then}
 use Rattle.write_http1.specs.Write.{fieldText, hostField}
 use Rattle.write_http1.proofs.heads.put_host.Statement.{statement}
 use Rattle.write_http1.proofs.heads.put_host.Tie as tie
@@ -33,7 +33,7 @@ same-length c = search needs
 
 returns : tie.Need-returns
 unfolding fieldText hostField
-returns c = put-then (put-then (c .before .before .before .before .before .before .before .before .before .before .before .before .before .put-text .ensures) (c .before .before .before .before .before .before .before .put-part .ensures)) (c .before .before .put-text2 .ensures)
+returns c = puts-then (puts-then (puts (c .before .before .before .before .before .before .before .before .before .before .before .before .before .put-text .ensures)) (puts-part (le-leb _ _ (c .before .before .before .before .before .before .before .before .before .before .before .before .before .before .before .before .before .before .pre .0)) (c .before .before .before .before .before .before .before .put-part .ensures))) (puts (c .before .before .put-text2 .ensures)) (c .before .before .before .before .before .before .before .before .before .before .before .before .before .before .before .before .before .before .pre .1)
 
 pub put-host-spec : {M : Type 1} → statement M
 put-host-spec =

@@ -1,7 +1,8 @@
 use borrow.Author.Needs.{needs}
 use native.Mathlib.Omega.{arith}
-use mathlib.Core.Path.{_≡_, refl, sym, ap, _∙_}
-use Rattle.output.proofs.Laws.{put-then, put-count, put-none}
+use mathlib.Core.Path.{sym, _∙_}
+use Rattle.output.proofs.Laws.{put-none}
+use Rattle.output.proofs.Room.{puts, puts-then}
 use Rattle.write_http1.proofs.Body.{put-as}
 use Rattle.write_http1.proofs.Length.{length-none, length-plain, length-coded}
 use Rattle.write_http1.proofs.lengths.put_length.Statement.{statement}
@@ -19,34 +20,34 @@ slice-aggregate-put-text : tie.Need-slice-aggregate-put-text
 slice-aggregate-put-text c = search needs
 
 put-text-requires : tie.Need-put-text-requires
-put-text-requires c κs = let e = length-plain (c .before .before .before .before .before .before .before .args .r) (c .before .before .before .before .if1 .taken) (sym (c .before .before .before .is-unmeasured .ensures) ∙ c .before .before .if2 .left) in omega (arith, e .size, c .before .before .before .before .before .before .before .pre)
+put-text-requires c κs = search needs
 
 put-decimal-requires : tie.Need-put-decimal-requires
-put-decimal-requires c κs = let e = length-plain (c .before .before .before .before .before .before .before .before .before .before .before .args .r) (c .before .before .before .before .before .before .before .before .if1 .taken) (sym (c .before .before .before .before .before .before .before .is-unmeasured .ensures) ∙ c .before .before .before .before .before .before .if2 .left) in omega (arith, e .size, c .before .before .before .before .before .before .before .before .before .before .before .pre, c .before .before .before .put-text .ensures .next, c .before .before .before .put-text .kept)
+put-decimal-requires c κs = search needs
 
 slice-aggregate-put-text-2 : tie.Need-slice-aggregate-put-text-2
 slice-aggregate-put-text-2 c = search needs
 
 put-text-requires-2 : tie.Need-put-text-requires-2
-put-text-requires-2 c κs = let e = length-plain (c .before .before .before .before .before .before .before .before .before .before .before .before .before .before .before .before .args .r) (c .before .before .before .before .before .before .before .before .before .before .before .before .before .if1 .taken) (sym (c .before .before .before .before .before .before .before .before .before .before .before .before .is-unmeasured .ensures) ∙ c .before .before .before .before .before .before .before .before .before .before .before .if2 .left) in omega (arith, e .size, c .before .before .before .before .before .before .before .before .before .before .before .before .before .before .before .before .pre, c .before .before .before .before .before .before .before .before .put-text .ensures .next, c .before .before .before .before .before .before .before .before .put-text .kept, c .before .before .before .before .put-decimal .ensures .next, c .before .before .before .before .put-decimal .kept)
+put-text-requires-2 c κs = search needs
 
 same-length : tie.Need-same-length
 same-length c = search needs
 
 returns-2 : tie.Need-returns-2
-returns-2 c = let e = length-plain (c .before .before .before .before .before .before .before .before .before .before .before .before .before .before .before .before .before .before .before .args .r) (c .before .before .before .before .before .before .before .before .before .before .before .before .before .before .before .before .if1 .taken) (sym (c .before .before .before .before .before .before .before .before .before .before .before .before .before .before .before .is-unmeasured .ensures) ∙ c .before .before .before .before .before .before .before .before .before .before .before .before .before .before .if2 .left) in put-as (e .text, e .size) (put-then (put-then (c .before .before .before .before .before .before .before .before .before .before .before .put-text .ensures) (c .before .before .before .before .before .before .before .put-decimal .ensures)) (c .before .before .put-text2 .ensures))
+returns-2 c = let e = length-plain (c .before .before .before .before .before .before .before .before .before .before .before .before .before .before .before .before .before .before .before .args .r) (c .before .before .before .before .before .before .before .before .before .before .before .before .before .before .before .before .if1 .taken) (sym (c .before .before .before .before .before .before .before .before .before .before .before .before .before .before .before .is-unmeasured .ensures) ∙ c .before .before .before .before .before .before .before .before .before .before .before .before .before .before .if2 .left) in put-as (e .text, e .size) (puts-then (puts-then (puts (c .before .before .before .before .before .before .before .before .before .before .before .put-text .ensures)) (puts (c .before .before .before .before .before .before .before .put-decimal .ensures))) (puts (c .before .before .put-text2 .ensures)) (omega (arith, e .size, c .before .before .before .before .before .before .before .before .before .before .before .before .before .before .before .before .before .before .before .pre)))
 
 slice-aggregate-put-text-3 : tie.Need-slice-aggregate-put-text-3
 slice-aggregate-put-text-3 c = search needs
 
 put-text-requires-3 : tie.Need-put-text-requires-3
-put-text-requires-3 c κs = omega (arith, length-coded (c .before .before .before .before .before .args .r) (c .before .before .if1 .left) .size, c .before .before .before .before .before .pre)
+put-text-requires-3 c κs = search needs
 
 same-length-2 : tie.Need-same-length-2
 same-length-2 c = search needs
 
 returns-3 : tie.Need-returns-3
-returns-3 c = let e = length-coded (c .before .before .before .before .before .before .before .before .args .r) (c .before .before .before .before .before .if1 .left) in put-as (e .text, e .size) (c .before .before .put-text3 .ensures)
+returns-3 c = let e = length-coded (c .before .before .before .before .before .before .before .before .args .r) (c .before .before .before .before .before .if1 .left) in put-as (e .text, e .size) (puts (c .before .before .put-text3 .ensures) (omega (arith, e .size, c .before .before .before .before .before .before .before .before .pre)))
 
 pub put-length-spec : {M : Type 1} → statement M
 put-length-spec =

@@ -3,6 +3,7 @@ use Prim.Native.Nat.{ℕ, _+_, _-_, _*_, _≤_, _<_}
 use mathlib.Core.Path.{_≡_, refl, sym, ap, _∙_}
 use native.Mathlib.Omega.{arith}
 use lib.ListN.{length}
+use Rattle.output.proofs.Room.{puts}
 use Rattle.write_http1.proofs.Turns.{left-turn, left-last, LinesLeft, section-start, section-length, section-more, section-none}
 use Rattle.write_http1.proofs.sections.put_section.Statement.{statement}
 use Rattle.write_http1.proofs.sections.put_section.Tie as tie
@@ -47,7 +48,7 @@ slice-aggregate-put-text c = search needs
 
 -- src/sections.rt:39:5
 put-text-requires : tie.Need-put-text-requires Inv-loop μ-loop
-put-text-requires c κs = let e = section-none (c .before .before .before .before .before .before .before .args .s .now) (c .before .before .before .before .before .before .before .args .fields .now) (c .before .before .before .before .before .before .before .args .k) (c .before .before .before .before .before .before .before .args .n) (c .before .before .before .loop .i) (c .before .before .loop-test .left) in omega (arith, e .1, c .before .before .before .loop .inv .1 .next, c .before .before .before .loop .inv .1 .kept, c .before .before .before .before .before .before .before .pre .1)
+put-text-requires c κs = search needs
 
 -- src/sections.rt:29:1
 same-length : tie.Need-same-length Inv-loop μ-loop
@@ -55,7 +56,7 @@ same-length c = omega (arith, c .before .before .put-text .kept, c .before .befo
 
 -- src/sections.rt:29:1
 returns : tie.Need-returns Inv-loop μ-loop
-returns c = left-last (c .before .before .before .before .before .before .loop .inv .1) (section-length (c .before .before .before .before .before .before .before .before .before .before .args .s .now) (c .before .before .before .before .before .before .before .before .before .before .args .fields .now) (c .before .before .before .before .before .before .before .before .before .before .args .k) (c .before .before .before .before .before .before .before .before .before .before .args .n)) (section-none (c .before .before .before .before .before .before .before .before .before .before .args .s .now) (c .before .before .before .before .before .before .before .before .before .before .args .fields .now) (c .before .before .before .before .before .before .before .before .before .before .args .k) (c .before .before .before .before .before .before .before .before .before .before .args .n) (c .before .before .before .before .before .before .loop .i) (c .before .before .before .before .before .loop-test .left)) (c .before .before .put-text .ensures)
+returns c = let e = section-none (c .before .before .before .before .before .before .before .before .before .before .args .s .now) (c .before .before .before .before .before .before .before .before .before .before .args .fields .now) (c .before .before .before .before .before .before .before .before .before .before .args .k) (c .before .before .before .before .before .before .before .before .before .before .args .n) (c .before .before .before .before .before .before .loop .i) (c .before .before .before .before .before .loop-test .left) in left-last (c .before .before .before .before .before .before .loop .inv .1) (section-length (c .before .before .before .before .before .before .before .before .before .before .args .s .now) (c .before .before .before .before .before .before .before .before .before .before .args .fields .now) (c .before .before .before .before .before .before .before .before .before .before .args .k) (c .before .before .before .before .before .before .before .before .before .before .args .n)) e (puts (c .before .before .put-text .ensures) (omega (arith, e .1, c .before .before .before .before .before .before .loop .inv .1 .next, c .before .before .before .before .before .before .loop .inv .1 .kept, c .before .before .before .before .before .before .before .before .before .before .pre .1)))
 
 pub put-section-spec : {M : Type 1} → statement M
 put-section-spec =
