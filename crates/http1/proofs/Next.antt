@@ -6,7 +6,7 @@ use mathlib.Core.List.{List, [], _∷_, _++_}
 use native.Mathlib.Omega.{arith}
 use borrow.Author.Tests.{eq-eqb, ne-eqb}
 use lib.Dec.{eqb}
-use lib.ListN.{length, getD, take, drop, length-drop}
+use lib.ListN.{length, getD, take, drop, length-drop, length-append}
 use lib.Seq.{length-take-le, drop-drop, drop-cons}
 use lib.ListN.{take-append-drop}
 use Rattle.octets.specs.Class.{hasClass, value}
@@ -16,7 +16,8 @@ use Rattle.octets.proofs.Classes.{not-at, no-cr, no-lf}
 use Rattle.script.specs.Script.{lineOf, free}
 use Rattle.script.specs.declared.Line.{Line}
 use Rattle.script.specs.declared.Line.the-variants.{Ends, Bad, Long, More}
-use Rattle.script.proofs.Lines.{line-back}
+use Rattle.script.proofs.Lines.{line-back, line-whole}
+use Rattle.script.proofs.Places.{line-within}
 use Rattle.http1.specs.Lines.{fieldLens}
 use Rattle.http1.specs.Next.{ofField, lineJudged, onLine, nextLine}
 use Rattle.http1.specs.declared.FieldLine.{FieldLine}
@@ -57,6 +58,13 @@ module _ (s : List ℕ) (i left : ℕ) {l : Line} (h : l ≡ lineOf (drop i s) l
   pub next-ends : {r : NextLine} (next : ℕ) → l ≡ Ends next → r ≡ lineJudged (take (next - 2 - i) (drop i s)) next → r ≡ nextLine s i left
   next-ends next e q = next-as s i left (sym h ∙ e) q
 
+-- where a line that ends does: nothing is asked of its place, since past the end of s no line ends
+pub ends-within : (s : List ℕ) (n i next : ℕ) → lineOf (drop i s) n i 0 ≡ Ends next → (i + 2 ≤ next) × (next ≤ length s) × (next - i ≤ n)
+ends-within s n i next e =
+    let w = line-whole (drop i s) n i next e in
+    let l : length (drop i s) ≡ length (w .w) + (2 + length (w .r)) = ap length (w .split) ∙ length-append (w .w) (13 ∷ 10 ∷ w .r) ∙ omega arith in
+    line-within s n i next (omega (arith, length-drop i s)) e
+
 -- ---- by one walk
 
 class-free : (mask d : ℕ) → hasClass mask d ≡ false → (w : List ℕ) → all (hasClass mask) w ≡ true → free d w ≡ true
@@ -76,11 +84,12 @@ run-passes p (x ∷ l) = go (p x) refl (run-passes p l)
     go true e h = rw e h
     go false e h = refl
 
+pub run-all : (p : ℕ → Bool) (s : List ℕ) (i : ℕ) {e : ℕ} → e ≡ i + spanLen p (drop i s) → all p (take (e - i) (drop i s)) ≡ true
+run-all p s i {e} r = let z : e - i ≡ spanLen p (drop i s) = omega arith in rw z (run-passes p (drop i s))
+
 module _ (s : List ℕ) (i : ℕ) {e : ℕ} (r : e ≡ i + spanLen (hasClass value) (drop i s)) where
-  pub run-value : all (hasClass value) (take (e - i) (drop i s)) ≡ true
-  run-value =
-      let z : e - i ≡ spanLen (hasClass value) (drop i s) = omega arith in
-      rw z (run-passes (hasClass value) (drop i s))
+  run-value : all (hasClass value) (take (e - i) (drop i s)) ≡ true
+  run-value = run-all (hasClass value) s i r
 
   split-line : i ≤ e → e + 2 ≤ length s → getD s e 0 ≡ 13 → getD s (e + 1) 0 ≡ 10 → drop i s ≡ take (e - i) (drop i s) ++ 13 ∷ 10 ∷ drop (e + 2) s
   split-line h g c l =

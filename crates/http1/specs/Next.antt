@@ -1,9 +1,9 @@
 -- The next line of a section, read and judged at once (01, "HTTP/1.1 as we take it": line endings, field lines).
-use Prim.Native.Nat.{ℕ, _+_, _-_, _<_}
+use Prim.Native.Nat.{ℕ, _+_, _-_}
 use mathlib.Core.Path.{_≡_}
 use mathlib.Core.Bool.{cond}
 use mathlib.Core.List.{List}
-use lib.ListN.{length, take, drop}
+use lib.ListN.{take, drop}
 use Rattle.octets.specs.Text.{isEmpty}
 use Rattle.script.specs.Script.{lineOf}
 use Rattle.script.specs.declared.Line.{Line}
@@ -17,7 +17,7 @@ use Rattle.http1.specs.declared.NextLine.the-variants as line
 -- the name of a field line has n octets, and a colon stands behind it: the rest is the value's; or n is 0, and it is no field line
 pub record Named (w : List ℕ) (n : ℕ) : Type 0 where
   pub none : n ≡ 0 → fieldLens w ≡ field.Bad
-  pub some : (n ≡ 0 → ⊥) → (n < length w) × (fieldLens w ≡ valueIn w n (n + 1))
+  pub some : (n ≡ 0 → ⊥) → fieldLens w ≡ valueIn w n (n + 1)
 
 abbrev pub ofField : ℕ → FieldLine → NextLine
 ofField next (field.Of n v l) = line.Field n v l next

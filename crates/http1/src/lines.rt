@@ -1,10 +1,10 @@
-// The judges of single lines, without their CR LF.
+// The judges of single lines, without their CR LF. What a promise says of a lent table is given that it is the one of `octets::class_table`.
 ghost use mathlib.Core.Path.{_≡_};
 ghost use mathlib.Core.Bool.{true};
 ghost use Prim.Native.Nat.{_+_, _-_, _≤_, _<_};
 ghost use lib.ListN.{length, take, drop};
-ghost use Rattle.octets.specs.Table.{classes};
-ghost use Rattle.octets.specs.Class.{hasClass, value, isBlank};
+ghost use Rattle.octets.specs.Table.{classes, hasIn};
+ghost use Rattle.octets.specs.Class.{value, isBlank};
 ghost use Rattle.octets.specs.Text.{spanLen, all};
 ghost use Rattle.numbers.specs.Digits.{digitOf};
 ghost use Rattle.http1.specs.Next.{Named, ofField, lineJudged, nextLine};
@@ -46,10 +46,9 @@ fn find(s: &[u8], from: usize, d: u8) -> usize
     i
 }
 
-// Whether all octets from `from` on are those of a value.
+// Whether all octets from `from` on are those of a value, by the table that is lent.
 fn is_value_from(t: &[u8; 256], w: &[u8], from: usize) -> bool
-    requires { ⌜ now t ≡ classes ⌝ }
-    ensures { λ r. ⌜ r ≡ all (hasClass value) (drop from (now (w .entry))) ⌝ }
+    ensures { λ r. ⌜ r ≡ all (hasIn (now (t .entry)) value) (drop from (now (w .entry))) ⌝ }
 {
     if w.len() <= from {
         return true;
@@ -59,8 +58,8 @@ fn is_value_from(t: &[u8; 256], w: &[u8], from: usize) -> bool
 
 // The value of the field whose name has `name` octets, from `from` on.
 fn value_in(t: &[u8; 256], w: &[u8], name: usize, from: usize) -> FieldLine
-    requires { ⌜ (now t ≡ classes) × (from ≤ length (now w)) ⌝ }
-    ensures { λ r. ⌜ r ≡ valueIn (now (w .entry)) name from ⌝ }
+    requires { ⌜ from ≤ length (now w) ⌝ }
+    ensures { λ r. ⌜ (now (t .entry) ≡ classes → r ≡ valueIn (now (w .entry)) name from) ⌝ }
 {
     if span(t, w, from, 2) == w.len() {
         return trimmed(w, name, from);
@@ -82,10 +81,9 @@ fn trimmed(w: &[u8], name: usize, from: usize) -> FieldLine
     }
 }
 
-// How long the name at the front of a field line is, where a colon stands behind it; else 0.
+// How long the name at the front of a field line is, where a colon stands behind it; else 0. By any table, what is not 0 is a place in the line.
 fn name_len(t: &[u8; 256], w: &[u8]) -> usize
-    requires { ⌜ now t ≡ classes ⌝ }
-    ensures { λ r. ⌜ Named (now (w .entry)) r ⌝ }
+    ensures { λ r. ⌜ (r ≤ length (now (w .entry)) - 1) × (now (t .entry) ≡ classes → Named (now (w .entry)) r) ⌝ }
 {
     let n = span(t, w, 0, 1);
     if w.len() <= n {
@@ -98,8 +96,7 @@ fn name_len(t: &[u8; 256], w: &[u8]) -> usize
 }
 
 pub fn field_line(t: &[u8; 256], w: &[u8]) -> FieldLine
-    requires { ⌜ now t ≡ classes ⌝ }
-    ensures { λ r. ⌜ r ≡ fieldLens (now (w .entry)) ⌝ }
+    ensures { λ r. ⌜ (now (t .entry) ≡ classes → r ≡ fieldLens (now (w .entry))) ⌝ }
 {
     let n = name_len(t, w);
     if n == 0 {
@@ -110,8 +107,8 @@ pub fn field_line(t: &[u8; 256], w: &[u8]) -> FieldLine
 
 // The same of a line whose octets are all those of a value.
 fn plain_line(t: &[u8; 256], w: &[u8]) -> FieldLine
-    requires { ⌜ (now t ≡ classes) × (all (hasClass value) (now w) ≡ true) ⌝ }
-    ensures { λ r. ⌜ r ≡ fieldLens (now (w .entry)) ⌝ }
+    requires { ⌜ all (hasIn (now t) value) (now w) ≡ true ⌝ }
+    ensures { λ r. ⌜ (now (t .entry) ≡ classes → r ≡ fieldLens (now (w .entry))) ⌝ }
 {
     let n = name_len(t, w);
     if n == 0 {
@@ -137,8 +134,8 @@ fn of_field(line: FieldLine, next: usize) -> NextLine
 
 // The line from i to e, whose octets are all those of a value.
 fn value_line(t: &[u8; 256], s: &[u8], i: usize, e: usize) -> NextLine
-    requires { ⌜ (now t ≡ classes) × (i ≤ e) × (e + 2 ≤ length (now s)) × (all (hasClass value) (take (e - i) (drop i (now s))) ≡ true) ⌝ }
-    ensures { λ r. ⌜ r ≡ lineJudged (take (e - i) (drop i (now (s .entry)))) (e + 2) ⌝ }
+    requires { ⌜ (i ≤ e) × (e + 2 ≤ length (now s)) × (all (hasIn (now t) value) (take (e - i) (drop i (now s))) ≡ true) ⌝ }
+    ensures { λ r. ⌜ (now (t .entry) ≡ classes → r ≡ lineJudged (take (e - i) (drop i (now (s .entry)))) (e + 2)) ⌝ }
 {
     let next = e + 2;
     if e == i {
@@ -150,8 +147,7 @@ fn value_line(t: &[u8; 256], s: &[u8], i: usize, e: usize) -> NextLine
 
 // The line at i, within what is left of its allowance.
 fn any_line(t: &[u8; 256], s: &[u8], i: usize, left: usize) -> NextLine
-    requires { ⌜ (now t ≡ classes) × (i ≤ length (now s)) ⌝ }
-    ensures { λ r. ⌜ r ≡ nextLine (now (s .entry)) i left ⌝ }
+    ensures { λ r. ⌜ (now (t .entry) ≡ classes → r ≡ nextLine (now (s .entry)) i left) ⌝ }
 {
     let l = line_end(s, i, left);
     match l {
@@ -171,15 +167,16 @@ fn any_line(t: &[u8; 256], s: &[u8], i: usize, left: usize) -> NextLine
 
 // The same in one walk over a line of which nothing but its end is to be refused.
 pub fn next_line(t: &[u8; 256], s: &[u8], i: usize, left: usize) -> NextLine
-    requires { ⌜ (now t ≡ classes) × (i ≤ length (now s)) ⌝ }
-    ensures { λ r. ⌜ r ≡ nextLine (now (s .entry)) i left ⌝ }
+    ensures { λ r. ⌜ (now (t .entry) ≡ classes → r ≡ nextLine (now (s .entry)) i left) ⌝ }
 {
     let e = span(t, s, i, 2);
-    if 2 <= s.len() - e {
-        if s[e] == 13 {
-            if s[e + 1] == 10 {
-                if e + 2 - i <= left {
-                    return value_line(t, s, i, e);
+    if e < s.len() {
+        if 2 <= s.len() - e {
+            if s[e] == 13 {
+                if s[e + 1] == 10 {
+                    if e + 2 - i <= left {
+                        return value_line(t, s, i, e);
+                    }
                 }
             }
         }
@@ -188,8 +185,7 @@ pub fn next_line(t: &[u8; 256], s: &[u8], i: usize, left: usize) -> NextLine
 }
 
 pub fn chunk_line(t: &[u8; 256], w: &[u8]) -> ChunkLine
-    requires { ⌜ now t ≡ classes ⌝ }
-    ensures { λ r. ⌜ r ≡ chunkLens (now (w .entry)) ⌝ }
+    ensures { λ r. ⌜ (now (t .entry) ≡ classes → r ≡ chunkLens (now (w .entry))) ⌝ }
 {
     let h = find(w, 0, 59);
     let size = hexadecimal(&w[..h]);
@@ -243,8 +239,8 @@ fn status_version(w: &[u8], v: usize) -> StatusLine
 
 // Whether three digits, a space and a reason stand behind the first space at v.
 fn is_status_shape(t: &[u8; 256], w: &[u8], v: usize) -> bool
-    requires { ⌜ (now t ≡ classes) × (v ≤ length (now w)) ⌝ }
-    ensures { λ r. ⌜ r ≡ isStatusShape (now (w .entry)) v ⌝ }
+    requires { ⌜ v ≤ length (now w) ⌝ }
+    ensures { λ r. ⌜ (r ≡ true → v + 5 ≤ length (now (w .entry))) × (now (t .entry) ≡ classes → r ≡ isStatusShape (now (w .entry)) v) ⌝ }
 {
     if w.len() < v + 5 {
         return false;
@@ -265,8 +261,7 @@ fn is_status_shape(t: &[u8; 256], w: &[u8], v: usize) -> bool
 }
 
 pub fn status_line(t: &[u8; 256], w: &[u8]) -> StatusLine
-    requires { ⌜ now t ≡ classes ⌝ }
-    ensures { λ r. ⌜ r ≡ statusLens (now (w .entry)) ⌝ }
+    ensures { λ r. ⌜ (now (t .entry) ≡ classes → r ≡ statusLens (now (w .entry))) ⌝ }
 {
     let v = find(w, 0, 32);
     if is_status_shape(t, w, v) {
@@ -280,8 +275,8 @@ pub fn status_line(t: &[u8; 256], w: &[u8]) -> StatusLine
 
 // Method and path, of so many octets.
 fn request_parts(t: &[u8; 256], w: &[u8], m: usize, p: usize) -> RequestLine
-    requires { ⌜ (now t ≡ classes) × (m + 1 + p ≤ length (now w)) ⌝ }
-    ensures { λ r. ⌜ r ≡ requestParts (now (w .entry)) m p ⌝ }
+    requires { ⌜ m + 1 + p ≤ length (now w) ⌝ }
+    ensures { λ r. ⌜ (now (t .entry) ≡ classes → r ≡ requestParts (now (w .entry)) m p) ⌝ }
 {
     let first = method_verdict(t, &w[..m]);
     if first == 0 {
@@ -298,8 +293,8 @@ fn request_parts(t: &[u8; 256], w: &[u8], m: usize, p: usize) -> RequestLine
 
 // What stands behind the second space, at e; then method and path.
 fn request_version(t: &[u8; 256], w: &[u8], m: usize, e: usize) -> RequestLine
-    requires { ⌜ (now t ≡ classes) × (m < e) × (e < length (now w)) ⌝ }
-    ensures { λ r. ⌜ r ≡ requestVersion (now (w .entry)) m e ⌝ }
+    requires { ⌜ (m < e) × (e < length (now w)) ⌝ }
+    ensures { λ r. ⌜ (now (t .entry) ≡ classes → r ≡ requestVersion (now (w .entry)) m e) ⌝ }
 {
     let v = e + 1;
     if find(w, v, 32) == w.len() {
@@ -317,8 +312,7 @@ fn request_version(t: &[u8; 256], w: &[u8], m: usize, e: usize) -> RequestLine
 }
 
 pub fn request_line(t: &[u8; 256], w: &[u8]) -> RequestLine
-    requires { ⌜ now t ≡ classes ⌝ }
-    ensures { λ r. ⌜ r ≡ requestLens (now (w .entry)) ⌝ }
+    ensures { λ r. ⌜ (now (t .entry) ≡ classes → r ≡ requestLens (now (w .entry))) ⌝ }
 {
     let m = find(w, 0, 32);
     if w.len() <= m {
