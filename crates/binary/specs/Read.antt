@@ -91,7 +91,7 @@ knownLine = do
 
 -- the lines that fill the body of a known-length section exactly; a 65th is refused before it is read. The first number is above how many may come
 unfoldable pub knownLines : ℕ → List FieldRead → Reader (List FieldRead)
-knownLines zero fs = refuse 0 0
+knownLines zero fs = refuse tooLarge 0
 knownLines (suc f) fs = do
   e ← ended
   p ← here
@@ -126,7 +126,7 @@ openLine p a = do
 
 -- the lines up to a name length of zero; a 65th is refused when its name length is in
 unfoldable pub openLines : ℕ → List FieldRead → Reader (List FieldRead)
-openLines zero fs = refuse 0 0
+openLines zero fs = refuse tooLarge 0
 openLines (suc f) fs = do
   p ← here
   a ← integer cutOff p
@@ -158,7 +158,7 @@ knownContent = do
 
 -- chunks up to a length of zero, behind chunks of so many octets in all: a 257th or a total above the size is refused at its length
 unfoldable pub openChunks : ℕ → List Piece → ℕ → Reader (List Piece)
-openChunks zero cs total = refuse 0 0
+openChunks zero cs total = refuse tooLarge 0
 openChunks (suc f) cs total = do
   p ← here
   n ← integer cutOff p
@@ -244,7 +244,7 @@ finalResponse known is n = do
 
 -- one status after another, behind informational heads: a fifth is refused at its status, and each is judged behind its section
 unfoldable pub responseMessage : Bool → ℕ → List InformationalRead → Reader Message
-responseMessage known zero is = refuse 0 0
+responseMessage known zero is = refuse tooLarge 0
 responseMessage known (suc f) is = do
   p ← here
   v ← integer cutOff p

@@ -38,7 +38,7 @@ pub record Lines : Type 0 where
 -- one line after another: the empty line ends the section, a 65th line is refused before its syntax is looked at. The first number is above
 -- how many lines may come, so its first clause is never come to
 unfoldable pub fieldLines : ℕ → ℕ → List FieldRead → Script Lines
-fieldLines zero left fs = stop 0 0
+fieldLines zero left fs = stop tooLarge 0
 fieldLines (suc f) left fs = do
   l ← word (lineWithin left)
   cond (isEmpty (l .text))
@@ -77,7 +77,7 @@ chunkData n d =
 -- one chunk after another, behind chunks cs of so many octets in all: size zero ends them, a 257th or a total above the size is refused at its line.
 -- The first number is above how many may come
 unfoldable pub chunksFrom : ℕ → List Piece → ℕ → Script Content
-chunksFrom zero cs total = stop 0 0
+chunksFrom zero cs total = stop tooLarge 0
 chunksFrom (suc f) cs total = do
   l ← word (lineWithin chunkLineMost)
   n ← tell (chunkOf l)
@@ -133,7 +133,7 @@ afterFinal is n h = do
 -- one head after another within what is left of the allowance, behind informational heads: a fifth is refused at its line, and each is judged before the
 -- next line is read. The first number is above how many heads may come
 unfoldable pub heads : ℕ → List InformationalRead → ℕ → Script Message
-heads zero is left = stop 0 0
+heads zero is left = stop tooLarge 0
 heads (suc f) is left = do
   l ← word (lineWithin left)
   n ← tell (statusOf l)
