@@ -44,13 +44,13 @@ abbrev μ-loop : tie.MeasureT-loop
     65 - lines
 
 field : (c : tie.After-l2 Inv-loop μ-loop) → FieldAt (c .before .before .before .before .before .before .before .args .s .now) (c .before .before .before .loop .i) (c .before .before .before .loop .left) (c .l2 .given .0 .0) (c .l2 .given .0 .1 .0) (c .l2 .given .0 .1 .1 .0) (c .l2 .given .0 .1 .1 .1 .0)
-field c = tells-field _ _ _ _ _ _ _ (sym (c .before .before .next-line .ensures) ∙ c .l2 .given .1)
+field c = tells-field _ _ _ _ _ _ _ (sym (c .before .before .next-line .ensures (c .before .before .before .loop .inv .5)) ∙ c .l2 .given .1)
 
 bounds : (c : tie.After-l2 Inv-loop μ-loop) → (1 ≤ c .l2 .given .0 .0) × (c .before .before .before .loop .i + c .l2 .given .0 .0 ≤ c .l2 .given .0 .1 .1 .1 .0 - 2) × (c .before .before .before .loop .i + c .l2 .given .0 .1 .0 + c .l2 .given .0 .1 .1 .0 ≤ c .l2 .given .0 .1 .1 .1 .0 - 2) × (c .before .before .before .loop .i + 2 ≤ c .l2 .given .0 .1 .1 .1 .0) × (c .l2 .given .0 .1 .1 .1 .0 ≤ length (c .before .before .before .before .before .before .before .args .s .now)) × (c .l2 .given .0 .1 .1 .1 .0 - c .before .before .before .loop .i ≤ c .before .before .before .loop .left)
 bounds c = field-bounds _ _ _ 0 [] (c .before .before .before .loop .inv .3) (field c)
 
 empty : (c : tie.After-l Inv-loop μ-loop) → EmptyLine (c .before .before .before .before .before .before .before .args .s .now) (c .before .before .before .loop .i) (c .before .before .before .loop .left) (c .l .given .0 .0)
-empty c = tells-empty _ _ _ _ (sym (c .before .before .next-line .ensures) ∙ c .l .given .1)
+empty c = tells-empty _ _ _ _ (sym (c .before .before .next-line .ensures (c .before .before .before .loop .inv .5)) ∙ c .l .given .1)
 
 -- src/lines.rt:70:9
 no-notes-requires : tie.Need-no-notes-requires Inv-loop μ-loop
@@ -63,7 +63,7 @@ loop-holds c = ([], refl, omega arith, omega arith, refl, c .before .before .bef
 
 -- src/lines.rt:72:13
 next-line-requires : tie.Need-next-line-requires Inv-loop μ-loop
-next-line-requires c κs = (c .loop .inv .5, c .loop .inv .3)
+next-line-requires c κs = tt
 
 -- src/lines.rt:74:31
 enum-told : tie.Need-enum-told Inv-loop μ-loop
@@ -75,7 +75,7 @@ same-length c = c .before .before .before .loop .inv .6
 
 -- src/lines.rt:74:31
 returns : tie.Need-returns Inv-loop μ-loop
-returns c = sectioned-as (c .before .before .before .loop .inv .10 ∙ turn-more (c .before .before .before .before .before .before .before .args .s .now) (c .before .before .before .loop .i) _ _ _ (tells-more _ _ _ (sym (c .before .before .next-line .ensures) ∙ c .enum-told .given .1))) refl
+returns c = sectioned-as (c .before .before .before .loop .inv .10 ∙ turn-more (c .before .before .before .before .before .before .before .args .s .now) (c .before .before .before .loop .i) _ _ _ (tells-more _ _ _ (sym (c .before .before .next-line .ensures (c .before .before .before .loop .inv .5)) ∙ c .enum-told .given .1))) refl
 
 -- src/lines.rt:75:30
 enum-told-2 : tie.Need-enum-told-2 Inv-loop μ-loop
@@ -87,7 +87,7 @@ same-length-2 c = c .before .before .before .loop .inv .6
 
 -- src/lines.rt:75:30
 returns-2 : tie.Need-returns-2 Inv-loop μ-loop
-returns-2 c = sectioned-as (c .before .before .before .loop .inv .10 ∙ turn-bad (c .before .before .before .before .before .before .before .args .s .now) (c .before .before .before .loop .i) _ _ _ (tells-bad _ _ _ (sym (c .before .before .next-line .ensures) ∙ c .enum-told2 .given .1))) refl
+returns-2 c = sectioned-as (c .before .before .before .loop .inv .10 ∙ turn-bad (c .before .before .before .before .before .before .before .args .s .now) (c .before .before .before .loop .i) _ _ _ (tells-bad _ _ _ (sym (c .before .before .next-line .ensures (c .before .before .before .loop .inv .5)) ∙ c .enum-told2 .given .1))) refl
 
 -- src/lines.rt:79:31
 enum-told-3 : tie.Need-enum-told-3 Inv-loop μ-loop
@@ -99,7 +99,7 @@ same-length-3 c = c .before .before .before .loop .inv .6
 
 -- src/lines.rt:79:31
 returns-3 : tie.Need-returns-3 Inv-loop μ-loop
-returns-3 c = sectioned-as (c .before .before .before .loop .inv .10 ∙ turn-long (c .before .before .before .before .before .before .before .args .s .now) (c .before .before .before .loop .i) _ _ _ (tells-long _ _ _ (sym (c .before .before .next-line .ensures) ∙ c .enum-told3 .given .1))) refl
+returns-3 c = sectioned-as (c .before .before .before .loop .inv .10 ∙ turn-long (c .before .before .before .before .before .before .before .args .s .now) (c .before .before .before .loop .i) _ _ _ (tells-long _ _ _ (sym (c .before .before .next-line .ensures (c .before .before .before .loop .inv .5)) ∙ c .enum-told3 .given .1))) refl
 
 -- src/lines.rt:83:31
 enum-known-l : tie.Need-enum-known-l Inv-loop μ-loop
@@ -131,7 +131,7 @@ same-length-5 c = c .before .before .before .before .loop .inv .6
 
 -- src/lines.rt:89:34
 returns-5 : tie.Need-returns-5 Inv-loop μ-loop
-returns-5 c = sectioned-as (c .before .before .before .before .loop .inv .10 ∙ turn-none (c .before .before .before .before .before .before .before .before .args .s .now) (c .before .before .before .before .loop .i) _ _ _ (c .before .before .before .before .loop .inv .3) (tells-none _ _ _ (sym (c .before .before .before .next-line .ensures) ∙ c .before .enum-told4 .given .1))) (ap (λ (k : ℕ). Refused k (c .before .before .before .before .loop .i)) (c .no-field .ensures ∙ ap noField (sym (c .before .before .before .before .loop .inv .1))))
+returns-5 c = sectioned-as (c .before .before .before .before .loop .inv .10 ∙ turn-none (c .before .before .before .before .before .before .before .before .args .s .now) (c .before .before .before .before .loop .i) _ _ _ (c .before .before .before .before .loop .inv .3) (tells-none _ _ _ (sym (c .before .before .before .next-line .ensures (c .before .before .before .before .loop .inv .5)) ∙ c .before .enum-told4 .given .1))) (ap (λ (k : ℕ). Refused k (c .before .before .before .before .loop .i)) (c .no-field .ensures ∙ ap noField (sym (c .before .before .before .before .loop .inv .1))))
 
 -- src/lines.rt:94:17
 enum-known-l-2 : tie.Need-enum-known-l-2 Inv-loop μ-loop

@@ -1,48 +1,37 @@
+use borrow.Author.Needs.{needs}
 use mathlib.Core.Path.{_≡_, refl, sym, ap, _∙_}
 use Rattle.readers.proofs.HeadLaws.{judged-host, judged-length, judged-good}
-use borrow.Author.Needs.{needs}
 use Rattle.readers.proofs.heads.judge_request.Statement.{statement}
 use Rattle.readers.proofs.heads.judge_request.Tie as tie
 use Rattle.readers.proofs.heads.judge_request.Reads as reads
 use Rattle.readers.proofs.heads.judge_request.Lts as lts
-use Rattle.messages.proofs.sections.host_in.Reads as host-in-reads
-use Rattle.messages.proofs.sections.request_body.Reads as request-body-reads
 
--- src/heads.rt:16:9
 host-in-requires : tie.Need-host-in-requires
 host-in-requires c κs = search needs
 
--- src/heads.rt:18:29
 enum-told : tie.Need-enum-told
 enum-told c = search needs
 
--- src/heads.rt:18:29
 returns : tie.Need-returns
-returns c = record { by = λ lines e lie. judged-host (c .before .before .before .before .args .s .now) _ _ lines e lie (sym (c .before .before .host-in .ensures) ∙ c .enum-told .given .1) }
+returns c = record { by = λ lines e lie. judged-host (c .before .before .before .before .args .s .now) _ _ lines e lie (sym (c .before .before .host-in .ensures (c .before .before .before .before .pre)) ∙ c .enum-told .given .1) }
 
--- src/heads.rt:19:28
 enum-known-a : tie.Need-enum-known-a
 enum-known-a c = search needs
 
--- src/heads.rt:21:17
 request-body-requires : tie.Need-request-body-requires
 request-body-requires c κs = search needs
 
--- src/heads.rt:23:39
 enum-known-b : tie.Need-enum-known-b
 enum-known-b c = search needs
 
--- src/heads.rt:23:58
 returns-2 : tie.Need-returns-2
-returns-2 c = record { by = λ lines e lie. judged-length (c .before .before .before .before .before .before .before .before .before .args .s .now) _ _ lines e lie _ _ (sym (c .before .before .before .before .before .before .before .host-in .ensures) ∙ c .before .before .before .before .before .a .given .1) _ _ (sym (c .before .before .before .request-body .ensures) ∙ c .before .b .given .1) }
+returns-2 c = record { by = λ lines e lie. judged-length (c .before .before .before .before .before .before .before .before .before .args .s .now) _ _ lines e lie _ _ (sym (c .before .before .before .before .before .before .before .host-in .ensures (c .before .before .before .before .before .before .before .before .before .pre)) ∙ c .before .before .before .before .before .a .given .1) _ _ (sym (c .before .before .before .request-body .ensures) ∙ c .before .b .given .1) }
 
--- src/heads.rt:24:34
 enum-known-b-2 : tie.Need-enum-known-b-2
 enum-known-b-2 c = search needs
 
--- src/heads.rt:24:43
 returns-3 : tie.Need-returns-3
-returns-3 c = record { by = λ lines e lie. judged-good (c .before .before .before .before .before .before .before .before .before .args .s .now) _ _ lines e lie _ _ (sym (c .before .before .before .before .before .before .before .host-in .ensures) ∙ c .before .before .before .before .before .a .given .1) _ (sym (c .before .before .before .request-body .ensures) ∙ c .before .b2 .given .1) }
+returns-3 c = record { by = λ lines e lie. judged-good (c .before .before .before .before .before .before .before .before .before .args .s .now) _ _ lines e lie _ _ (sym (c .before .before .before .before .before .before .before .host-in .ensures (c .before .before .before .before .before .before .before .before .before .pre)) ∙ c .before .before .before .before .before .a .given .1) _ (sym (c .before .before .before .request-body .ensures) ∙ c .before .b2 .given .1) }
 
 pub judge-request-spec : {M : Type 1} → statement M
 judge-request-spec =

@@ -1,3 +1,4 @@
+use borrow.Author.Needs.{needs}
 use native.Mathlib.Omega.{arith}
 use Prim.Native.Nat.{ℕ, _+_, _-_, _≤_}
 use mathlib.Core.Path.{_≡_, refl, sym, _∙_}
@@ -6,16 +7,10 @@ use Rattle.script.specs.Script.{lineOf}
 use Rattle.script.specs.declared.Line.the-variants.{Ends}
 use Rattle.script.proofs.Places.{line-within}
 use Rattle.readers.proofs.ResponseHeads.{next-more, next-bad, next-long, next-wrong, next-full, next-informational, next-final}
-use borrow.Author.Needs.{needs}
 use Rattle.readers.proofs.response.next_head.Statement.{statement}
 use Rattle.readers.proofs.response.next_head.Tie as tie
 use Rattle.readers.proofs.response.next_head.Reads as reads
 use Rattle.readers.proofs.response.next_head.Lts as lts
-use Rattle.http1.proofs.lines.status_line.Reads as status-line-reads
-use Rattle.messages.proofs.parts.is_informational.Reads as is-informational-reads
-use Rattle.readers.proofs.response.final_head.Reads as final-head-reads
-use Rattle.readers.proofs.response.informational_head.Reads as informational-head-reads
-use Rattle.script.proofs.line_end.Reads as line-end-reads
 
 ends-at : (c : tie.After-l) → lineOf (drop (c .before .before .before .before .before .args .i) (c .before .before .before .before .before .args .s .now)) (c .before .before .before .before .before .args .left) (c .before .before .before .before .before .args .i) 0 ≡ Ends (c .l .given .0 .0)
 ends-at c = sym (c .before .before .line-end .ensures) ∙ c .l .given .1
@@ -23,113 +18,86 @@ ends-at c = sym (c .before .before .line-end .ensures) ∙ c .l .given .1
 two : (c : tie.After-l) → (c .before .before .before .before .before .args .i + 2 ≤ c .l .given .0 .0) × (c .l .given .0 .0 ≤ length (c .before .before .before .before .before .args .s .now)) × (c .l .given .0 .0 - c .before .before .before .before .before .args .i ≤ c .before .before .before .before .before .args .left)
 two c = line-within _ _ _ _ (c .before .before .before .before .before .pre .1) (ends-at c)
 
--- src/response.rt:85:9
 line-end-requires : tie.Need-line-end-requires
 line-end-requires c κs = search needs
 
--- src/response.rt:87:23
 enum-told : tie.Need-enum-told
 enum-told c = search needs
 
--- src/response.rt:87:23
 returns : tie.Need-returns
 returns c = next-more (c .before .before .before .before .before .args .s .now) (c .before .before .before .before .before .args .i) _ _ _ _ _ (sym (c .before .before .line-end .ensures) ∙ c .enum-told .given .1)
 
--- src/response.rt:88:22
 enum-told-2 : tie.Need-enum-told-2
 enum-told-2 c = search needs
 
--- src/response.rt:88:22
 returns-2 : tie.Need-returns-2
 returns-2 c = next-bad (c .before .before .before .before .before .args .s .now) (c .before .before .before .before .before .args .i) _ _ _ _ _ (sym (c .before .before .line-end .ensures) ∙ c .enum-told2 .given .1)
 
--- src/response.rt:89:23
 enum-told-3 : tie.Need-enum-told-3
 enum-told-3 c = search needs
 
--- src/response.rt:89:23
 returns-3 : tie.Need-returns-3
 returns-3 c = next-long (c .before .before .before .before .before .args .s .now) (c .before .before .before .before .before .args .i) _ _ _ _ _ (sym (c .before .before .line-end .ensures) ∙ c .enum-told3 .given .1)
 
--- src/response.rt:90:20
 enum-known-l : tie.Need-enum-known-l
 enum-known-l c = search needs
 
--- src/response.rt:91:21
 sub-e : tie.Need-sub-e
 sub-e c = omega (arith, two (c .before))
 
--- src/response.rt:92:36
 sub-status-line : tie.Need-sub-status-line
 sub-status-line c = omega (arith, two (c .before))
 
--- src/response.rt:92:36
 part-status-line-start : tie.Need-part-status-line-start
 part-status-line-start c = omega (arith, two (c .before))
 
--- src/response.rt:92:36
 part-status-line-end : tie.Need-part-status-line-end
 part-status-line-end c = omega (arith, two (c .before))
 
--- src/response.rt:92:17
 status-line-requires : tie.Need-status-line-requires
 status-line-requires c κs = search needs
 
--- src/response.rt:94:35
 enum-known-q : tie.Need-enum-known-q
 enum-known-q c = search needs
 
--- src/response.rt:94:47
 returns-4 : tie.Need-returns-4
-returns-4 c = next-wrong (c .before .before .before .before .before .before .before .before .before .before .before .args .s .now) (c .before .before .before .before .before .before .before .before .before .before .before .args .i) _ _ _ _ _ _ (ends-at (c .before .before .before .before .before .before)) _ (sym (c .before .before .before .status-line .ensures) ∙ c .before .q .given .1)
+returns-4 c = next-wrong (c .before .before .before .before .before .before .before .before .before .before .before .args .s .now) (c .before .before .before .before .before .before .before .before .before .before .before .args .i) _ _ _ _ _ _ (ends-at (c .before .before .before .before .before .before)) _ (sym (c .before .before .before .status-line .ensures (c .before .before .before .before .before .before .before .before .before .before .before .pre .0)) ∙ c .before .q .given .1)
 
--- src/response.rt:95:34
 enum-known-q-2 : tie.Need-enum-known-q-2
 enum-known-q-2 c = search needs
 
--- src/response.rt:96:40
 sub-rest : tie.Need-sub-rest
 sub-rest c = omega (arith, two (c .before .before .before .before .before .before))
 
--- src/response.rt:96:32
 sub-rest-2 : tie.Need-sub-rest-2
 sub-rest-2 c = omega (arith, two (c .before .before .before .before .before .before))
 
--- src/response.rt:97:41
 cast-is-informational : tie.Need-cast-is-informational
 cast-is-informational c = search needs
 
--- src/response.rt:97:24
 is-informational-requires : tie.Need-is-informational-requires
 is-informational-requires c κs = search needs
 
--- src/response.rt:99:29
 returns-5 : tie.Need-returns-5
-returns-5 c = next-full (c .before .before .before .before .before .before .before .before .before .before .before .before .before .before .args .s .now) (c .before .before .before .before .before .before .before .before .before .before .before .before .before .before .args .i) _ _ _ _ _ _ (ends-at (c .before .before .before .before .before .before .before .before .before)) (c .before .before .before .before .before .before .before .before .before .before .before .before .before .before .pre .1) _ (sym (c .before .before .before .before .before .before .status-line .ensures) ∙ c .before .before .before .before .q2 .given .1) (sym (c .before .before .is-informational .ensures) ∙ c .before .if1 .taken) (c .if2 .taken)
+returns-5 c = next-full (c .before .before .before .before .before .before .before .before .before .before .before .before .before .before .args .s .now) (c .before .before .before .before .before .before .before .before .before .before .before .before .before .before .args .i) _ _ _ _ _ _ (ends-at (c .before .before .before .before .before .before .before .before .before)) (c .before .before .before .before .before .before .before .before .before .before .before .before .before .before .pre .1) _ (sym (c .before .before .before .before .before .before .status-line .ensures (c .before .before .before .before .before .before .before .before .before .before .before .before .before .before .pre .0)) ∙ c .before .before .before .before .q2 .given .1) (sym (c .before .before .is-informational .ensures) ∙ c .before .if1 .taken) (omega (arith, c .if2 .taken))
 
--- src/response.rt:101:25
 informational-head-requires : tie.Need-informational-head-requires
 informational-head-requires c κs = (c .before .before .before .before .before .before .before .before .before .before .before .before .before .before .before .pre .0, two (c .before .before .before .before .before .before .before .before .before .before) .1, omega (arith, two (c .before .before .before .before .before .before .before .before .before .before), c .before .before .before .before .before .before .before .before .before .before .before .before .before .before .before .pre .2), c .before .before .before .before .before .before .before .before .before .before .before .before .before .before .before .pre .3)
 
--- src/response.rt:101:25
 same-length : tie.Need-same-length
 same-length c = search needs
 
--- src/response.rt:101:25
 returns-6 : tie.Need-returns-6
-returns-6 c = next-informational (c .before .before .before .before .before .before .before .before .before .before .before .before .before .before .before .before .before .before .args .s .now) (c .before .before .before .before .before .before .before .before .before .before .before .before .before .before .before .before .before .before .args .i) _ _ _ _ _ _ (ends-at (c .before .before .before .before .before .before .before .before .before .before .before .before .before)) (c .before .before .before .before .before .before .before .before .before .before .before .before .before .before .before .before .before .before .pre .1) _ (sym (c .before .before .before .before .before .before .before .before .before .before .status-line .ensures) ∙ c .before .before .before .before .before .before .before .before .q2 .given .1) _ (sym (c .before .before .before .before .before .before .is-informational .ensures) ∙ c .before .before .before .before .before .if1 .taken) (c .before .before .before .before .if2 .left) (c .before .before .informational-head .ensures)
+returns-6 c = next-informational (c .before .before .before .before .before .before .before .before .before .before .before .before .before .before .before .before .before .before .args .s .now) (c .before .before .before .before .before .before .before .before .before .before .before .before .before .before .before .before .before .before .args .i) _ _ _ _ _ _ (ends-at (c .before .before .before .before .before .before .before .before .before .before .before .before .before)) (c .before .before .before .before .before .before .before .before .before .before .before .before .before .before .before .before .before .before .pre .1) _ (sym (c .before .before .before .before .before .before .before .before .before .before .status-line .ensures (c .before .before .before .before .before .before .before .before .before .before .before .before .before .before .before .before .before .before .pre .0)) ∙ c .before .before .before .before .before .before .before .before .q2 .given .1) _ (sym (c .before .before .before .before .before .before .is-informational .ensures) ∙ c .before .before .before .before .before .if1 .taken) (omega (arith, c .before .before .before .before .if2 .left)) (c .before .before .informational-head .ensures)
 
--- src/response.rt:103:25
 final-head-requires : tie.Need-final-head-requires
 final-head-requires c κs = (c .before .before .before .before .before .before .before .before .before .before .before .before .before .before .pre .0, two (c .before .before .before .before .before .before .before .before .before) .1, omega (arith, two (c .before .before .before .before .before .before .before .before .before), c .before .before .before .before .before .before .before .before .before .before .before .before .before .before .pre .2), c .before .before .before .before .before .before .before .before .before .before .before .before .before .before .pre .3)
 
--- src/response.rt:103:25
 same-length-2 : tie.Need-same-length-2
 same-length-2 c = search needs
 
--- src/response.rt:103:25
 returns-7 : tie.Need-returns-7
-returns-7 c = next-final (c .before .before .before .before .before .before .before .before .before .before .before .before .before .before .before .before .before .args .s .now) (c .before .before .before .before .before .before .before .before .before .before .before .before .before .before .before .before .before .args .i) _ _ _ _ _ _ (ends-at (c .before .before .before .before .before .before .before .before .before .before .before .before)) (c .before .before .before .before .before .before .before .before .before .before .before .before .before .before .before .before .before .pre .1) _ (sym (c .before .before .before .before .before .before .before .before .before .status-line .ensures) ∙ c .before .before .before .before .before .before .before .q2 .given .1) _ (sym (c .before .before .before .before .before .is-informational .ensures) ∙ c .before .before .before .before .if1 .left) (c .before .before .final-head .ensures)
+returns-7 c = next-final (c .before .before .before .before .before .before .before .before .before .before .before .before .before .before .before .before .before .args .s .now) (c .before .before .before .before .before .before .before .before .before .before .before .before .before .before .before .before .before .args .i) _ _ _ _ _ _ (ends-at (c .before .before .before .before .before .before .before .before .before .before .before .before)) (c .before .before .before .before .before .before .before .before .before .before .before .before .before .before .before .before .before .pre .1) _ (sym (c .before .before .before .before .before .before .before .before .before .status-line .ensures (c .before .before .before .before .before .before .before .before .before .before .before .before .before .before .before .before .before .pre .0)) ∙ c .before .before .before .before .before .before .before .q2 .given .1) _ (sym (c .before .before .before .before .before .is-informational .ensures) ∙ c .before .before .before .before .if1 .left) (c .before .before .final-head .ensures)
 
 pub next-head-spec : {M : Type 1} → statement M
 next-head-spec =
