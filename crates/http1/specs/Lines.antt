@@ -64,11 +64,13 @@ pub record RequestRead : Type 0 where
   pub method : Piece
   pub path : Piece
 
+-- the two parts of the line l by their lengths, or the refusal at the line
 abbrev pub onRequest : Piece → RequestLine → Judged RequestRead
 onRequest l (request.Of m p) =
     good (record { method = piece (l .place) (take m (l .text)); path = piece (l .place + (m + 1)) (take p (drop (m + 1) (l .text))) })
 onRequest l (request.Bad n) = wrong n (l .place)
 
+-- a request line, judged
 unfoldable pub requestOf : Piece → Judged RequestRead
 requestOf l = onRequest l (requestLens (l .text))
 
@@ -100,10 +102,12 @@ isStatusShape w v =
 unfoldable pub statusLens : List ℕ → StatusLine
 statusLens w = cond (isStatusShape w (spanLen (isOther 32) w)) (statusVersion w (spanLen (isOther 32) w)) (status.Bad badSyntax)
 
+-- the status, or the refusal at the line
 abbrev pub onStatus : Piece → StatusLine → Judged ℕ
 onStatus l (status.Of n) = good n
 onStatus l (status.Bad n) = wrong n (l .place)
 
+-- a status line, judged
 unfoldable pub statusOf : Piece → Judged ℕ
 statusOf l = onStatus l (statusLens (l .text))
 
@@ -121,19 +125,23 @@ valueIn w n a = cond (eqb (a + spanLen (hasClass value) (drop a w)) (length w)) 
 unfoldable pub nameTo : List ℕ → ℕ → FieldLine
 nameTo w n = cond (eqb n 0) field.Bad (cond (leb (length w) n) field.Bad (cond (eqb (getD w n 0) 58) (valueIn w n (n + 1)) field.Bad))
 
+-- a field line: the name is as many token octets as stand at its front
 unfoldable pub fieldLens : List ℕ → FieldLine
 fieldLens w = nameTo w (spanLen (hasClass token) w)
 
+-- name and value of the line l by their lengths, or 2 at the line. The name is as it stands
 abbrev pub onField : Piece → FieldLine → Judged FieldRead
 onField l (field.Of n b e) =
     good (record { name = piece (l .place) (take n (l .text)); value = piece (l .place + b) (take e (drop b (l .text))) })
 onField l field.Bad = wrong badSyntax (l .place)
 
+-- a field line, judged
 unfoldable pub fieldOf : Piece → Judged FieldRead
 fieldOf l = onField l (fieldLens (l .text))
 
 -- ---- chunk line
 
+-- the size that the digits say, where all behind them may stand in a value
 abbrev pub onSize : Number → Bool → ChunkLine
 onSize (Is n) true = chunk.Of n
 onSize (Is n) false = chunk.Bad
@@ -144,9 +152,11 @@ unfoldable pub chunkLens : List ℕ → ChunkLine
 chunkLens w =
     onSize (numOf 16 (take (spanLen (isOther 59) w) w)) (all (hasClass value) (drop (spanLen (isOther 59) w + 1) w))
 
+-- the size, or 2 at the line
 abbrev pub onChunk : Piece → ChunkLine → Judged ℕ
 onChunk l (chunk.Of n) = good n
 onChunk l chunk.Bad = wrong badSyntax (l .place)
 
+-- a chunk line, judged
 unfoldable pub chunkOf : Piece → Judged ℕ
 chunkOf l = onChunk l (chunkLens (l .text))

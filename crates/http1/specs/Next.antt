@@ -19,6 +19,7 @@ pub record Named (w : List ℕ) (n : ℕ) : Type 0 where
   pub none : n ≡ 0 → fieldLens w ≡ field.Bad
   pub some : (n ≡ 0 → ⊥) → (n < length w) × (fieldLens w ≡ valueIn w n (n + 1))
 
+-- a field line that ends at the place `next`, or a line that is none
 abbrev pub ofField : ℕ → FieldLine → NextLine
 ofField next (field.Of n v l) = line.Field n v l next
 ofField next field.Bad = line.NoField
@@ -27,6 +28,7 @@ ofField next field.Bad = line.NoField
 unfoldable pub lineJudged : List ℕ → ℕ → NextLine
 lineJudged w next = cond (isEmpty w) (line.Empty next) (ofField next (fieldLens w))
 
+-- the line at the place i of s, by how it ends
 abbrev pub onLine : List ℕ → ℕ → Line → NextLine
 onLine s i (Ends next) = lineJudged (take (next - 2 - i) (drop i s)) next
 onLine s i Bad = line.Bad

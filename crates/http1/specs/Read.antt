@@ -49,6 +49,7 @@ fieldLines (suc f) left fs = do
         h ← tell (fieldOf l)
         fieldLines f (less left l) (fs ++ h ∷ [])))
 
+-- the field lines of a section, within an allowance
 unfoldable pub section : ℕ → Script Lines
 section left = fieldLines (suc linesMost) left []
 

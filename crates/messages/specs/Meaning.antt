@@ -12,10 +12,12 @@ pub record Field : Type 0 where
   pub name : List ℕ
   pub value : List ℕ
 
+-- an informational head: its status, and the fields that travel
 pub record Informational : Type 0 where
   pub status : ℕ
   pub fields : List Field
 
+-- control data, without places
 pub data Control : Type 0 where
   -- method, scheme (0 http, 1 https), authority, path
   request : List ℕ → ℕ → List ℕ → List ℕ → Control
@@ -29,12 +31,15 @@ pub record Meaning : Type 0 where
   pub content : List ℕ
   pub trailers : List Field
 
+-- a line: its name in lower case, its value
 unfoldable pub fieldMeans : FieldRead → Field
 fieldMeans f = record { name = map lowerOf (f .name .text); value = f .value .text }
 
+-- an informational head: host travels in it, as in every response
 unfoldable pub informationalMeans : InformationalRead → Informational
 informationalMeans h = record { status = h .status; fields = map fieldMeans (kept true (h .lines)) }
 
+-- control data without their places
 abbrev pub controlMeans : Start → Control
 controlMeans (requestStart m s a p) = request (m .text) s (a .text) (p .text)
 controlMeans (responseStart hs s) = response (map informationalMeans hs) s

@@ -1,4 +1,5 @@
--- What is noted of a section line by line, in place of the lines themselves: enough for the rules on host, lengths and trailers.
+-- What is noted of a section line by line, in place of the lines themselves: enough for the rules on host, lengths and trailers (01, "HTTP/1.1 as we take
+-- it", "Binary HTTP as we take it", "Fields that do not travel").
 use Prim.Native.Nat.{ℕ, _-_}
 use mathlib.Core.Bool.{Bool, true, false, cond}
 use mathlib.Core.Option.{Option, none, some}
@@ -52,6 +53,7 @@ anotherHost a n Nothing = One a n
 anotherHost a n (One b m) = Several
 anotherHost a n Several = Several
 
+-- the hosts, with a line of any kind more
 abbrev pub noteHost : Kind → ℕ → ℕ → Hosts → Hosts
 noteHost kind.Ordinary a n h = h
 noteHost kind.HopByHop a n h = h
@@ -73,6 +75,7 @@ anotherCoding v (Stated n q) = Clashing
 anotherCoding v Chunked = Clashing
 anotherCoding v Clashing = Clashing
 
+-- what is stated of the length, with a line of any kind more; the test says whether transfer-encoding counts
 abbrev pub noteLength : Bool → Kind → ℕ → List ℕ → Framing → Framing
 noteLength coded kind.Ordinary p v f = f
 noteLength coded kind.HopByHop p v f = f
@@ -80,6 +83,7 @@ noteLength coded kind.Host p v f = f
 noteLength coded kind.ContentLength p v f = anotherLength p v f
 noteLength coded kind.TransferEncoding p v f = cond coded (anotherCoding v f) f
 
+-- all notes, with a line of any kind more
 unfoldable pub noteOf : Bool → Notes → Kind → ℕ → ℕ → List ℕ → Notes
 noteOf coded n k p a v =
     record {
@@ -153,6 +157,7 @@ isClashing (Stated n p) = false
 isClashing Chunked = false
 isClashing Clashing = true
 
+-- a judged body as the code answers it
 abbrev pub bodyAnswer : Judged Body → BodyAnswer
 bodyAnswer (good b) = body.Read b
 bodyAnswer (wrong n p) = body.Refused n p

@@ -4,12 +4,15 @@ use mathlib.Core.Bool.{Bool, true, false, not, _&&_, _||_, cond}
 use lib.Dec.{eqb, leb}
 use lib.Bits.{bitAnd}
 
+-- from a to e, both included
 abbrev pub within : ℕ → ℕ → ℕ → Bool
 within a e b = leb a b && leb b e
 
+-- A to Z, a to z
 abbrev pub isLetter : ℕ → Bool
 isLetter b = within 65 90 b || within 97 122 b
 
+-- 0 to 9
 abbrev pub isDigit : ℕ → Bool
 isDigit b = within 48 57 b
 
@@ -30,16 +33,19 @@ unfoldable pub isAuthority : ℕ → Bool
 isAuthority b =
     isLetter b || isDigit b || eqb b 33 || within 36 46 b || eqb b 58 || eqb b 59 || eqb b 61 || eqb b 91 || eqb b 93 || eqb b 95 || eqb b 126
 
--- the classes by their bits
+-- the classes by their bits: names and methods
 abbrev pub token : ℕ
 token = 1
 
+-- field values, reasons, chunk extensions
 abbrev pub value : ℕ
 value = 2
 
+-- request targets
 abbrev pub path : ℕ
 path = 4
 
+-- host values, and the authority in control data
 abbrev pub authority : ℕ
 authority = 8
 

@@ -1,4 +1,5 @@
--- Runs of octets, lower case, trimming, comparing.
+-- Runs of octets, lower case, trimming, comparing (01, "HTTP/1.1 as we take it": names are made lower case, values are trimmed; "Binary HTTP as we take
+-- it": names are in lower case).
 use Prim.Native.Nat.{ℕ, zero, suc, _+_}
 use mathlib.Core.Bool.{Bool, true, false, cond, _&&_}
 use mathlib.Core.List.{List, [], _∷_, map}
@@ -19,6 +20,7 @@ all p (b ∷ s) = p b && all p s
 unfoldable pub lowerOf : ℕ → ℕ
 lowerOf b = cond (ltb b 65) b (cond (leb b 90) (b + 32) b)
 
+-- whether an octet is in lower case: making it so leaves it as it is
 unfoldable pub isLower : ℕ → Bool
 isLower b = eqb (lowerOf b) b
 
