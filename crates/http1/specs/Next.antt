@@ -1,4 +1,5 @@
--- The next line of a section, read and judged at once (01, "HTTP/1.1 as we take it": line endings, field lines).
+-- The next line of a section, read and judged at once: `lineOf` (script/specs/Script), then `fieldLens` (Lines; 01, "HTTP/1.1 as we take it": line endings,
+-- field lines).
 use Prim.Native.Nat.{ℕ, _+_, _-_, _<_}
 use mathlib.Core.Path.{_≡_}
 use mathlib.Core.Bool.{cond}
