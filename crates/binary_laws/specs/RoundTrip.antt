@@ -69,7 +69,7 @@ placedBinary m = placedFrom (startOf (m .control)) (length (controlBytes (m .con
 abbrev pub ReadsBack : Meaning → Type 0
 ReadsBack m = (readBinary (binaryOf m) ≡ accepted (length (binaryOf m)) (placedBinary m)) × (meaning (placedBinary m) ≡ m)
 
--- so is every such meaning
+-- every meaning that can be read and fits is read back
 abbrev pub RoundTrip : Type 0
 RoundTrip = (m : Meaning) → valid m ≡ true → binaryFits m ≡ true → ReadsBack m
 

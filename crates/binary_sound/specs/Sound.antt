@@ -69,6 +69,6 @@ pub record SoundBinary (s : List ℕ) (n : ℕ) (m : Message) : Type 0 where
   pub stated : Stated m
   pub names : LowerNames m
 
--- so is every accepted message
+-- every accepted message is so
 abbrev pub BinarySound : Type 0
 BinarySound = (s : List ℕ) (n : ℕ) (m : Message) → readBinary s ≡ accepted n m → SoundBinary s n m

@@ -145,7 +145,7 @@ pub record Turns (w : Turning) (turn : List ℕ → Reply) : Type 0 where
   -- what is answered and left where there is so much room
   pub room : (s : List ℕ) → Lent (turn s)
 
--- demand 2: each of the four turnings does
+-- demand 2: `Turns` of each of the four turnings
 pub record Demand2 : Type 0 where
   -- what a reader of HTTP/1.1 accepts is of its kind, and a request's scheme is the one told
   pub ofRequests : (t : Told) (s : List ℕ) (n : ℕ) (m : Message) → readRequest t s ≡ accepted n m → isRequestOf t (meaning m .control) ≡ true

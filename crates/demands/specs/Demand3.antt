@@ -99,7 +99,7 @@ meaningsOf t o ss = map (λ e. e .1) (entriesOf t o ss)
 abbrev pub NotResponse : ℕ × Meaning → Type 0
 NotResponse e = ofResponse (e .1 .control) ≡ false
 
--- none of what these calls accepted
+-- so it is with all that the calls on the inputs ss accepted
 abbrev pub NoResponse : Told → List ℕ → List (List ℕ) → Type 0
 NoResponse t o ss = Each NotResponse (entriesOf t o ss)
 

@@ -73,7 +73,7 @@ Counts (outcome.Message r) c t = (r .content ≡ c) × (r .trailers ≡ t)
 Counts (outcome.Refusal k p) c t = ⊥
 Counts outcome.More c t = ⊥
 
--- a row holds of the definitions
+-- what a row says of the definitions
 abbrev pub Holds : Example → Type 0
 Holds (integer s v) = readInt 0 s ≡ Value v (length s)
 Holds (http1 s k p) = Answers s (readRequest http s) k p

@@ -21,7 +21,7 @@ abbrev pub IsRequest : Told → List FieldRead → Start → Type 0
 IsRequest t lines (requestStart method s authority path) = (s ≡ t .scheme) × (f : FieldRead) × (linesOf kind.Host lines ≡ f ∷ []) × (authority ≡ f .value)
 IsRequest t lines (responseStart hs s) = ⊥
 
--- a response
+-- a response, of any status
 abbrev pub IsResponse : Start → Type 0
 IsResponse (requestStart method s authority path) = ⊥
 IsResponse (responseStart hs s) = Unit {0}

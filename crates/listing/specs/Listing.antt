@@ -45,6 +45,6 @@ rows i at (stops k p r) = endLine (at + p) k
 abbrev pub title : List ℕ
 title = ascii "message start length fields content trailers\n"
 
--- all that is printed: title, rows, last line. The stream is read under http; input above the size is 8 at the size
+-- all that is printed: the title, then a row for each message and the last line, read under http; for input above the size a last line with 8
 unfoldable pub listingOf : List ℕ → List ℕ
 listingOf s = title ++ cond (leb (length s) listingMost) (rows 1 0 (takeOff (readRequest (record { scheme = 0 })) s)) (endLine listingMost tooLarge)

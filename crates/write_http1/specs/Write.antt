@@ -85,7 +85,7 @@ abbrev pub startText : Control → List ℕ
 startText (request m s a p) = requestLine m p
 startText (response hs s) = informationalText hs ++ statusLine s
 
--- all heads of a message: their sizes count together
+-- all heads of a message, which the size of heads counts together
 unfoldable pub headText : Meaning → List ℕ
 headText m = startText (m .control) ++ sectionText (headLines m)
 
