@@ -48,6 +48,7 @@ ruledPart most verdict = do
 unfoldable pub schemeOf : List ℕ → ℕ → Judged ℕ
 schemeOf w p = cond (sameText w (ascii "http")) (good 0) (cond (sameText w (ascii "https")) (good 1) (wrong notSupported p))
 
+-- the scheme's part: another scheme is 4 at the part
 unfoldable pub schemePart : Reader ℕ
 schemePart = do
   p ← here
@@ -108,6 +109,7 @@ abbrev pub onBody : Got (List FieldRead) → Reader (List FieldRead)
 onBody (got fs e r) at s = got fs at s
 onBody (no n p) at s = no n p
 
+-- the lines that fill the body b of a known-length section
 unfoldable pub bodyLines : Piece → Reader (List FieldRead)
 bodyLines b = onBody (knownLines (suc linesMost) [] (b .place) (b .text))
 
@@ -124,7 +126,7 @@ openLine p a = do
   v ← part
   tell (lineOf p n v)
 
--- the lines up to a name length of zero; a 65th is refused when its name length is in
+-- the lines up to a name length of zero; a 65th is refused when its name length is in. The first number is above how many may come
 unfoldable pub openLines : ℕ → List FieldRead → Reader (List FieldRead)
 openLines zero fs = refuse tooLarge 0
 openLines (suc f) fs = do
@@ -151,12 +153,14 @@ section known = do
 abbrev pub nonEmpty : Piece → List Piece
 nonEmpty c = cond (isEmpty (c .text)) [] (c ∷ [])
 
+-- content of known length: a part, whose size is judged first
 unfoldable pub knownContent : Reader (List Piece)
 knownContent = do
   c ← partWithin contentMost
   give (nonEmpty c)
 
--- chunks up to a length of zero, behind chunks of so many octets in all: a 257th or a total above the size is refused at its length
+-- chunks up to a length of zero, behind chunks of so many octets in all: a 257th or a total above the size is refused at its length. The first number is
+-- above how many may come
 unfoldable pub openChunks : ℕ → List Piece → ℕ → Reader (List Piece)
 openChunks zero cs total = refuse tooLarge 0
 openChunks (suc f) cs total = do
@@ -185,6 +189,7 @@ contentRule body f end cs =
 
 -- ---- trailers and padding
 
+-- whether there is no line
 abbrev pub noLines : List FieldRead → Bool
 noLines [] = true
 noLines (f ∷ fs) = false
@@ -242,7 +247,8 @@ finalResponse known is n = do
         f ← tell (mayState (h .end) (binaryFramingOf (h .lines)))
         afterHeaders known true (responseStart is n) h f)
 
--- one status after another, behind informational heads: a fifth is refused at its status, and each is judged behind its section
+-- one status after another, behind informational heads: a fifth is refused at its status, and each is judged behind its section. The number is above how
+-- many may come
 unfoldable pub responseMessage : Bool → ℕ → List InformationalRead → Reader Message
 responseMessage known zero is = refuse tooLarge 0
 responseMessage known (suc f) is = do
@@ -275,6 +281,6 @@ abbrev pub answerOf : Got Message → Answer Message
 answerOf (got m n r) = accepted n m
 answerOf (no k p) = refused k p
 
--- input above the size is refused first
+-- a whole Binary message; input above the size is 8 at 0, first
 unfoldable pub readBinary : List ℕ → Answer Message
 readBinary s = cond (leb (length s) binaryMost) (answerOf (message 0 s)) (refused tooLarge 0)

@@ -1,4 +1,5 @@
--- Readers of one whole input: each takes what it reads off the front of what is left, and knows its place.
+-- Readers of one whole input: each takes what it reads off the front of what is left, and knows its place (01, "Binary HTTP as we take it"; integers and
+-- strings that are cut off: "Numbers a call answers with").
 use Prim.Native.Nat.{ℕ, _+_, _-_}
 use mathlib.Core.Bool.{Bool, true, false, cond}
 use mathlib.Core.List.{List, [], _∷_}
@@ -10,16 +11,18 @@ use Rattle.numbers.specs.declared.Integer.{Integer}
 use Rattle.numbers.specs.declared.Integer.the-variants.{Value, Cut}
 use Rattle.script.specs.Do.{Piece, piece, Judged, good, wrong}
 
+-- what a reader answers
 pub data Got (A : Type 0) : Type 0 where
   -- what was read, the place behind it, and what is left there
   got : A → ℕ → List ℕ → Got A
   -- a refusal: its number and its place
   no : ℕ → ℕ → Got A
 
--- the place, and what is left
+-- from the present place and what is left there
 abbrev pub Reader : Type 0 → Type 0
 Reader A = ℕ → List ℕ → Got A
 
+-- what was read is handed on; a refusal stays
 abbrev pub onGot : {A B : Type 0} → Got A → (A → Reader B) → Got B
 onGot (got a at s) k = k a at s
 onGot (no n p) k = no n p
@@ -29,10 +32,11 @@ infixl 20 _>>=_
 unfoldable pub _>>=_ : {A B : Type 0} → Reader A → (A → Reader B) → Reader B
 _>>=_ r k at s = onGot (r at s) k
 
--- nothing is read
+-- a value; nothing is read
 abbrev pub give : {A : Type 0} → A → Reader A
 give a at s = got a at s
 
+-- a refusal with a number at a place
 abbrev pub refuse : {A : Type 0} → ℕ → ℕ → Reader A
 refuse n p at s = no n p
 
@@ -53,11 +57,12 @@ tell (wrong n p) at s = no n p
 abbrev pub rule : {X : Type 0} → ℕ → ℕ → X → Judged X
 rule n p x = cond (eqb n 0) (good x) (wrong n p)
 
--- an integer; one that is cut off is refused with a number at the place p
+-- the integer's value, behind which the reading goes on; one that is cut off is refused with a number at the place p
 abbrev pub onInteger : ℕ → ℕ → ℕ → List ℕ → Integer → Got ℕ
 onInteger k p at s (Value v next) = got v next (drop (next - at) s)
 onInteger k p at s Cut = no k p
 
+-- the integer at the present place, of any length
 unfoldable pub integer : ℕ → ℕ → Reader ℕ
 integer k p at s = onInteger k p at s (readInt at s)
 

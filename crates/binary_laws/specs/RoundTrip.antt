@@ -1,5 +1,5 @@
 -- What is written as Binary HTTP is read back (00, demand 2: "Turning a message from either form into the other keeps its meaning: control data,
--- fields in order, content and trailers").
+-- fields in order, content and trailers"; 01, "How we write").
 use mathlib.Core.Path.{_≡_}
 use mathlib.Core.Bool.{true}
 use mathlib.Core.List.{List, [], _∷_, _++_}
@@ -69,6 +69,7 @@ placedBinary m = placedFrom (startOf (m .control)) (length (controlBytes (m .con
 abbrev pub ReadsBack : Meaning → Type 0
 ReadsBack m = (readBinary (binaryOf m) ≡ accepted (length (binaryOf m)) (placedBinary m)) × (meaning (placedBinary m) ≡ m)
 
+-- every meaning that can be read and fits is read back
 abbrev pub RoundTrip : Type 0
 RoundTrip = (m : Meaning) → valid m ≡ true → binaryFits m ≡ true → ReadsBack m
 

@@ -1,4 +1,5 @@
--- What the code that reads the heads of a response promises, in terms of the reader of Binary HTTP.
+-- What the code that reads the heads of a response promises, in terms of `responseMessage` and `finalResponse` (binary/specs/Read; 01, "Binary HTTP as we
+-- take it").
 use Prim.Native.Nat.{ℕ, suc, _+_, _*_, _≤_, _<_}
 use mathlib.Core.Path.{_≡_}
 use mathlib.Core.Bool.{Bool, true, false, cond}

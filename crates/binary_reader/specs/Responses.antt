@@ -1,4 +1,5 @@
--- What the code that reads responses promises, in terms of the readers of Binary HTTP.
+-- What the code that reads responses promises, in terms of `responseMessage` (binary/specs/Read; 01, "Binary HTTP as we take it"): what a final head
+-- states, and what stands behind it.
 use Prim.Native.Nat.{ℕ}
 use mathlib.Core.Path.{_≡_}
 use mathlib.Core.Bool.{Bool, true}

@@ -1,4 +1,5 @@
--- What the code that reads behind a header section promises, in terms of the readers of Binary HTTP.
+-- What the code that reads behind a header section promises, in terms of `trailers` and `afterHeaders` (binary/specs/Read; 01, "Binary HTTP as we take
+-- it": content, trailers, padding).
 use Prim.Native.Nat.{ℕ}
 use mathlib.Core.Path.{_≡_}
 use mathlib.Core.Bool.{Bool, true, false, cond}

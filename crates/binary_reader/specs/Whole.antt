@@ -1,4 +1,4 @@
--- What the code that reads whole messages promises, in terms of the readers of Binary HTTP.
+-- What the code that reads whole messages promises, in terms of `message` and `readBinary` (binary/specs/Read; 01, "Binary HTTP as we take it": framing).
 use Prim.Native.Nat.{ℕ, suc}
 use mathlib.Core.Path.{_≡_}
 use mathlib.Core.Bool.{Bool, true, false, cond}

@@ -34,6 +34,7 @@ pub record GoodResponse (hs : List InformationalRead) (n : ℕ) (lines : List Fi
   pub early : Each (λ h. binaryFramingOf (h .lines) ≡ Unstated) hs
   pub bodyless : isBodyless n ≡ true → binaryFramingOf lines ≡ Unstated
 
+-- control data by the rule of their kind
 abbrev pub GoodStart : Start → List FieldRead → Type 0
 GoodStart (requestStart method s authority path) lines = GoodRequest s authority lines
 GoodStart (responseStart hs n) lines = GoodResponse hs n lines
@@ -46,10 +47,12 @@ Stated m = agrees (binaryFramingOf (m .lines)) (length (contentOf (m .chunks))) 
 abbrev pub LowerName : FieldRead → Type 0
 LowerName f = isLowerName (f .name .text) ≡ true
 
+-- the names in the informational heads
 abbrev pub LowerHeads : Start → Type 0
 LowerHeads (requestStart method s authority path) = Unit {0}
 LowerHeads (responseStart hs n) = Each (λ h. Each LowerName (h .lines)) hs
 
+-- all names of a message
 pub record LowerNames (m : Message) : Type 0 where
   pub heads : LowerHeads (m .start)
   pub lines : Each LowerName (m .lines)
@@ -66,5 +69,6 @@ pub record SoundBinary (s : List ℕ) (n : ℕ) (m : Message) : Type 0 where
   pub stated : Stated m
   pub names : LowerNames m
 
+-- every accepted message is so
 abbrev pub BinarySound : Type 0
 BinarySound = (s : List ℕ) (n : ℕ) (m : Message) → readBinary s ≡ accepted n m → SoundBinary s n m

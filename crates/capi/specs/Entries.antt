@@ -1,4 +1,5 @@
--- What the entries for C leave and answer (01, "calls readers and writers with numbers and byte slices"; include/ospirnar.h has the layout).
+-- What the entries for C leave and answer (01, "The two forms and the meaning between them": readers and writers are called with numbers and byte slices;
+-- "Numbers a call answers with"). include/ospirnar.h has the layout.
 use Prim.Native.Nat.{ℕ, _+_, _*_, _≤_}
 use mathlib.Core.Path.{_≡_}
 use mathlib.Core.Bool.{Bool, true, false, cond}
@@ -15,6 +16,7 @@ use Rattle.messages.specs.declared.Part.{Part}
 use Rattle.messages.specs.declared.Record.{Record}
 use Rattle.ranges.specs.Ranges.{headNumbers, trailerNumbers}
 
+-- place and length of a part
 abbrev pub partNumbers : Part → List ℕ
 partNumbers p = p .start ∷ p .len ∷ []
 

@@ -1,5 +1,6 @@
 -- Demand 2 (00): "Turning a message from either form into the other keeps its meaning: control data, fields in order, content and trailers. The only
--- messages that can't be turned are those that document 01 numbers." One statement, `Turns`, of each of the four turnings.
+-- messages that can't be turned are those that document 01 numbers." One statement, `Turns`, of each of the four turnings (01, "The two forms and the
+-- meaning between them", "Numbers a call answers with").
 use Prim.Native.Nat.{ℕ, _<_, _≤_}
 use mathlib.Core.Path.{_≡_}
 use mathlib.Core.Bool.{Bool, true, false, cond}
@@ -23,6 +24,7 @@ use Rattle.turn.specs.Turn.{requestToBinary, responseToBinary, binaryToBinary, 
 
 -- ---- what a turning is
 
+-- a turning by what it reads and what it writes
 pub record Turning : Type 0 where
   -- the number told is a scheme's, or none is told
   pub told : Bool
@@ -44,6 +46,7 @@ abbrev pub http1Reader : Told → Control → List ℕ → Answer Message
 http1Reader t (request m s a p) = readRequest t
 http1Reader t (response hs s) = readResponse
 
+-- into Binary, from any reader: every message goes, if it fits
 abbrev pub intoBinary : Bool → (List ℕ → Answer Message) → Turning
 intoBinary told read =
     record {
@@ -56,16 +59,19 @@ intoBinary told read =
       streams = false;
     }
 
--- the four turnings of 01, "Needed"
+-- the four turnings: requests as Binary
 abbrev pub requestsAsBinary : Told → Turning
 requestsAsBinary t = intoBinary (isScheme (t .scheme)) (readRequest t)
 
+-- responses as Binary
 abbrev pub responsesAsBinary : Turning
 responsesAsBinary = intoBinary true readResponse
 
+-- Binary written anew
 abbrev pub binaryAnew : Turning
 binaryAnew = intoBinary true readBinary
 
+-- Binary as HTTP/1.1, on a connection of the scheme told
 abbrev pub binaryAsHttp1 : Told → Turning
 binaryAsHttp1 t =
     record {
@@ -127,6 +133,7 @@ pub record Lent (y : Reply) : Type 0 where
 
 -- ---- the claim
 
+-- a turning replies as it must, keeps meanings and leaves the lent space as it must
 pub record Turns (w : Turning) (turn : List ℕ → Reply) : Type 0 where
   -- the reply in every case of the reader's answer. A build that refuses everything, or what 01 does not number, is shut out; so is a constant answer
   pub reply : (s : List ℕ) → turn s ≡ replyTo w s
@@ -138,6 +145,7 @@ pub record Turns (w : Turning) (turn : List ℕ → Reply) : Type 0 where
   -- what is answered and left where there is so much room
   pub room : (s : List ℕ) → Lent (turn s)
 
+-- demand 2: `Turns` of each of the four turnings
 pub record Demand2 : Type 0 where
   -- what a reader of HTTP/1.1 accepts is of its kind, and a request's scheme is the one told
   pub ofRequests : (t : Told) (s : List ℕ) (n : ℕ) (m : Message) → readRequest t s ≡ accepted n m → isRequestOf t (meaning m .control) ≡ true

@@ -63,29 +63,35 @@ entryOf (Done n) (refused k p) = []
 entryOf (Done n) more = []
 entryOf (Refused k p) x = []
 
+-- what the call on s adds
 unfoldable pub entryIn : Told → Space → List ℕ → List (ℕ × Meaning)
 entryIn t z s = entryOf (answerIn t z s) (readBinary s)
 
 -- ---- a list of calls, one behind the other
 
+-- what the calls leave
 unfoldable pub calls : Told → Space → List (List ℕ) → Space
 calls t z [] = z
 calls t z (s ∷ ss) = calls t (call t z s) ss
 
+-- what the calls add, in order
 unfoldable pub entriesIn : Told → Space → List (List ℕ) → List (ℕ × Meaning)
 entriesIn t z [] = []
 entriesIn t z (s ∷ ss) = entryIn t z s ++ entriesIn t (call t z s) ss
 
--- of the calls on the inputs ss in the lent space o: what they leave, the octets that they wrote, what they accepted, and the meanings alone
+-- of the calls on the inputs ss in the lent space o: what they leave
 abbrev pub spaceOf : Told → List ℕ → List (List ℕ) → Space
 spaceOf t o ss = calls t (fresh o) ss
 
+-- the octets that they wrote
 abbrev pub streamOf : Told → List ℕ → List (List ℕ) → List ℕ
 streamOf t o ss = take (spaceOf t o ss .written) (spaceOf t o ss .octets)
 
+-- what they accepted: lengths and meanings
 abbrev pub entriesOf : Told → List ℕ → List (List ℕ) → List (ℕ × Meaning)
 entriesOf t o ss = entriesIn t (fresh o) ss
 
+-- the meanings alone
 abbrev pub meaningsOf : Told → List ℕ → List (List ℕ) → List Meaning
 meaningsOf t o ss = map (λ e. e .1) (entriesOf t o ss)
 
@@ -93,6 +99,7 @@ meaningsOf t o ss = map (λ e. e .1) (entriesOf t o ss)
 abbrev pub NotResponse : ℕ × Meaning → Type 0
 NotResponse e = ofResponse (e .1 .control) ≡ false
 
+-- so it is with all that the calls on the inputs ss accepted
 abbrev pub NoResponse : Told → List ℕ → List (List ℕ) → Type 0
 NoResponse t o ss = Each NotResponse (entriesOf t o ss)
 
@@ -104,6 +111,7 @@ readMeaning t s = means meaning (readRequest t s)
 
 -- ---- the claim
 
+-- demand 3 under one scheme, for all lists of calls
 pub record Demand3 (t : Told) : Type 0 where
   -- a call that is lent this part of the space, answers r and leaves o′ there, as the writer promises (output/Reply), is the call spoken of here;
   -- so is one that is lent the whole space and the place to write from

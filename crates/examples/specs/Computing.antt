@@ -1,4 +1,4 @@
--- Opens every definition: for proofs by computation only.
+-- Opens every definition, so that the rows of the examples (01, "Examples") are proved by computation; no other proof uses it.
 use Rattle.octets.specs.Class.{isToken, isValue, isPath, isAuthority, classOf, hasClass, isBlank}
 use Rattle.octets.specs.Text.{spanLen, all, lowerOf, isLower, sameText, trimBack, isEmpty}
 use Rattle.numbers.specs.Places.{push}
@@ -23,6 +23,7 @@ use Rattle.turn.specs.Question.{firstOf, requestQuestion, responseQuestion, bin
 use Rattle.stream.specs.Taking.{takeF, takeOff, resume, stream, entries, sent}
 use Rattle.listing.specs.Listing.{row, endLine, rows, listingOf}
 
+-- names every one that does not open by itself
 unfoldable pub computing : Unit {0}
 unfolding isToken isValue isPath isAuthority classOf hasClass isBlank spanLen all lowerOf isLower sameText trimBack isEmpty push extraOf readMore readInt intLen tagOf intBytes digitOf charOf numFrom numOf moreOf countOf digits afterOf lineOf cutBy run free _>>=_ isUnsupported methodVerdict pathVerdict authorityVerdict isHost statusVerdict isInformational isBodyless isLowerName isTrimmedValue isHopByHop kindOf lineKind sameKind linesOf kept areTrailers keptTrailers authorityFrom authorityIn framingFrom framingOf binaryFramingOf requestBody nothingStated contentBody responseBody mayState fieldMeans informationalMeans contentOf meaning validField validFields validSection validInformational validHeads isScheme validControl validBody valid fieldsNumbers chunksNumbers informationalNumbers informationalLines padded rangesOf noRanges recordOf isOther requestParts requestVersion requestTarget requestLens requestOf statusVersion isStatusShape statusLens statusOf valueFrom valueIn nameTo fieldLens fieldOf chunkLens chunkOf fieldLines section trailerSection chunkData chunksFrom content afterHead request readRequest afterFinal heads readResponse bind-binary integer octets part partWithin ruledPart schemeOf schemePart requestControl lineOf-binary knownLine knownLines bodyLines knownSection openLine openLines section-binary knownContent openChunks content-binary contentRule trailerRule trailers padding afterHeaders requestMessage finalResponse responseMessage message readBinary counted fieldBytes fieldsBytes sectionBytes schemeBytes informationalBytes controlBytes binaryOf binaryFits fieldText sectionText requestLine statusLine hostField lengthField codingField lengthLine headLines informationalText headText chunkText chunkedText bodyText http1Of http1Fits toBinary toHttp1 requestToBinary responseToBinary binaryToBinary binaryToHttp1 firstOf requestQuestion responseQuestion binaryQuestion takeF takeOff resume stream entries sent row endLine rows listingOf
 computing = tt

@@ -25,20 +25,24 @@ use Rattle.output.specs.Reply.{Reply, octets, wrong}
 
 -- ---- octets by pairs of hexadecimal digits; spaces are passed over
 
+-- an octet for each two digits
 abbrev pub paired : List ℕ → List ℕ
 paired [] = []
 paired (a ∷ []) = []
 paired (a ∷ b ∷ s) = (digitOf a * 16 + digitOf b) ∷ paired s
 
+-- all but the spaces
 abbrev pub solid : List ℕ → List ℕ
 solid [] = []
 solid (b ∷ s) = cond (eqb b 32) (solid s) (b ∷ solid s)
 
+-- the octets that a text of digits shows
 unfoldable pub hex : String → List ℕ
 hex t = paired (solid (ascii t))
 
 -- ---- what a row says
 
+-- a row: an input, and what is to come of it
 pub data Example : Type 0 where
   -- the octets are this integer, and no octet is left
   integer : List ℕ → ℕ → Example
@@ -55,6 +59,7 @@ pub data Example : Type 0 where
   -- so many octets
   long : List ℕ → ℕ → Example
 
+-- a call told http
 abbrev pub http : Told
 http = record { scheme = 0 }
 
@@ -62,11 +67,13 @@ http = record { scheme = 0 }
 abbrev pub Answers : List ℕ → Answer Message → ℕ → ℕ → Type 0
 Answers s a k p = (numberOf (readingOf a .outcome) ≡ k) × (placeOf (length s) (readingOf a .outcome) ≡ p)
 
+-- content and trailers of an accepted message
 abbrev pub Counts : Outcome → ℕ → ℕ → Type 0
 Counts (outcome.Message r) c t = (r .content ≡ c) × (r .trailers ≡ t)
 Counts (outcome.Refusal k p) c t = ⊥
 Counts outcome.More c t = ⊥
 
+-- what a row says of the definitions
 abbrev pub Holds : Example → Type 0
 Holds (integer s v) = readInt 0 s ≡ Value v (length s)
 Holds (http1 s k p) = Answers s (readRequest http s) k p
@@ -76,6 +83,7 @@ Holds (becomes s b) = requestToBinary http s ≡ octets b
 Holds (anew s b) = binaryToBinary s ≡ octets b
 Holds (long s n) = length s ≡ n
 
+-- each row of a list holds
 abbrev pub AllHold : List Example → Type 0
 AllHold [] = Unit {0}
 AllHold (e ∷ es) = Holds e × AllHold es
@@ -101,6 +109,7 @@ figure13 =
 
 -- ---- the table
 
+-- P1 to P13, in 01's order
 unfoldable pub table : List Example
 table =
     -- P1 to P3

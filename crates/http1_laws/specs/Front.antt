@@ -21,6 +21,7 @@ pub record First (xs ys : List Reading) : Type 0 where
   pub others : List Reading
   pub split : ys ≡ xs ++ others
 
+-- the claims on such a reader
 pub record Front (read : List ℕ → Answer Message) : Type 0 where
   -- an answer that does not ask for more octets stays, whatever octets come behind
   pub stays : (s u : List ℕ) → Settled (read s) → read (s ++ u) ≡ read s

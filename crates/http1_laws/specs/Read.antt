@@ -21,6 +21,7 @@ abbrev pub IsRequest : Told → List FieldRead → Start → Type 0
 IsRequest t lines (requestStart method s authority path) = (s ≡ t .scheme) × (f : FieldRead) × (linesOf kind.Host lines ≡ f ∷ []) × (authority ≡ f .value)
 IsRequest t lines (responseStart hs s) = ⊥
 
+-- a response, of any status
 abbrev pub IsResponse : Start → Type 0
 IsResponse (requestStart method s authority path) = ⊥
 IsResponse (responseStart hs s) = Unit {0}
@@ -29,6 +30,7 @@ IsResponse (responseStart hs s) = Unit {0}
 abbrev pub Stated : Message → Type 0
 Stated m = agrees (framingOf (m .lines)) (length (contentOf (m .chunks))) ≡ true
 
+-- a request m of length n that is accepted from the stream s
 pub record SoundRequest (t : Told) (s : List ℕ) (n : ℕ) (m : Message) : Type 0 where
   pub sound : Sound s m
   pub request : IsRequest t (m .lines) (m .start)
@@ -36,6 +38,7 @@ pub record SoundRequest (t : Told) (s : List ℕ) (n : ℕ) (m : Message) : Type
   pub some : 0 < n
   pub within : n ≤ length s
 
+-- a response m of length n that is accepted from the stream s
 pub record SoundResponse (s : List ℕ) (n : ℕ) (m : Message) : Type 0 where
   pub sound : Sound s m
   pub response : IsResponse (m .start)
@@ -43,9 +46,11 @@ pub record SoundResponse (s : List ℕ) (n : ℕ) (m : Message) : Type 0 where
   pub some : 0 < n
   pub within : n ≤ length s
 
+-- so is every accepted request, under whatever scheme is told
 abbrev pub RequestsSound : Type 0
 RequestsSound = (t : Told) (s : List ℕ) (n : ℕ) (m : Message) → readRequest t s ≡ accepted n m → SoundRequest t s n m
 
+-- so is every accepted response
 abbrev pub ResponsesSound : Type 0
 ResponsesSound = (s : List ℕ) (n : ℕ) (m : Message) → readResponse s ≡ accepted n m → SoundResponse s n m
 

@@ -15,6 +15,7 @@ use Rattle.messages.specs.Told.{Told}
 use Rattle.http1.specs.Read.{readRequest}
 use Rattle.stream.specs.Taking.{Taken, message, waits, stops, takeOff}
 
+-- the end of a line
 abbrev pub lf : List ℕ
 lf = 10 ∷ []
 
@@ -40,9 +41,10 @@ rows i at (message n m t) = row i at n m ++ rows (i + 1) (at + n) t
 rows i at (waits r) = cond (isEmpty r) (endLine at 0) (endLine (at + length r) moreNeeded)
 rows i at (stops k p r) = endLine (at + p) k
 
+-- the first line: what the columns are
 abbrev pub title : List ℕ
 title = ascii "message start length fields content trailers\n"
 
--- the stream is read under http
+-- all that is printed: the title, then a row for each message and the last line, read under http; for input above the size a last line with 8
 unfoldable pub listingOf : List ℕ → List ℕ
 listingOf s = title ++ cond (leb (length s) listingMost) (rows 1 0 (takeOff (readRequest (record { scheme = 0 })) s)) (endLine listingMost tooLarge)

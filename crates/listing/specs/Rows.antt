@@ -1,4 +1,5 @@
--- What the code of the listing promises, in terms of its definition.
+-- What the code of the listing promises, in terms of `rows` and `listingOf` (Listing; 01, "Examples": a listing program), and how long the text is that it
+-- puts.
 use Prim.Native.Nat.{ℕ, _+_, _≤_}
 use mathlib.Core.Bool.{cond}
 use mathlib.Core.List.{List, _++_}
@@ -38,15 +39,18 @@ countsText f c t = column f ++ column c ++ digits 10 t ++ lf
 abbrev pub rowText : ℕ → ℕ → ℕ → ℕ → ℕ → ℕ → List ℕ
 rowText i at n f c t = column i ++ column at ++ column n ++ countsText f c t
 
--- how long a column is, with the space or LF behind it; three columns; a row; the last line
+-- how long a column is, with the space or LF behind it
 abbrev pub columnSize : ℕ → ℕ
 columnSize n = countOf 10 n + 1
 
+-- three columns
 abbrev pub threeSize : ℕ → ℕ → ℕ → ℕ
 threeSize a b c = columnSize a + columnSize b + columnSize c
 
+-- a row
 abbrev pub rowSize : ℕ → ℕ → ℕ → ℕ → ℕ → ℕ → ℕ
 rowSize i at n f c t = threeSize i at n + threeSize f c t
 
+-- the last line
 abbrev pub endSize : ℕ → ℕ → ℕ
 endSize place number = 4 + columnSize place + columnSize number

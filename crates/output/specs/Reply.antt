@@ -36,6 +36,7 @@ unfoldable pub afterAt : Reply → ℕ → List ℕ → List ℕ
 afterAt (octets bs) k o = cond (leb (k + length bs) (length o)) (splice o k bs) o
 afterAt (wrong number place) k o = o
 
+-- the same of a writer that was lent o from the place k on
 pub record ServedAt (y : Reply) (k : ℕ) (o o′ : List ℕ) (r : Written) : Type 0 where
   pub answer : r ≡ answerOf y (length o - k)
   pub after : o′ ≡ afterAt y k o

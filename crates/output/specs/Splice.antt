@@ -1,4 +1,5 @@
--- What a writer leaves in the octets that it was lent, and the part of a source that it copies.
+-- What a writer leaves in the octets that it was lent, and the part of a source that it copies (01, "Numbers a call answers with": a refusal writes
+-- nothing, and all behind what is written stays).
 use mathlib.Core.Path.{_≡_}
 use mathlib.Core.Bool.{Bool, cond}
 use mathlib.Core.List.{List, [], _∷_}

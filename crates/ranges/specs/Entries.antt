@@ -1,5 +1,5 @@
--- A message by its numbers alone: what the entries of lent ranges name in the octets of a source, with a zero for each number past an end. Writers say by
--- these what they write, and `Held` (Ranges) makes of it the message that was read.
+-- A message by its numbers alone: what the entries of lent ranges name in the octets of a source, with a zero for each number past an end (01, "The two
+-- forms and the meaning between them": ranges). Writers say by these what they write, and `Held` (Ranges) makes of it the message that was read.
 use Prim.Native.Nat.{ℕ, zero, suc, _+_, _*_, _<_, _≤_}
 use mathlib.Core.Path.{_≡_}
 use mathlib.Core.Bool.{Bool, true, false}

@@ -33,6 +33,7 @@ pub record Kept (travels : Bool) (k : ℕ) (numbers o o′ : List ℕ) (r : ℕ)
 abbrev pub headNumbers : Message → List ℕ
 headNumbers m = fieldsNumbers (informationalLines (informationalIn (m .start)) ++ kept (isResponse (m .start)) (m .lines))
 
+-- the numbers of the kept trailer fields
 abbrev pub trailerNumbers : Message → List ℕ
 trailerNumbers m = fieldsNumbers (keptTrailers (m .trailers))
 
@@ -44,6 +45,7 @@ OutcomeSays (accepted n m) hs hs′ cs cs′ ts ts′ r =
 OutcomeSays (refused k p) hs hs′ cs cs′ ts ts′ r = r ≡ outcome.Refusal k p
 OutcomeSays more hs hs′ cs cs′ ts ts′ r = r ≡ outcome.More
 
+-- the promise of a reader of requests, which was lent hs, cs and ts
 pub record Outcomed (x : Answer Message) (hs hs′ cs cs′ ts ts′ : List ℕ) (r : Outcome) : Type 0 where
   pub says : OutcomeSays x hs hs′ cs cs′ ts ts′ r
 
@@ -53,21 +55,24 @@ InformationalSays (accepted n m) ns ns′ = ns′ ≡ splice ns 0 (informational
 InformationalSays (refused k p) ns ns′ = Unit {0}
 InformationalSays more ns ns′ = Unit {0}
 
--- any informational heads, fewer than there may be, or so many
+-- any informational heads
 abbrev pub AnyHeads : List InformationalRead → Type 0
 AnyHeads is = Unit {0}
 
+-- fewer than there may be
 abbrev pub FewHeads : List InformationalRead → Type 0
 FewHeads is = length is < informationalMost
 
+-- n of them
 abbrev pub SoManyHeads : ℕ → List InformationalRead → Type 0
 SoManyHeads n is = length is ≡ n
 
--- an answer, and the ranges of an accepted message that may be a response, in the lent space
+-- the promise of a reader of messages that may be responses, which was lent ns too, for the informational heads
 pub record Responded (x : Answer Message) (hs hs′ ns ns′ cs cs′ ts ts′ : List ℕ) (r : Outcome) : Type 0 where
   pub says : OutcomeSays x hs hs′ cs cs′ ts ts′ r
   pub informational : InformationalSays x ns ns′
 
+-- ranges by their four lists
 abbrev pub rangesWith : List ℕ → List ℕ → List ℕ → List ℕ → Ranges
 rangesWith ns hs ts cs = record { informational = ns; headers = hs; trailers = ts; chunks = cs }
 

@@ -1,4 +1,5 @@
--- What the code that reads content and padding promises, in terms of the readers of Binary HTTP.
+-- What the code that reads content and padding promises, in terms of `content`, `openChunks` and `padding` (binary/specs/Read; 01, "Binary HTTP as we take
+-- it", "Sizes").
 use Prim.Native.Nat.{ℕ, suc, _+_, _≤_, _<_}
 use mathlib.Core.Path.{_≡_}
 use mathlib.Core.Bool.{Bool, true, false, cond}

@@ -1,4 +1,5 @@
--- What the code that reads control data promises, in terms of the readers of Binary HTTP.
+-- What the code that reads control data promises, in terms of `part`, `ruledPart`, `schemePart` and `requestControl` (binary/specs/Read; 01, "Binary HTTP
+-- as we take it").
 use Prim.Native.Nat.{ℕ, _+_, _≤_, _<_}
 use mathlib.Core.Path.{_≡_}
 use mathlib.Core.List.{List}
@@ -36,7 +37,7 @@ PartSays s (no n p) r = r ≡ Refused n p
 pub record Parted (s : List ℕ) (x : Got Piece) (r : PartRead) : Type 0 where
   pub says : PartSays s x r
 
--- the size and the rule of a part of control data
+-- the size of a part of control data
 abbrev pub mostOf : Ruled → ℕ
 mostOf Method = methodMost
 mostOf Authority = authorityMost

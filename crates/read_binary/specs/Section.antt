@@ -1,4 +1,4 @@
--- What the code that reads field sections promises, in terms of the readers of Binary HTTP.
+-- What the code that reads field sections promises, in terms of `section`, `knownLines` and `openLines` (binary/specs/Read; 01, "Binary HTTP as we take it").
 use Prim.Native.Nat.{ℕ, _+_, _-_, _*_, _≤_}
 use mathlib.Core.Path.{_≡_}
 use mathlib.Core.Bool.{Bool, false, cond}

@@ -1,4 +1,5 @@
--- What the code that reads one chunk or the trailers behind the last promises, in terms of the readers' scripts.
+-- What the code that reads one chunk or the trailers behind the last promises, in terms of the scripts `chunksFrom` and `trailerSection` (http1/specs/Read;
+-- 01, "HTTP/1.1 as we take it": chunk lines, data, trailers).
 use Prim.Native.Nat.{ℕ, suc, _+_, _≤_, _<_}
 use mathlib.Core.Path.{_≡_}
 use mathlib.Core.List.{List, [], _∷_, _++_}
@@ -38,6 +39,7 @@ DataLies s start n (Last e) = ⊥
 DataLies s start n (Refused x p) = Unit {0}
 DataLies s start n More = Unit {0}
 
+-- the promise of a chunk's data that are read, behind any chunks
 pub record DataRead (s : List ℕ) (start n : ℕ) (r : ChunkRead) : Type 0 where
   pub says : (f : ℕ) (cs : List Piece) (total : ℕ) → ChunkSays s f cs total (run (dataThen f cs total n) start (drop start s)) r
   pub lies : DataLies s start n r

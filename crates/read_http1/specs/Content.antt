@@ -1,4 +1,4 @@
--- What the code that reads content promises, in terms of the readers' scripts.
+-- What the code that reads content promises, in terms of the script `content` (http1/specs/Read; 01, "HTTP/1.1 as we take it": lengths and chunks).
 use Prim.Native.Nat.{ℕ, _+_, _*_, _≤_}
 use mathlib.Core.Path.{_≡_}
 use mathlib.Core.List.{List, [], _∷_}
@@ -28,5 +28,6 @@ ContentSays (accepted n c) cs cs′ ts ts′ r =
 ContentSays (refused x p) cs cs′ ts ts′ r = r ≡ Refused x p
 ContentSays more cs cs′ ts ts′ r = r ≡ More
 
+-- the promise of content that is read
 pub record Contented (x : Answer Content) (cs cs′ ts ts′ : List ℕ) (r : ContentRead) : Type 0 where
   pub says : ContentSays x cs cs′ ts ts′ r

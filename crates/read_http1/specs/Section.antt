@@ -1,4 +1,4 @@
--- What the code that reads sections promises, in terms of the readers' scripts.
+-- What the code that reads sections promises, in terms of the script `section` (http1/specs/Read; 01, "HTTP/1.1 as we take it": field lines).
 use Prim.Native.Nat.{ℕ, _+_, _-_, _*_, _≤_}
 use mathlib.Core.Path.{_≡_}
 use mathlib.Core.Bool.{Bool, true, cond}
@@ -28,6 +28,7 @@ noField lines = cond (leb linesMost lines) tooLarge badSyntax
 abbrev pub lineAt : List ℕ → ℕ → ℕ → ℕ → ℕ → FieldRead
 lineAt s i n v l = record { name = piece i (take n (drop i s)); value = piece v (take l (drop v s)) }
 
+-- what the code keeps of a line: its kind, and how many fields are kept with it
 abbrev pub lineRead : Kind → ℕ → LineRead
 lineRead k n = record { kind = k; kept = n }
 
@@ -43,5 +44,6 @@ SectionSays (accepted n h) host k o o′ r =
 SectionSays (refused x p) host k o o′ r = r ≡ Refused x p
 SectionSays more host k o o′ r = r ≡ More
 
+-- the promise of a section that is read
 pub record Sectioned (x : Answer Lines) (host : Bool) (k : ℕ) (o o′ : List ℕ) (r : Section) : Type 0 where
   pub says : SectionSays x host k o o′ r

@@ -1,4 +1,5 @@
--- What the code of the readers promises, in terms of the readers' definitions.
+-- What the code of the request reader promises, in terms of `readRequest` and `afterHead` (http1/specs/Read; 01, "HTTP/1.1 as we take it"; what is judged
+-- after a head: "Numbers a call answers with").
 use Prim.Native.Nat.{ℕ, _+_, _-_, _*_, _≤_}
 use mathlib.Core.Path.{_≡_}
 use mathlib.Core.Bool.{Bool, true, false}
@@ -33,6 +34,7 @@ HeadSays (good a) (good b) r = r ≡ head.Good (a .place) (length (a .text)) b
 HeadSays (good a) (wrong n p) r = r ≡ head.Refused n p
 HeadSays (wrong n p) j r = r ≡ head.Refused n p
 
+-- the promise of a head that is judged
 pub record HeadJudged (a : Judged Piece) (b : Judged Body) (r : HeadAnswer) : Type 0 where
   pub says : HeadSays a b r
 
@@ -43,9 +45,11 @@ pub record RequestJudged (s : List ℕ) (end : ℕ) (notes : Notes) (r : HeadAns
 
 -- ---- requests
 
+-- what a call is told, by the scheme's number
 abbrev pub told : ℕ → Told
 told n = record { scheme = n }
 
+-- a part by its place and its length
 abbrev pub partAt : ℕ → ℕ → Part
 partAt a n = record { start = a; len = n }
 
@@ -103,6 +107,7 @@ RestSays (accepted n m) cs cs′ ts ts′ r =
 RestSays (refused k p) cs cs′ ts ts′ r = r ≡ outcome.Refusal k p
 RestSays more cs cs′ ts ts′ r = r ≡ outcome.More
 
+-- the promise of what is read behind any head that has these numbers
 pub record RestRead (s : List ℕ) (scheme method path end fields : ℕ) (notes : Notes) (cs cs′ ts ts′ : List ℕ) (r : Outcome) : Type 0 where
   pub by : (q : RequestRead) (h : Lines) → HeadFacts s q h method path end fields notes
       → RestSays (run (afterHead (told scheme) q h) end (drop end s)) cs cs′ ts ts′ r

@@ -1,4 +1,4 @@
--- What the code of the response reader promises, in terms of the readers' definitions.
+-- What the code of the response reader promises, in terms of `heads`, `afterFinal` and `readResponse` (http1/specs/Read; 01, "HTTP/1.1 as we take it").
 use Prim.Native.Nat.{ℕ, suc, _+_, _-_, _*_, _≤_, _<_}
 use mathlib.Core.Path.{_≡_}
 use mathlib.Core.Bool.{Bool, true, false}
@@ -29,6 +29,7 @@ use Rattle.readers.specs.declared.HeadsRead.the-variants as heads-read
 
 -- ---- one head
 
+-- an informational head of status n with the lines h
 abbrev pub informationalRead : ℕ → Lines → InformationalRead
 informationalRead n h = record { status = n; lines = h .lines }
 
@@ -38,12 +39,13 @@ afterInformational f is n h = do
   u ← tell (nothingStated (h .end) (framingOf (h .lines)))
   heads f (is ++ informationalRead n h ∷ []) (h .left)
 
--- what stands behind a status line of status n, informational or final
+-- what stands behind a status line of an informational status n
 abbrev pub informationalRest : ℕ → List InformationalRead → ℕ → ℕ → Script Message
 informationalRest f is n left = do
   h ← section left
   afterInformational f is n h
 
+-- what stands behind a status line of a final status n
 abbrev pub finalRest : List InformationalRead → ℕ → ℕ → Script Message
 finalRest is n left = do
   h ← section left
@@ -90,6 +92,7 @@ HeadsSays x s hs hs′ ns ns′ (heads-read.Done n e c k notes) =
 HeadsSays x s hs hs′ ns ns′ (heads-read.Refused i p) = x ≡ refused i p
 HeadsSays x s hs hs′ ns ns′ heads-read.More = x ≡ more
 
+-- the promise of all heads of a response that are read
 pub record HeadsTaken (x : Answer Message) (s hs hs′ ns ns′ : List ℕ) (r : HeadsRead) : Type 0 where
   pub says : HeadsSays x s hs hs′ ns ns′ r
 

@@ -1,4 +1,5 @@
--- The field question (01, "Needed", last point): the first kept header value of a name, of the final head in a response, else the default.
+-- The field question (01, "The two forms and the meaning between them", last point of what is needed): the first kept header value of a name, of the final
+-- head in a response, else the default.
 use Prim.Native.Nat.{ℕ}
 use mathlib.Core.Bool.{Bool, true, false, cond}
 use mathlib.Core.Option.{Option, none, some}
@@ -37,12 +38,14 @@ abbrev pub valueOr : List ℕ → Option Piece → List ℕ
 valueOr default none = default
 valueOr default (some w) = w .text
 
--- the question to each reader
+-- the question to each reader: of a request of the scheme told
 unfoldable pub requestQuestion : Told → List ℕ → List ℕ → Question
 requestQuestion t name s = questionOf name (length s) (readRequest t s)
 
+-- of a response
 unfoldable pub responseQuestion : List ℕ → List ℕ → Question
 responseQuestion name s = questionOf name (length s) (readResponse s)
 
+-- of a Binary message
 unfoldable pub binaryQuestion : List ℕ → List ℕ → Question
 binaryQuestion name s = questionOf name (length s) (readBinary s)

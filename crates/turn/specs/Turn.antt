@@ -1,4 +1,5 @@
--- Turning each form into the other, and writing Binary anew (01, "Needed", "How we write", and the order of refusals in writing: the reader's, 14, 8 at 0, 13).
+-- Turning each form into the other, and writing Binary anew (01, "The two forms and the meaning between them", "How we write"). The order of refusals in
+-- writing ("Numbers a call answers with"): the reader's here, 14 and 8 at 0 in toHttp1 and toBinary, 13 in output/specs/Reply.
 use Prim.Native.Nat.{ℕ}
 use mathlib.Core.Bool.{Bool, true, false, cond}
 use mathlib.Core.List.{List, [], _∷_}
@@ -15,7 +16,7 @@ use Rattle.write_binary.specs.Write.{toBinary}
 use Rattle.write_http1.specs.Write.{toHttp1}
 use Rattle.output.specs.Reply.{Reply, octets, wrong}
 
--- what is written of a reader's answer on an input of n octets: the reader's refusal goes first. Room is the writer's last refusal (output/specs/Reply)
+-- what is written of a reader's answer on an input of n octets: the reader's refusal goes first
 abbrev pub replyTo : ℕ → Answer Message → (Meaning → Reply) → Reply
 replyTo n (accepted k m) write = write (meaning m)
 replyTo n (refused k p) write = wrong k p
@@ -23,15 +24,18 @@ replyTo n more write = wrong moreNeeded n
 
 -- ---- the four turnings of an input
 
+-- an HTTP/1.1 request of the scheme told, as Binary
 unfoldable pub requestToBinary : Told → List ℕ → Reply
 requestToBinary t s = replyTo (length s) (readRequest t s) toBinary
 
+-- an HTTP/1.1 response as Binary
 unfoldable pub responseToBinary : List ℕ → Reply
 responseToBinary s = replyTo (length s) (readResponse s) toBinary
 
+-- Binary written anew
 unfoldable pub binaryToBinary : List ℕ → Reply
 binaryToBinary s = replyTo (length s) (readBinary s) toBinary
 
--- told another scheme number it is 4 at 0, first
+-- Binary as HTTP/1.1 on a connection of the scheme told; told another number it is 4 at 0, first
 unfoldable pub binaryToHttp1 : Told → List ℕ → Reply
 binaryToHttp1 t s = cond (isScheme (t .scheme)) (replyTo (length s) (readBinary s) (toHttp1 t)) (wrong notSupported 0)

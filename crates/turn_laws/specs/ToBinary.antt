@@ -1,5 +1,5 @@
 -- What is written as Binary HTTP keeps the meaning that was read (00, demand 2: "Turning a message from either form into the other keeps its meaning:
--- control data, fields in order, content and trailers"; 01, "Needed": "writing an accepted Binary message anew as Binary").
+-- control data, fields in order, content and trailers"; 01, "The two forms and the meaning between them": turning, and writing Binary anew).
 use Prim.Native.Nat.{ℕ}
 use mathlib.Core.Path.{_≡_}
 use mathlib.Core.Bool.{true}
@@ -29,6 +29,7 @@ abbrev pub ReadsAnew : Type 0
 ReadsAnew = (s : List ℕ) (n : ℕ) (m : Message) → readBinary s ≡ accepted n m → binaryFits (meaning m) ≡ true
     → means meaning (readBinary (binaryOf (meaning m))) ≡ accepted (length (binaryOf (meaning m))) (meaning m)
 
+-- the claims on the three turnings into Binary
 pub record ToBinary : Type 0 where
   -- each turning into Binary keeps the meaning
   pub requests : (t : Told) (s b : List ℕ) → requestToBinary t s ≡ octets b → Turned (readRequest t s) b

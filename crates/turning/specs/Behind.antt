@@ -1,4 +1,4 @@
--- What the code of the turnings promises, in terms of their definitions.
+-- What the code of the turning into HTTP/1.1 promises, in terms of `binaryToHttp1` (turn/specs/Turn; 01, "How we write"), once the scheme told is judged.
 use mathlib.Core.List.{List}
 use Prim.Native.Nat.{ℕ}
 use lib.ListN.{length}

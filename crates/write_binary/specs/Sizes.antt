@@ -1,4 +1,5 @@
--- How long a message is in Binary, by its numbers alone (no octet of its source is looked at), and what the code of the writer promises.
+-- How long a message is in Binary, by its numbers alone (no octet of its source is looked at): the length of `binaryOf` (Write; 01, "How we write", "Sizes").
+-- And what the code of the writer promises, in terms of `toBinary`.
 use Prim.Native.Nat.{ℕ, zero, suc, _+_, _*_}
 use mathlib.Core.Bool.{Bool, true, false, cond}
 use mathlib.Core.List.{List}
@@ -31,10 +32,11 @@ fieldsSize ranges k (suc n) = entrySize ranges k + fieldsSize ranges (k + 1) n
 abbrev pub sectionSize : List ℕ → ℕ → ℕ → ℕ
 sectionSize ranges k n = countedSize (fieldsSize ranges k n)
 
--- the informational head i, and n heads from it on
+-- the informational head i: its status, then its section
 abbrev pub headSize : List ℕ → List ℕ → ℕ → ℕ
 headSize hs ns i = intLen (getD ns (i * 2) 0) + sectionSize hs (fieldsBefore ns i) (getD ns (i * 2 + 1) 0)
 
+-- n heads from the head i on
 unfoldable pub headsSize : List ℕ → List ℕ → ℕ → ℕ → ℕ
 headsSize hs ns i zero = 0
 headsSize hs ns i (suc n) = headSize hs ns i + headsSize hs ns (i + 1) n
@@ -53,16 +55,19 @@ unfoldable pub messageSize : Record → List ℕ → List ℕ → List ℕ → �
 messageSize r hs ns ts =
     controlSize (r .response) r hs ns + sectionSize hs (fieldsBefore ns (r .informational)) (r .headers) + countedSize (r .content) + sectionSize ts 0 (r .trailers)
 
--- bounds, so that no sum passes 2 ^ 62: a field's two lengths are of 32 bits; 64 fields; four heads; a length of 32 bits with its count
+-- bounds, so that no sum passes 2 ^ 62. A field: two lengths of 32 bits, each with its count
 abbrev pub entryMost : ℕ
 entryMost = 8589934606
 
+-- 64 fields
 abbrev pub fieldsMost : ℕ
 fieldsMost = 549755814784
 
+-- four heads: status, count and fields
 abbrev pub headsMost : ℕ
 headsMost = 2199023259200
 
+-- one length of 32 bits, with its count
 abbrev pub partMost : ℕ
 partMost = 4294967303
 

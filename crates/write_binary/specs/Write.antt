@@ -1,4 +1,5 @@
--- A meaning as Binary HTTP (01, "How we write"): known length, shortest integers, all three sections, no padding.
+-- A meaning as Binary HTTP (01, "How we write": known length, shortest integers, all three sections, no padding), and whether it may be written ("Sizes";
+-- 8 at 0: "Numbers a call answers with").
 use Prim.Native.Nat.{ℕ}
 use mathlib.Core.Bool.{Bool, true, false, cond}
 use mathlib.Core.List.{List, [], _∷_, _++_}
@@ -15,9 +16,11 @@ use Rattle.output.specs.Reply.{Reply, octets, wrong}
 unfoldable pub counted : List ℕ → List ℕ
 counted w = intBytes (length w) ++ w
 
+-- a field line: its name, then its value
 unfoldable pub fieldBytes : Field → List ℕ
 fieldBytes f = counted (f .name) ++ counted (f .value)
 
+-- field lines, one behind the other
 unfoldable pub fieldsBytes : List Field → List ℕ
 fieldsBytes [] = []
 fieldsBytes (f ∷ fs) = fieldBytes f ++ fieldsBytes fs
@@ -26,9 +29,11 @@ fieldsBytes (f ∷ fs) = fieldBytes f ++ fieldsBytes fs
 unfoldable pub sectionBytes : List Field → List ℕ
 sectionBytes fs = counted (fieldsBytes fs)
 
+-- a scheme by its name
 unfoldable pub schemeBytes : ℕ → List ℕ
 schemeBytes s = cond (eqb s 0) (ascii "http") (ascii "https")
 
+-- informational heads: each its status, then its section
 unfoldable pub informationalBytes : List Informational → List ℕ
 informationalBytes [] = []
 informationalBytes (h ∷ hs) = (intBytes (h .status) ++ sectionBytes (h .fields)) ++ informationalBytes hs

@@ -1,4 +1,5 @@
 -- How long the parts of a message are that is written as HTTP/1.1, by the numbers of its record and its ranges alone: what the code of the writer adds up.
+-- They are the lengths and tests of Write (`headText`, `bodyText`, `http1Fits`, `onConnection`; 01, "How we write", "Sizes").
 use Prim.Native.Nat.{ℕ, zero, suc, _+_, _*_}
 use mathlib.Core.Bool.{Bool, true, cond, _&&_}
 use mathlib.Core.List.{List, [], _∷_, _++_, map}

@@ -1,4 +1,4 @@
--- What the writer of HTTP/1.1 promises of a message that was accepted, by its record and its ranges.
+-- What the writer of HTTP/1.1 promises of a message that was accepted, by its record and its ranges, in terms of `toHttp1` (Write; 01, "How we write").
 use Prim.Native.Nat.{ℕ}
 use mathlib.Core.List.{List}
 use Rattle.output.specs.Reply.{Served}

@@ -1,4 +1,4 @@
--- A meaning as HTTP/1.1 (01, "How we write").
+-- A meaning as HTTP/1.1 (01, "How we write"), and whether it may be written ("Sizes"; 14, then 8 at 0: "Numbers a call answers with").
 use Prim.Native.Nat.{ℕ}
 use mathlib.Core.Bool.{Bool, true, false, cond, _&&_}
 use mathlib.Core.List.{List, [], _∷_, _++_}
@@ -15,11 +15,13 @@ use Rattle.messages.specs.Meaning.{Field, Informational, Control, request, resp
 use Rattle.messages.specs.Valid.{noFields}
 use Rattle.output.specs.Reply.{Reply, octets, wrong}
 
+-- the end of a line
 abbrev pub crlf : List ℕ
 crlf = 13 ∷ 10 ∷ []
 
 -- ---- lines
 
+-- a field line: name, colon, space, value
 unfoldable pub fieldText : Field → List ℕ
 fieldText f = f .name ++ ascii ": " ++ f .value ++ crlf
 
@@ -28,6 +30,7 @@ unfoldable pub sectionText : List Field → List ℕ
 sectionText [] = crlf
 sectionText (f ∷ fs) = fieldText f ++ sectionText fs
 
+-- method, path and version, with one space between
 unfoldable pub requestLine : List ℕ → List ℕ → List ℕ
 requestLine m p = m ++ 32 ∷ [] ++ p ++ ascii " HTTP/1.1" ++ crlf
 
@@ -37,12 +40,15 @@ statusLine s = ascii "HTTP/1.1 " ++ digits 10 s ++ 32 ∷ [] ++ crlf
 
 -- ---- the lines that a head gains
 
+-- the host line, from the authority
 unfoldable pub hostField : List ℕ → Field
 hostField a = record { name = ascii "host"; value = a }
 
+-- the length of the content, in plain decimal
 unfoldable pub lengthField : ℕ → Field
 lengthField n = record { name = ascii "content-length"; value = digits 10 n }
 
+-- the length line of content in chunks
 unfoldable pub codingField : Field
 codingField = record { name = ascii "transfer-encoding"; value = ascii "chunked" }
 
@@ -58,6 +64,7 @@ lengthLine m =
     (cond (unmeasured (m .control) (m .content)) [] (lengthField (length (m .content)) ∷ []))
     (codingField ∷ [])
 
+-- a request gains a host line, a response none
 abbrev pub hostLine : Control → List Field
 hostLine (request m s a p) = hostField a ∷ []
 hostLine (response hs s) = []
@@ -68,6 +75,7 @@ headLines m = hostLine (m .control) ++ lengthLine m ++ m .headers
 
 -- ---- heads and body
 
+-- informational heads, each with its empty line
 unfoldable pub informationalText : List Informational → List ℕ
 informationalText [] = []
 informationalText (h ∷ hs) = (statusLine (h .status) ++ sectionText (h .fields)) ++ informationalText hs
@@ -77,6 +85,7 @@ abbrev pub startText : Control → List ℕ
 startText (request m s a p) = requestLine m p
 startText (response hs s) = informationalText hs ++ statusLine s
 
+-- all heads of a message, which the size of heads counts together
 unfoldable pub headText : Meaning → List ℕ
 headText m = startText (m .control) ++ sectionText (headLines m)
 
@@ -84,9 +93,11 @@ headText m = startText (m .control) ++ sectionText (headLines m)
 unfoldable pub chunkText : List ℕ → List ℕ
 chunkText content = cond (isEmpty content) [] (digits 16 (length content) ++ crlf ++ content ++ crlf)
 
+-- the chunk, the last chunk line, the trailer section
 unfoldable pub chunkedText : List ℕ → List Field → List ℕ
 chunkedText content trailers = chunkText content ++ ascii "0" ++ crlf ++ sectionText trailers
 
+-- content in chunks where trailers are kept, else the content alone
 unfoldable pub bodyText : List ℕ → List Field → List ℕ
 bodyText content trailers = cond (noFields trailers) content (chunkedText content trailers)
 
