@@ -22,6 +22,7 @@ use messages::parts::status_verdict;
 use numbers::Number;
 use numbers::digit;
 use numbers::hexadecimal;
+use octets::Class;
 use octets::Refusals;
 use octets::all_of;
 use octets::blank_end;
@@ -53,7 +54,7 @@ fn is_value_from(t: &[u8; 256], w: &[u8], from: usize) -> bool
     if w.len() <= from {
         return true;
     }
-    all_of(t, &w[from..], 2)
+    all_of(t, &w[from..], Class::VALUE)
 }
 
 // The value of the field whose name has `name` octets, from `from` on.
@@ -61,7 +62,7 @@ fn value_in(t: &[u8; 256], w: &[u8], name: usize, from: usize) -> FieldLine
     requires { ⌜ from ≤ length (now w) ⌝ }
     ensures { λ r. ⌜ (now (t .entry) ≡ classes → r ≡ valueIn (now (w .entry)) name from) ⌝ }
 {
-    if span(t, w, from, 2) == w.len() {
+    if span(t, w, from, Class::VALUE) == w.len() {
         return trimmed(w, name, from);
     }
     FieldLine::Bad
@@ -85,11 +86,11 @@ fn trimmed(w: &[u8], name: usize, from: usize) -> FieldLine
 fn name_len(t: &[u8; 256], w: &[u8]) -> usize
     ensures { λ r. ⌜ (r ≤ length (now (w .entry)) - 1) × (now (t .entry) ≡ classes → Named (now (w .entry)) r) ⌝ }
 {
-    let n = span(t, w, 0, 1);
+    let n = span(t, w, 0, Class::TOKEN);
     if w.len() <= n {
         return 0;
     }
-    if w[n] == 58 {
+    if w[n] == b':' {
         return n;
     }
     0
@@ -169,11 +170,11 @@ fn any_line(t: &[u8; 256], s: &[u8], i: usize, left: usize) -> NextLine
 pub fn next_line(t: &[u8; 256], s: &[u8], i: usize, left: usize) -> NextLine
     ensures { λ r. ⌜ (now (t .entry) ≡ classes → r ≡ nextLine (now (s .entry)) i left) ⌝ }
 {
-    let e = span(t, s, i, 2);
+    let e = span(t, s, i, Class::VALUE);
     if e < s.len() {
         if 2 <= s.len() - e {
-            if s[e] == 13 {
-                if s[e + 1] == 10 {
+            if s[e] == b'\r' {
+                if s[e + 1] == b'\n' {
                     if e + 2 - i <= left {
                         return value_line(t, s, i, e);
                     }
@@ -187,7 +188,7 @@ pub fn next_line(t: &[u8; 256], s: &[u8], i: usize, left: usize) -> NextLine
 pub fn chunk_line(t: &[u8; 256], w: &[u8]) -> ChunkLine
     ensures { λ r. ⌜ (now (t .entry) ≡ classes → r ≡ chunkLens (now (w .entry))) ⌝ }
 {
-    let h = find(w, 0, 59);
+    let h = find(w, 0, b';');
     let size = hexadecimal(&w[..h]);
     match size {
         Number::Is(n) => {
@@ -254,7 +255,7 @@ fn is_status_shape(t: &[u8; 256], w: &[u8], v: usize) -> bool
     if 10 <= digit(w[v + 3]) {
         return false;
     }
-    if w[v + 4] == 32 {
+    if w[v + 4] == b' ' {
         return is_value_from(t, w, v + 5);
     }
     false
@@ -263,7 +264,7 @@ fn is_status_shape(t: &[u8; 256], w: &[u8], v: usize) -> bool
 pub fn status_line(t: &[u8; 256], w: &[u8]) -> StatusLine
     ensures { λ r. ⌜ (now (t .entry) ≡ classes → r ≡ statusLens (now (w .entry))) ⌝ }
 {
-    let v = find(w, 0, 32);
+    let v = find(w, 0, b' ');
     if is_status_shape(t, w, v) {
         return status_version(w, v);
     } else {
@@ -297,7 +298,7 @@ fn request_version(t: &[u8; 256], w: &[u8], m: usize, e: usize) -> RequestLine
     ensures { λ r. ⌜ (now (t .entry) ≡ classes → r ≡ requestVersion (now (w .entry)) m e) ⌝ }
 {
     let v = e + 1;
-    if find(w, v, 32) == w.len() {
+    if find(w, v, b' ') == w.len() {
         if equal(&w[v..], b"HTTP/1.1") {
             return request_parts(t, w, m, e - (m + 1));
         } else {
@@ -314,13 +315,13 @@ fn request_version(t: &[u8; 256], w: &[u8], m: usize, e: usize) -> RequestLine
 pub fn request_line(t: &[u8; 256], w: &[u8]) -> RequestLine
     ensures { λ r. ⌜ (now (t .entry) ≡ classes → r ≡ requestLens (now (w .entry))) ⌝ }
 {
-    let m = find(w, 0, 32);
+    let m = find(w, 0, b' ');
     if w.len() <= m {
         return RequestLine::Bad {
             number: Refusals::BAD_SYNTAX,
         };
     }
-    let e = find(w, m + 1, 32);
+    let e = find(w, m + 1, b' ');
     if w.len() <= e {
         return RequestLine::Bad {
             number: Refusals::BAD_SYNTAX,

@@ -1,5 +1,6 @@
 // Names with a rule of their own, and the rules of single parts. What a promise says of a lent table is given that it is the one of `octets::class_table`.
 use crate::Kind;
+use octets::Class;
 use octets::Limits;
 use octets::Refusals;
 ghost use mathlib.Core.Path.{_≡_};
@@ -10,15 +11,6 @@ ghost use Rattle.messages.specs.Names.{isHopByHop, kindOf, travels};
 ghost use Rattle.messages.specs.Control.{isUnsupported, methodVerdict, pathVerdict, authorityVerdict, isHost};
 ghost use Rattle.messages.specs.Control.{statusVerdict, isInformational, isBodyless, isLowerName, isTrimmedValue};
 ghost use Rattle.messages.specs.Valid.{isScheme};
-
-// The classes of octets, as bits of the table.
-const TOKEN: u8 = 1;
-
-const VALUE: u8 = 2;
-
-const PATH: u8 = 4;
-
-const AUTHORITY: u8 = 8;
 
 // Whether a name, in any case of letters, concerns one connection only.
 pub fn is_hop_by_hop(name: &[u8]) -> bool
@@ -97,7 +89,7 @@ pub fn method_verdict(t: &[u8; 256], m: &[u8]) -> u32
     if m.len() == 0 {
         return Refusals::BAD_SYNTAX;
     }
-    if octets::all_of(t, m, TOKEN) {
+    if octets::all_of(t, m, Class::TOKEN) {
         if m.len() <= Limits::METHOD {
             if is_unsupported(m) {
                 return Refusals::NOT_SUPPORTED;
@@ -115,8 +107,8 @@ pub fn path_verdict(t: &[u8; 256], p: &[u8]) -> u32
     if p.len() == 0 {
         return Refusals::BAD_SYNTAX;
     }
-    if p[0] == 47 {
-        if octets::all_of(t, p, PATH) {
+    if p[0] == b'/' {
+        if octets::all_of(t, p, Class::PATH) {
             if p.len() <= Limits::PATH {
                 return 0;
             }
@@ -130,7 +122,7 @@ pub fn path_verdict(t: &[u8; 256], p: &[u8]) -> u32
 pub fn authority_verdict(t: &[u8; 256], a: &[u8]) -> u32
     ensures { λ r. ⌜ (now (t .entry) ≡ classes → r ≡ authorityVerdict (now (a .entry))) ⌝ }
 {
-    if octets::all_of(t, a, AUTHORITY) {
+    if octets::all_of(t, a, Class::AUTHORITY) {
         return 0;
     }
     Refusals::BAD_SYNTAX
@@ -144,7 +136,7 @@ pub fn is_host(t: &[u8; 256], a: &[u8]) -> bool
         return false;
     }
     if a.len() <= Limits::AUTHORITY {
-        return octets::all_of(t, a, AUTHORITY);
+        return octets::all_of(t, a, Class::AUTHORITY);
     }
     false
 }
@@ -185,13 +177,13 @@ pub fn is_lower_name(t: &[u8; 256], n: &[u8]) -> bool
     if n.len() == 0 {
         return false;
     }
-    octets::all_lower_of(t, n, TOKEN)
+    octets::all_lower_of(t, n, Class::TOKEN)
 }
 
 pub fn is_trimmed_value(t: &[u8; 256], v: &[u8]) -> bool
     ensures { λ r. ⌜ (now (t .entry) ≡ classes → r ≡ isTrimmedValue (now (v .entry))) ⌝ }
 {
-    if octets::all_of(t, v, VALUE) {
+    if octets::all_of(t, v, Class::VALUE) {
         if octets::blank_end(v, 0) == 0 {
             return octets::trim_len(v) == v.len();
         }
