@@ -20,26 +20,19 @@ pub enum Written {
     Refused { number: u32, place: usize },
 }
 
-// Whether n octets from the place `at` on lie within `size` octets.
-pub fn lies_within(size: usize, at: usize, n: usize) -> bool
-    ensures { λ r. ⌜ r ≡ leb (at + n) size ⌝ }
+// The digit of a value below 16.
+fn digit_char(d: usize) -> u8
+    requires { ⌜ d < 16 ⌝ }
+    ensures { λ r. ⌜ r ≡ charOf d ⌝ }
 {
-    if at <= size {
-        return n <= size - at;
+    if d < 10 {
+        (d + 48) as u8
+    } else {
+        (d + 87) as u8
     }
-    false
 }
 
-pub fn put_octet(out: &mut [u8], at: usize, b: u8) -> usize
-    ensures { λ r. ⌜ PutIf (hasRoom (now (out .entry)) at 1) (now (out .entry)) at (b ∷ []) 1 (now (out .exit)) r ⌝ }
-{
-    if at < out.len() {
-        out[at] = b;
-        return at + 1;
-    }
-    at
-}
-
+// So many octets of the source, from a place on, where both have them.
 fn copy_part(out: &mut [u8], at: usize, src: &[u8], from: usize, len: usize) -> usize
     requires { ⌜ at + len ≤ length (now out) ⌝ }
     requires { ⌜ from + len ≤ length (now src) ⌝ }
@@ -53,18 +46,7 @@ fn copy_part(out: &mut [u8], at: usize, src: &[u8], from: usize, len: usize) -> 
     at + len
 }
 
-// So many octets of the source, from a place on; nothing where the source has not so many.
-pub fn put_part(out: &mut [u8], at: usize, src: &[u8], from: usize, len: usize) -> usize
-    ensures { λ r. ⌜ PutIf (cond (hasRoom (now (src .entry)) from len) (hasRoom (now (out .entry)) at len) false) (now (out .entry)) at (part (now (src .entry)) from len) len (now (out .exit)) r ⌝ }
-{
-    if lies_within(src.len(), from, len) {
-        if lies_within(out.len(), at, len) {
-            return copy_part(out, at, src, from, len);
-        }
-    }
-    at
-}
-
+// The same in lower case.
 fn copy_lower(out: &mut [u8], at: usize, src: &[u8], from: usize, len: usize) -> usize
     requires { ⌜ at + len ≤ length (now out) ⌝ }
     requires { ⌜ from + len ≤ length (now src) ⌝ }
@@ -76,27 +58,6 @@ fn copy_lower(out: &mut [u8], at: usize, src: &[u8], from: usize, len: usize) ->
         i += 1;
     }
     at + len
-}
-
-// The same in lower case.
-pub fn put_lower(out: &mut [u8], at: usize, src: &[u8], from: usize, len: usize) -> usize
-    ensures { λ r. ⌜ PutIf (cond (hasRoom (now (src .entry)) from len) (hasRoom (now (out .entry)) at len) false) (now (out .entry)) at (map lowerOf (part (now (src .entry)) from len)) len (now (out .exit)) r ⌝ }
-{
-    if lies_within(src.len(), from, len) {
-        if lies_within(out.len(), at, len) {
-            return copy_lower(out, at, src, from, len);
-        }
-    }
-    at
-}
-
-pub fn put_text(out: &mut [u8], at: usize, text: &[u8]) -> usize
-    ensures { λ r. ⌜ PutIf (hasRoom (now (out .entry)) at (length (now (text .entry)))) (now (out .entry)) at (now (text .entry)) (length (now (text .entry))) (now (out .exit)) r ⌝ }
-{
-    if lies_within(out.len(), at, text.len()) {
-        return copy_part(out, at, text, 0, text.len());
-    }
-    at
 }
 
 // The shortest form of an integer, of n octets, its last octet first.
@@ -112,32 +73,6 @@ fn lay_int(out: &mut [u8], at: usize, v: usize, n: usize) -> usize
         k -= 1;
     }
     at + n
-}
-
-// The shortest form of an integer; nothing where it has none.
-pub fn put_int(out: &mut [u8], at: usize, v: usize) -> usize
-    ensures { λ r. ⌜ PutIf (hasRoom (now (out .entry)) at (intLen v)) (now (out .entry)) at (intBytes v) (intLen v) (now (out .exit)) r ⌝ }
-{
-    let n = int_len(v);
-    if n == 0 {
-        return at;
-    }
-    if lies_within(out.len(), at, n) {
-        return lay_int(out, at, v, n);
-    }
-    at
-}
-
-// The digit of a value below 16.
-fn digit_char(d: usize) -> u8
-    requires { ⌜ d < 16 ⌝ }
-    ensures { λ r. ⌜ r ≡ charOf d ⌝ }
-{
-    if d < 10 {
-        (d + 48) as u8
-    } else {
-        (d + 87) as u8
-    }
 }
 
 // The k digits of n, its last first.
@@ -164,6 +99,73 @@ fn put_digits(out: &mut [u8], at: usize, n: usize, base: usize) -> usize
     let k = digit_count(n, base);
     if lies_within(out.len(), at, k) {
         return lay_digits(out, at, n, base, k);
+    }
+    at
+}
+
+// Whether n octets from the place `at` on lie within `size` octets.
+pub fn lies_within(size: usize, at: usize, n: usize) -> bool
+    ensures { λ r. ⌜ r ≡ leb (at + n) size ⌝ }
+{
+    if at <= size {
+        return n <= size - at;
+    }
+    false
+}
+
+pub fn put_octet(out: &mut [u8], at: usize, b: u8) -> usize
+    ensures { λ r. ⌜ PutIf (hasRoom (now (out .entry)) at 1) (now (out .entry)) at (b ∷ []) 1 (now (out .exit)) r ⌝ }
+{
+    if at < out.len() {
+        out[at] = b;
+        return at + 1;
+    }
+    at
+}
+
+// So many octets of the source, from a place on; nothing where the source has not so many.
+pub fn put_part(out: &mut [u8], at: usize, src: &[u8], from: usize, len: usize) -> usize
+    ensures { λ r. ⌜ PutIf (cond (hasRoom (now (src .entry)) from len) (hasRoom (now (out .entry)) at len) false) (now (out .entry)) at (part (now (src .entry)) from len) len (now (out .exit)) r ⌝ }
+{
+    if lies_within(src.len(), from, len) {
+        if lies_within(out.len(), at, len) {
+            return copy_part(out, at, src, from, len);
+        }
+    }
+    at
+}
+
+// The same in lower case.
+pub fn put_lower(out: &mut [u8], at: usize, src: &[u8], from: usize, len: usize) -> usize
+    ensures { λ r. ⌜ PutIf (cond (hasRoom (now (src .entry)) from len) (hasRoom (now (out .entry)) at len) false) (now (out .entry)) at (map lowerOf (part (now (src .entry)) from len)) len (now (out .exit)) r ⌝ }
+{
+    if lies_within(src.len(), from, len) {
+        if lies_within(out.len(), at, len) {
+            return copy_lower(out, at, src, from, len);
+        }
+    }
+    at
+}
+
+pub fn put_text(out: &mut [u8], at: usize, text: &[u8]) -> usize
+    ensures { λ r. ⌜ PutIf (hasRoom (now (out .entry)) at (length (now (text .entry)))) (now (out .entry)) at (now (text .entry)) (length (now (text .entry))) (now (out .exit)) r ⌝ }
+{
+    if lies_within(out.len(), at, text.len()) {
+        return copy_part(out, at, text, 0, text.len());
+    }
+    at
+}
+
+// The shortest form of an integer; nothing where it has none.
+pub fn put_int(out: &mut [u8], at: usize, v: usize) -> usize
+    ensures { λ r. ⌜ PutIf (hasRoom (now (out .entry)) at (intLen v)) (now (out .entry)) at (intBytes v) (intLen v) (now (out .exit)) r ⌝ }
+{
+    let n = int_len(v);
+    if n == 0 {
+        return at;
+    }
+    if lies_within(out.len(), at, n) {
+        return lay_int(out, at, v, n);
     }
     at
 }
