@@ -1,22 +1,21 @@
 -- What the two readers of HTTP/1.1 refuse with, and where.
 use Prim.Native.Nat.{ℕ, zero, suc, _+_, _≤_}
-use mathlib.Core.Path.{_≡_, refl}
+use mathlib.Core.Path.{_≡_}
 use mathlib.Core.Bool.{Bool, true, false, cond}
 use mathlib.Core.List.{List, [], _∷_, _++_}
 use native.Mathlib.Omega.{arith}
 use borrow.Author.Tests.{eqb-false}
 use lib.Dec.{eqb, leb, ltb, lit≤}
 use lib.ListN.{length, take, drop, length-append}
-use Rattle.octets.specs.Class.{hasClass, token, value}
 use Rattle.octets.specs.Limits.{headMost, trailerMost, chunkLineMost, linesMost, chunksMost, contentMost, informationalMost}
 use Rattle.octets.specs.Refusals.{badSyntax, badVersion, notSupported, tooLarge}
 use Rattle.octets.specs.Text.{spanLen, sameText, isEmpty}
 use Rattle.octets.proofs.Kit.{either}
-use Rattle.script.specs.Script.{refused, aLine, someOctets, Script, run, put}
-use Rattle.script.specs.Do.{_>>=_, Piece, piece, good, wrong}
+use Rattle.script.specs.Script.{refused, someOctets, run}
+use Rattle.script.specs.Do.{Piece, piece, good, wrong}
 use Rattle.script.proofs.Refusals.{Judges, Stops, CutRefuses, stops-done, stops-stop, stops-word, stops-if, stops-bind, stops-then, stops-judged, stops-all}
 use Rattle.messages.specs.Told.{Told}
-use Rattle.messages.specs.Message.{FieldRead, InformationalRead, Message}
+use Rattle.messages.specs.Message.{FieldRead, InformationalRead}
 use Rattle.messages.specs.Control.{methodVerdict, pathVerdict, statusVerdict, isInformational}
 use Rattle.messages.specs.Names.{areTrailers}
 use Rattle.messages.specs.Rules.{authorityIn, framingOf, requestBody, nothingStated, responseBody}
@@ -24,8 +23,8 @@ use Rattle.messages.specs.Valid.{isScheme}
 use Rattle.messages.specs.declared.Body.{Body}
 use Rattle.messages.specs.declared.Body.the-variants.{Sized, InChunks}
 use Rattle.http1.specs.Lines.{isOther, version, requestParts, requestVersion, requestTarget, requestLens, onRequest, requestOf, statusAt, statusVersion, isStatusShape, statusLens, onStatus, statusOf}
-use Rattle.http1.specs.Lines.{RequestRead, fieldLens, onField, fieldOf, chunkLens, onChunk, chunkOf}
-use Rattle.http1.specs.Read.{lineWithin, less, Lines, fieldLines, section, Content, trailerSection, chunkData, chunksFrom, content, afterHead, request, readRequest, afterFinal, heads, readResponse}
+use Rattle.http1.specs.Lines.{fieldLens, onField, fieldOf, chunkLens, onChunk, chunkOf}
+use Rattle.http1.specs.Read.{lineWithin, less, Lines, fieldLines, section, trailerSection, chunkData, chunksFrom, content, afterHead, request, readRequest, afterFinal, heads, readResponse}
 use Rattle.http1.specs.declared.RequestLine.{RequestLine}
 use Rattle.http1.specs.declared.RequestLine.the-variants as request
 use Rattle.http1.specs.declared.StatusLine.{StatusLine}

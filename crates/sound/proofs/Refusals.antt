@@ -1,7 +1,7 @@
 -- What the rules of both forms refuse with.
 use Prim.Native.Nat.{ℕ, _≤_}
 use mathlib.Core.Path.{_≡_, refl}
-use mathlib.Core.Bool.{Bool, true, false, cond}
+use mathlib.Core.Bool.{Bool, cond}
 use mathlib.Core.Logic.{_⊎_, inl, inr}
 use mathlib.Core.Option.{Option, none, some}
 use mathlib.Core.List.{List, [], _∷_, map}
@@ -11,20 +11,19 @@ use lib.ListN.{length, getD}
 use Rattle.octets.specs.Ascii.{ascii}
 use Rattle.octets.specs.Class.{hasClass, token, path, authority}
 use Rattle.octets.specs.Limits.{methodMost, pathMost, contentMost}
-use Rattle.octets.specs.Refusals.{badSyntax, notSupported, badStatus, badHost, badLength, tooLarge}
+use Rattle.octets.specs.Refusals.{badSyntax, notSupported, badStatus, badLength, tooLarge}
 use Rattle.octets.specs.Text.{all, lowerOf, sameText, isEmpty}
 use Rattle.octets.proofs.Kit.{either}
 use Rattle.numbers.specs.Digits.{numOf}
 use Rattle.numbers.specs.declared.Number.{Number}
 use Rattle.numbers.specs.declared.Number.the-variants.{Is, Not}
-use Rattle.script.specs.Do.{Piece, Judged, good, wrong}
+use Rattle.script.specs.Do.{Piece, good, wrong}
 use Rattle.script.proofs.Refusals.{Judges}
 use Rattle.messages.specs.Message.{FieldRead}
 use Rattle.messages.specs.Control.{isUnsupported, methodVerdict, pathVerdict, authorityVerdict, statusVerdict, isBodyless}
 use Rattle.messages.specs.Names.{linesOf}
 use Rattle.messages.specs.Rules.{authorityFrom, orBadHost, authorityIn, lengthStated, framingFrom, framingOf, requestBody, nothingStated, contentBody, responseBody, mayState}
-use Rattle.messages.specs.declared.Body.{Body}
-use Rattle.messages.specs.declared.Body.the-variants.{Sized, InChunks}
+use Rattle.messages.specs.declared.Body.the-variants.{Sized}
 use Rattle.messages.specs.declared.Framing.{Framing}
 use Rattle.messages.specs.declared.Framing.the-variants.{Unstated, Stated, Chunked, Clashing}
 use Rattle.messages.specs.declared.Kind.the-variants as kind
