@@ -14,7 +14,6 @@ use Rattle.octets.proofs.Kit.{either}
 use Rattle.script.specs.Script.{refused, Settled}
 use Rattle.script.specs.Do.{Piece, piece, good, wrong}
 use Rattle.script.proofs.Places.{lies-all, lies-in}
-use Rattle.script.proofs.Refusals.{Judges}
 use Rattle.messages.specs.Message.{FieldRead, Section, InformationalRead, Start, Message}
 use Rattle.messages.specs.Control.{methodVerdict, pathVerdict, authorityVerdict, statusVerdict, isInformational, isBodyless, isLowerName, isTrimmedValue}
 use Rattle.messages.specs.Meaning.{contentOf}
@@ -27,7 +26,7 @@ use Rattle.binary.specs.Read.{part, partWithin, ruledPart, schemeOf, schemePart
 use Rattle.binary.specs.Read.{knownContent, openChunks, content, contentRule, noLines, trailerRule, trailers, padding, afterHeaders, requestMessage, finalResponse, responseMessage, message, answerOf, readBinary}
 use Rattle.sound.specs.Placed.{Lying}
 use Rattle.sound.specs.Refusal.{Refusal}
-use Rattle.sound.proofs.Refusals.{Verdict, method-verdict, path-verdict, authority-verdict, status-verdict, not-good, refusal, authority-judged, nothing-judged, may-judged}
+use Rattle.sound.proofs.Refusals.{Verdict, method-verdict, path-verdict, authority-verdict, status-verdict, not-good, Refuses, refusal, authority-judged, nothing-judged, may-judged}
 use Rattle.binary_sound.proofs.Judgement.{Stands, stands-on, Ends, Stops, stops-give, stops-refuse, stops-here, stops-ended, stops-tell, stops-rule, stops-if, stops-integer, stops-octets, stops-bind, stops-then}
 use Rattle.binary_sound.specs.Sound.{binaryLast, BinaryRefused, BinarySettled}
 
@@ -59,34 +58,38 @@ module _ {s : List ℕ} where
 -- ---- rules
 
 module _ (s : List ℕ) (p : ℕ) (i : p ≤ length s) where
-  scheme-judged : (w : List ℕ) → Judges (Refusal binaryLast s) (λ x. Unit {0}) (schemeOf w p)
+  scheme-judged : (w : List ℕ) → Refuses binaryLast s (schemeOf w p)
   unfolding schemeOf
   scheme-judged w =
-      either (Judges (Refusal binaryLast s) (λ x. Unit {0})) (sameText w (ascii "http")) (good 0) _ (λ a. tt)
-      (λ a. either (Judges (Refusal binaryLast s) (λ x. Unit {0})) (sameText w (ascii "https")) (good 1) (wrong notSupported p) (λ b. tt) (λ b. at-place (lit≤ tt) (lit≤ tt) i))
+      either (Refuses binaryLast s) (sameText w (ascii "http")) (good 0) _ (λ a. tt)
+      (λ a. either (Refuses binaryLast s) (sameText w (ascii "https")) (good 1) (wrong notSupported p) (λ b. tt) (λ b. at-place (lit≤ tt) (lit≤ tt) i))
 
-  line-judged : (n v : Piece) → Judges (Refusal binaryLast s) (λ x. Unit {0}) (lineOf p n v)
+  line-judged : (n v : Piece) → Refuses binaryLast s (lineOf p n v)
   unfolding lineOf
   line-judged n v =
-      either (Judges (Refusal binaryLast s) (λ x. Unit {0})) (isLowerName (n .text)) _ (wrong badSyntax p)
-      (λ a. either (Judges (Refusal binaryLast s) (λ x. Unit {0})) (isTrimmedValue (v .text)) _ (wrong badSyntax p) (λ b. tt) (λ b. bad-syntax i))
+      either (Refuses binaryLast s) (isLowerName (n .text)) _ (wrong badSyntax p)
+      (λ a. either (Refuses binaryLast s) (isTrimmedValue (v .text)) _ (wrong badSyntax p) (λ b. tt) (λ b. bad-syntax i))
       (λ a. bad-syntax i)
 
-  content-judged : (body : Bool) (f : Framing) (cs : List Piece) → Judges (Refusal binaryLast s) (λ x. Unit {0}) (contentRule body f p cs)
+  content-judged : (body : Bool) (f : Framing) (cs : List Piece) → Refuses binaryLast s (contentRule body f p cs)
   unfolding contentRule
   content-judged body f cs =
-      either (Judges (Refusal binaryLast s) (λ x. Unit {0})) (agrees f (length (contentOf cs))) _ (wrong badLength p)
-      (λ a. either (Judges (Refusal binaryLast s) (λ x. Unit {0})) (body || isEmpty (contentOf cs)) _ (wrong badLength p) (λ b. tt) (λ b. bad-length i))
+      either (Refuses binaryLast s) (agrees f (length (contentOf cs))) _ (wrong badLength p)
+      (λ a. either (Refuses binaryLast s) (body || isEmpty (contentOf cs)) _ (wrong badLength p) (λ b. tt) (λ b. bad-length i))
       (λ a. bad-length i)
 
-trailer-judged : (s : List ℕ) (body : Bool) (h : Section) → h .end ≤ length s → Judges (Refusal binaryLast s) (λ x. Unit {0}) (trailerRule body h)
+trailer-judged : (s : List ℕ) (body : Bool) (h : Section) → h .end ≤ length s → Refuses binaryLast s (trailerRule body h)
 unfolding trailerRule
 trailer-judged s body h i =
-    either (Judges (Refusal binaryLast s) (λ x. Unit {0})) (areTrailers (h .lines)) _ (wrong badLength (h .end))
-    (λ a. either (Judges (Refusal binaryLast s) (λ x. Unit {0})) (body || noLines (keptTrailers (h .lines))) _ (wrong badLength (h .end)) (λ b. tt) (λ b. bad-length i))
+    either (Refuses binaryLast s) (areTrailers (h .lines)) _ (wrong badLength (h .end))
+    (λ a. either (Refuses binaryLast s) (body || noLines (keptTrailers (h .lines))) _ (wrong badLength (h .end)) (λ b. tt) (λ b. bad-length i))
     (λ a. bad-length i)
 
 -- ---- parts and control data
+
+-- a reader refuses the input s with nothing but numbers of Binary HTTP, at places of the input, and gets nothing but what P holds of
+abbrev Refusing : {A : Type 0} → List ℕ → ℕ → (ℕ → A → Type 0) → ℕ → Reader A → Type 0
+Refusing s e P at r = Stops s e (Refusal binaryLast s) P at r
 
 module _ {s : List ℕ} {e : ℕ} where
   -- on both sides of a test
@@ -94,14 +97,14 @@ module _ {s : List ℕ} {e : ℕ} where
       → Stops s e R P at (cond t x y)
   stops-both t f g = stops-if t (λ a. f) (λ a. g)
 
-  stops-part : {at : ℕ} → Stops s e (Refusal binaryLast s) (λ n p. Lying s p) at part
+  stops-part : {at : ℕ} → Refusing s e (λ n p. Lying s p) at part
   unfolding part
   stops-part =
       stops-bind _ (stops-here λ p.
       stops-bind _ (stops-integer _ _ (cut-off p) λ j n.
       stops-octets n _ _ (cut-off p) λ w k y. y))
 
-  stops-within : {at : ℕ} (most : ℕ) → Stops s e (Refusal binaryLast s) (λ n p. Unit {0}) at (partWithin most)
+  stops-within : {at : ℕ} (most : ℕ) → Refusing s e (λ n p. Unit {0}) at (partWithin most)
   unfolding partWithin
   stops-within most =
       stops-bind _ (stops-here λ p.
@@ -109,21 +112,21 @@ module _ {s : List ℕ} {e : ℕ} where
       stops-both (leb n most) (stops-octets n _ _ (cut-off p) λ w k y. tt) (stops-refuse (too-large p))))
 
   stops-ruled : {at : ℕ} (most : ℕ) (verdict : List ℕ → ℕ) → ((w : List ℕ) → Verdict (verdict w))
-      → Stops s e (Refusal binaryLast s) (λ n p. Unit {0}) at (ruledPart most verdict)
+      → Refusing s e (λ n p. Unit {0}) at (ruledPart most verdict)
   unfolding ruledPart
   stops-ruled most verdict h =
       stops-bind _ (stops-here λ i.
       stops-then _ (stops-within most) λ j w z.
       stops-rule (verdict (w .text)) _ w (λ a. refusal wide (not-good (h (w .text)) a) i) λ a. tt)
 
-  stops-scheme : {at : ℕ} → Stops s e (Refusal binaryLast s) (λ n v. Unit {0}) at schemePart
+  stops-scheme : {at : ℕ} → Refusing s e (λ n v. Unit {0}) at schemePart
   unfolding schemePart
   stops-scheme =
       stops-bind _ (stops-here λ i.
       stops-then _ stops-part λ j w z.
       stops-tell (schemeOf (w .text) _) (scheme-judged s _ i (w .text)) λ x q. tt)
 
-  stops-control : {at : ℕ} → Stops s e (Refusal binaryLast s) (λ n q. Unit {0}) at requestControl
+  stops-control : {at : ℕ} → Refusing s e (λ n q. Unit {0}) at requestControl
   unfolding requestControl
   stops-control =
       stops-then _ (stops-ruled methodMost methodVerdict method-verdict) λ i m a.
@@ -134,7 +137,7 @@ module _ {s : List ℕ} {e : ℕ} where
 
   -- ---- sections
 
-  stops-known-line : {at : ℕ} → Stops s e (Refusal binaryLast s) (λ n f. Unit {0}) at knownLine
+  stops-known-line : {at : ℕ} → Refusing s e (λ n f. Unit {0}) at knownLine
   unfolding knownLine
   stops-known-line =
       stops-bind _ (stops-here λ p.
@@ -145,7 +148,7 @@ module _ {s : List ℕ} {e : ℕ} where
       stops-bind _ (stops-octets b _ _ (bad-section p) λ u m y.
       stops-tell (lineOf _ _ _) (line-judged s _ p _ _) λ x q. tt))))))
 
-  stops-known-lines : (f : ℕ) {at : ℕ} (fs : List FieldRead) → Stops s e (Refusal binaryLast s) (λ n h. Unit {0}) at (knownLines f fs)
+  stops-known-lines : (f : ℕ) {at : ℕ} (fs : List FieldRead) → Refusing s e (λ n h. Unit {0}) at (knownLines f fs)
   unfolding knownLines
   stops-known-lines zero fs = stops-refuse (too-large (omega arith))
   stops-known-lines (suc f) fs =
@@ -156,14 +159,14 @@ module _ {s : List ℕ} {e : ℕ} where
       (stops-then _ stops-known-line λ j x z.
       stops-known-lines f (fs ++ x ∷ [])))))
 
-  stops-open-line : {at : ℕ} (p a : ℕ) → p ≤ length s → Stops s e (Refusal binaryLast s) (λ n f. Unit {0}) at (openLine p a)
+  stops-open-line : {at : ℕ} (p a : ℕ) → p ≤ length s → Refusing s e (λ n f. Unit {0}) at (openLine p a)
   unfolding openLine
   stops-open-line p a i =
       stops-bind _ (stops-octets a _ _ (cut-off i) λ w k y.
       stops-then _ stops-part λ j v z.
       stops-tell (lineOf p _ v) (line-judged s p i _ v) λ x q. tt)
 
-  stops-open-lines : (f : ℕ) {at : ℕ} (fs : List FieldRead) → Stops s e (Refusal binaryLast s) (λ n h. Unit {0}) at (openLines f fs)
+  stops-open-lines : (f : ℕ) {at : ℕ} (fs : List FieldRead) → Refusing s e (λ n h. Unit {0}) at (openLines f fs)
   unfolding openLines
   stops-open-lines zero fs = stops-refuse (too-large (omega arith))
   stops-open-lines (suc f) fs =
@@ -175,14 +178,14 @@ module _ {s : List ℕ} {e : ℕ} where
       stops-open-lines f (fs ++ x ∷ [])))))
 
 -- the body is a part of the input: places inside it are places of the input
-stops-body : {s : List ℕ} {e at : ℕ} (b : Piece) → Lying s b → Stops s e (Refusal binaryLast s) (λ n h. Unit {0}) at (bodyLines b)
+stops-body : {s : List ℕ} {e at : ℕ} (b : Piece) → Lying s b → Refusing s e (λ n h. Unit {0}) at (bodyLines b)
 unfolding bodyLines
 stops-body {s} {e} {at} b y =
     on (knownLines (suc linesMost) [] (b .place) (b .text))
     (stops-known-lines {e = b .place + length (b .text)} (suc linesMost) [] .go (b .text) (record { lies = y; ends = refl }))
   where
     on : (x : Got (List FieldRead)) → Ends (Refusal binaryLast s) (λ n i h. Stands s (b .place + length (b .text)) n i × Unit {0}) x
-        → Stops s e (Refusal binaryLast s) (λ n h. Unit {0}) at (onBody x)
+        → Refusing s e (λ n h. Unit {0}) at (onBody x)
     on (got fs n i) g = record { go = λ l z. (z, tt) }
     on (no n p) g = record { go = λ l z. g }
 
@@ -194,12 +197,12 @@ padded s e at (b ∷ l) y =
     (λ a. padded s e (at + 1) l (stands-on 1 (omega arith) y)) (λ a. at-place (lit≤ tt) (lit≤ tt) (omega (arith, lies-in (y .lies))))
 
 module _ {s : List ℕ} {e : ℕ} where
-  stops-known-section : {at : ℕ} → Stops s e (Refusal binaryLast s) (λ n h. Unit {0}) at knownSection
+  stops-known-section : {at : ℕ} → Refusing s e (λ n h. Unit {0}) at knownSection
   unfolding knownSection
   stops-known-section = stops-then _ stops-part λ i b y. stops-body b y
 
   -- a section ends in the input
-  stops-section : {at : ℕ} (known : Bool) → Stops s e (Refusal binaryLast s) (λ n h. h .end ≤ length s) at (section known)
+  stops-section : {at : ℕ} (known : Bool) → Refusing s e (λ n h. h .end ≤ length s) at (section known)
   unfolding section
   stops-section known =
       stops-then _ (stops-both known stops-known-section (stops-open-lines (suc linesMost) [])) λ i fs z.
@@ -207,11 +210,11 @@ module _ {s : List ℕ} {e : ℕ} where
 
   -- ---- content, trailers, padding
 
-  stops-known-content : {at : ℕ} → Stops s e (Refusal binaryLast s) (λ n cs. Unit {0}) at knownContent
+  stops-known-content : {at : ℕ} → Refusing s e (λ n cs. Unit {0}) at knownContent
   unfolding knownContent
   stops-known-content = stops-then _ (stops-within contentMost) λ i c z. stops-give tt
 
-  stops-chunks : (f : ℕ) {at : ℕ} (cs : List Piece) (total : ℕ) → Stops s e (Refusal binaryLast s) (λ n c. Unit {0}) at (openChunks f cs total)
+  stops-chunks : (f : ℕ) {at : ℕ} (cs : List Piece) (total : ℕ) → Refusing s e (λ n c. Unit {0}) at (openChunks f cs total)
   unfolding openChunks
   stops-chunks zero cs total = stops-refuse (too-large (omega arith))
   stops-chunks (suc f) cs total =
@@ -223,13 +226,13 @@ module _ {s : List ℕ} {e : ℕ} where
       (stops-bind _ (stops-octets n _ _ (cut-off p) λ w k y.
       stops-chunks f (cs ++ piece j w ∷ []) (total + n)))))))
 
-  stops-content : {at : ℕ} (known : Bool) → Stops s e (Refusal binaryLast s) (λ n cs. Unit {0}) at (content known)
+  stops-content : {at : ℕ} (known : Bool) → Refusing s e (λ n cs. Unit {0}) at (content known)
   unfolding content
   stops-content known =
       stops-bind _ (stops-ended λ b.
       stops-both b (stops-give tt) (stops-both known stops-known-content (stops-chunks (suc chunksMost) [] 0)))
 
-  stops-trailers : {at : ℕ} (known body : Bool) → Stops s e (Refusal binaryLast s) (λ n ts. Unit {0}) at (trailers known body)
+  stops-trailers : {at : ℕ} (known body : Bool) → Refusing s e (λ n ts. Unit {0}) at (trailers known body)
   unfolding trailers
   stops-trailers known body =
       stops-bind _ (stops-ended λ b.
@@ -237,10 +240,10 @@ module _ {s : List ℕ} {e : ℕ} where
       (stops-then _ (stops-section known) λ i h g.
       stops-tell (trailerRule body h) (trailer-judged s body h g) λ x q. tt))
 
-  stops-padding : {at : ℕ} → Stops s e (Refusal binaryLast s) (λ n z. Unit {0}) at padding
+  stops-padding : {at : ℕ} → Refusing s e (λ n z. Unit {0}) at padding
   stops-padding {at} = record { go = λ l y. padded s e at l y }
 
-  stops-after : {at : ℕ} (known body : Bool) (start : Start) (h : Section) (f : Framing) → Stops s e (Refusal binaryLast s) (λ n m. Unit {0}) at (afterHeaders known body start h f)
+  stops-after : {at : ℕ} (known body : Bool) (start : Start) (h : Section) (f : Framing) → Refusing s e (λ n m. Unit {0}) at (afterHeaders known body start h f)
   unfolding afterHeaders
   stops-after known body start h f =
       stops-then _ (stops-content known) λ i cs z.
@@ -252,7 +255,7 @@ module _ {s : List ℕ} {e : ℕ} where
 
   -- ---- whole messages
 
-  stops-request : {at : ℕ} (known : Bool) → Stops s e (Refusal binaryLast s) (λ n m. Unit {0}) at (requestMessage known)
+  stops-request : {at : ℕ} (known : Bool) → Refusing s e (λ n m. Unit {0}) at (requestMessage known)
   unfolding requestMessage
   stops-request known =
       stops-then _ stops-control λ i q z.
@@ -261,7 +264,7 @@ module _ {s : List ℕ} {e : ℕ} where
       stops-bind _ (stops-tell (mayState (h .end) (binaryFramingOf (h .lines))) (may-judged binaryLast s wide (h .end) g (binaryFramingOf (h .lines))) λ f q.
       stops-after known true _ h f))
 
-  stops-final : {at : ℕ} (known : Bool) (hs : List InformationalRead) (n : ℕ) → Stops s e (Refusal binaryLast s) (λ i m. Unit {0}) at (finalResponse known hs n)
+  stops-final : {at : ℕ} (known : Bool) (hs : List InformationalRead) (n : ℕ) → Refusing s e (λ i m. Unit {0}) at (finalResponse known hs n)
   unfolding finalResponse
   stops-final known hs n =
       stops-then _ (stops-section known) λ j h g.
@@ -271,7 +274,7 @@ module _ {s : List ℕ} {e : ℕ} where
       (stops-bind _ (stops-tell (mayState (h .end) (binaryFramingOf (h .lines))) (may-judged binaryLast s wide (h .end) g (binaryFramingOf (h .lines))) λ f q.
       stops-after known true _ h f))
 
-  stops-response : (f : ℕ) {at : ℕ} (known : Bool) (hs : List InformationalRead) → Stops s e (Refusal binaryLast s) (λ i m. Unit {0}) at (responseMessage known f hs)
+  stops-response : (f : ℕ) {at : ℕ} (known : Bool) (hs : List InformationalRead) → Refusing s e (λ i m. Unit {0}) at (responseMessage known f hs)
   unfolding responseMessage
   stops-response zero known hs = stops-refuse (too-large (omega arith))
   stops-response (suc f) known hs =
@@ -285,7 +288,7 @@ module _ {s : List ℕ} {e : ℕ} where
       stops-response f known _)))
       (stops-final known hs v))))
 
-  stops-message : {at : ℕ} → Stops s e (Refusal binaryLast s) (λ n m. Unit {0}) at message
+  stops-message : {at : ℕ} → Refusing s e (λ n m. Unit {0}) at message
   unfolding message
   stops-message =
       stops-bind _ (stops-integer _ _ (cut-off (omega arith)) λ i f.

@@ -11,7 +11,7 @@ use Rattle.octets.specs.Limits.{headMost, trailerMost, chunkLineMost, linesMost
 use Rattle.octets.specs.Refusals.{badSyntax, badVersion, notSupported, tooLarge}
 use Rattle.octets.specs.Text.{spanLen, sameText, isEmpty}
 use Rattle.octets.proofs.Kit.{either}
-use Rattle.script.specs.Script.{refused, someOctets, run}
+use Rattle.script.specs.Script.{refused, someOctets, Script, run}
 use Rattle.script.specs.Do.{Piece, piece, good, wrong}
 use Rattle.script.proofs.Refusals.{Judges, Stops, CutRefuses, stops-done, stops-stop, stops-word, stops-if, stops-bind, stops-then, stops-judged, stops-all}
 use Rattle.messages.specs.Told.{Told}
@@ -36,7 +36,7 @@ use Rattle.http1.specs.declared.ChunkLine.the-variants as chunk
 use Rattle.sound.specs.Placed.{Each}
 use Rattle.sound.specs.Refusal.{Refusal}
 use Rattle.sound.proofs.Each.{each-snoc}
-use Rattle.sound.proofs.Refusals.{Common, method-verdict, path-verdict, status-verdict, not-good, NamedIn, framing-in, refusal, authority-judged, nothing-judged, request-judged, response-judged}
+use Rattle.sound.proofs.Refusals.{Common, method-verdict, path-verdict, status-verdict, not-good, NamedIn, framing-in, Refuses, refusal, authority-judged, nothing-judged, request-judged, response-judged}
 use Rattle.http1_laws.specs.Read.{http1Last, RequestsRefused, ResponsesRefused}
 
 -- the numbers that both forms have are among them
@@ -104,19 +104,19 @@ module _ {s : List ℕ} where
   too-large i = at-place (lit≤ tt, lit≤ tt) i
 
 module _ (s : List ℕ) (l : Piece) (i : l .place ≤ length s) where
-  request-line : Judges (Refusal http1Last s) (λ x. Unit {0}) (requestOf l)
+  request-line : Refuses http1Last s (requestOf l)
   unfolding requestOf
   request-line = on (requestLens (l .text)) (request-lens (l .text))
     where
-      on : (x : RequestLine) → OfRequest x → Judges (Refusal http1Last s) (λ x. Unit {0}) (onRequest l x)
+      on : (x : RequestLine) → OfRequest x → Refuses http1Last s (onRequest l x)
       on (request.Of m p) h = tt
       on (request.Bad n) h = at-place h i
 
-  status-line : Judges (Refusal http1Last s) (λ x. Unit {0}) (statusOf l)
+  status-line : Refuses http1Last s (statusOf l)
   unfolding statusOf
   status-line = on (statusLens (l .text)) (status-lens (l .text))
     where
-      on : (x : StatusLine) → OfStatus x → Judges (Refusal http1Last s) (λ x. Unit {0}) (onStatus l x)
+      on : (x : StatusLine) → OfStatus x → Refuses http1Last s (onStatus l x)
       on (status.Of n) h = tt
       on (status.Bad n) h = at-place h i
 
@@ -128,21 +128,25 @@ module _ (s : List ℕ) (l : Piece) (i : l .place ≤ length s) where
       on (field.Of n b e) = i
       on field.Bad = at-place syntax-number i
 
-  chunk-line : Judges (Refusal http1Last s) (λ x. Unit {0}) (chunkOf l)
+  chunk-line : Refuses http1Last s (chunkOf l)
   unfolding chunkOf
   chunk-line = on (chunkLens (l .text))
     where
-      on : (x : ChunkLine) → Judges (Refusal http1Last s) (λ x. Unit {0}) (onChunk l x)
+      on : (x : ChunkLine) → Refuses http1Last s (onChunk l x)
       on (chunk.Of n) = tt
       on chunk.Bad = at-place syntax-number i
 
-  chunk-data : (n : ℕ) → l .place + n ≤ length s → Judges (Refusal http1Last s) (λ x. Unit {0}) (chunkData n l)
+  chunk-data : (n : ℕ) → l .place + n ≤ length s → Refuses http1Last s (chunkData n l)
   unfolding chunkData
   chunk-data n j =
-      either (Judges (Refusal http1Last s) (λ x. Unit {0})) (sameText (drop n (l .text)) (13 ∷ 10 ∷ [])) (good (piece (l .place) (take n (l .text)))) (wrong badSyntax (l .place + n))
+      either (Refuses http1Last s) (sameText (drop n (l .text)) (13 ∷ 10 ∷ [])) (good (piece (l .place) (take n (l .text)))) (wrong badSyntax (l .place + n))
       (λ a. tt) (λ a. at-place syntax-number j)
 
 -- ---- sections
+
+-- a script refuses the input s with nothing but numbers of HTTP/1.1, at places of the input, and accepts nothing but what P holds of
+abbrev Refusing : {A : Type 0} → List ℕ → (ℕ → A → Type 0) → ℕ → Script A → Type 0
+Refusing s P at sc = Stops s (Refusal http1Last s) P at sc
 
 -- a section ends in the input, and its lines start there
 record SectionIn (s : List ℕ) (h : Lines) : Type 0 where
@@ -154,7 +158,7 @@ module _ {s : List ℕ} where
   line-refuses : {at : ℕ} (left : ℕ) → at ≤ length s → CutRefuses (Refusal http1Last s) at (lineWithin left)
   line-refuses left i = (at-place syntax-number i, too-large i)
 
-  stops-lines : (f left : ℕ) {at : ℕ} (fs : List FieldRead) → Each (NamedIn (length s)) fs → Stops s (Refusal http1Last s) (λ n h. SectionIn s h) at (fieldLines f left fs)
+  stops-lines : (f left : ℕ) {at : ℕ} (fs : List FieldRead) → Each (NamedIn (length s)) fs → Refusing s (λ n h. SectionIn s h) at (fieldLines f left fs)
   unfolding fieldLines
   stops-lines zero left fs h = stops-stop (too-large (omega arith))
   stops-lines (suc f) left {at} fs h =
@@ -166,19 +170,19 @@ module _ {s : List ℕ} where
       stops-judged (NamedIn (length s)) (fieldOf (piece at w)) _ (field-line s (piece at w) j) λ x q.
       stops-lines f (less left (piece at w)) (fs ++ x ∷ []) (each-snoc (NamedIn (length s)) fs x h q))
 
-  stops-section : {at : ℕ} (left : ℕ) → Stops s (Refusal http1Last s) (λ n h. SectionIn s h) at (section left)
+  stops-section : {at : ℕ} (left : ℕ) → Refusing s (λ n h. SectionIn s h) at (section left)
   unfolding section
   stops-section left = stops-lines (suc linesMost) left [] tt
 
   -- ---- content
 
-  stops-trailers : {at : ℕ} (cs : List Piece) → Stops s (Refusal http1Last s) (λ n c. Unit {0}) at (trailerSection cs)
+  stops-trailers : {at : ℕ} (cs : List Piece) → Refusing s (λ n c. Unit {0}) at (trailerSection cs)
   unfolding trailerSection
   stops-trailers cs =
       stops-then _ (stops-section trailerMost) λ n h g.
       stops-if (areTrailers (h .lines)) (λ a. stops-done tt) (λ a. stops-stop (at-place (lit≤ tt, lit≤ tt) (g .end)))
 
-  stops-chunks : (f : ℕ) {at : ℕ} (cs : List Piece) (total : ℕ) → Stops s (Refusal http1Last s) (λ n c. Unit {0}) at (chunksFrom f cs total)
+  stops-chunks : (f : ℕ) {at : ℕ} (cs : List Piece) (total : ℕ) → Refusing s (λ n c. Unit {0}) at (chunksFrom f cs total)
   unfolding chunksFrom
   stops-chunks zero cs total = stops-stop (too-large (omega arith))
   stops-chunks (suc f) {at} cs total =
@@ -192,14 +196,14 @@ module _ {s : List ℕ} where
       stops-judged (λ x. Unit {0}) (chunkData n _) _ (chunk-data s _ (omega arith) n (omega (arith, l))) λ d r.
       stops-chunks f (cs ++ d ∷ []) (total + n)))
 
-  stops-content : {at : ℕ} (b : Body) → Stops s (Refusal http1Last s) (λ n c. Unit {0}) at (content b)
+  stops-content : {at : ℕ} (b : Body) → Refusing s (λ n c. Unit {0}) at (content b)
   unfolding content
   stops-content (Sized n) = stops-bind _ (stops-word (someOctets n) (λ z. tt) λ w g i. stops-done tt)
   stops-content InChunks = stops-chunks (suc chunksMost) [] 0
 
   -- ---- requests
 
-  stops-request : {at : ℕ} (t : Told) → Stops s (Refusal http1Last s) (λ n m. Unit {0}) at (request t)
+  stops-request : {at : ℕ} (t : Told) → Refusing s (λ n m. Unit {0}) at (request t)
   unfolding request afterHead
   stops-request {at} t =
       stops-bind _ (stops-word (lineWithin headMost) (line-refuses headMost) λ w g i.
@@ -213,7 +217,7 @@ module _ {s : List ℕ} where
 
   -- ---- responses
 
-  stops-final : {at : ℕ} (hs : List InformationalRead) (n : ℕ) (h : Lines) → SectionIn s h → Stops s (Refusal http1Last s) (λ n m. Unit {0}) at (afterFinal hs n h)
+  stops-final : {at : ℕ} (hs : List InformationalRead) (n : ℕ) (h : Lines) → SectionIn s h → Refusing s (λ n m. Unit {0}) at (afterFinal hs n h)
   unfolding afterFinal
   stops-final hs n h k =
       stops-judged (λ x. Unit {0}) (responseBody n (h .end) (framingOf (h .lines))) _
@@ -221,7 +225,7 @@ module _ {s : List ℕ} where
       stops-then _ (stops-content v) λ j d z.
       stops-done tt
 
-  stops-heads : (f : ℕ) {at : ℕ} (hs : List InformationalRead) (left : ℕ) → Stops s (Refusal http1Last s) (λ n m. Unit {0}) at (heads f hs left)
+  stops-heads : (f : ℕ) {at : ℕ} (hs : List InformationalRead) (left : ℕ) → Refusing s (λ n m. Unit {0}) at (heads f hs left)
   unfolding heads
   stops-heads zero hs left = stops-stop (too-large (omega arith))
   stops-heads (suc f) {at} hs left =

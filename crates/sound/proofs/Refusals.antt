@@ -17,7 +17,7 @@ use Rattle.octets.proofs.Kit.{either}
 use Rattle.numbers.specs.Digits.{numOf}
 use Rattle.numbers.specs.declared.Number.{Number}
 use Rattle.numbers.specs.declared.Number.the-variants.{Is, Not}
-use Rattle.script.specs.Do.{Piece, good, wrong}
+use Rattle.script.specs.Do.{Piece, Judged, good, wrong}
 use Rattle.script.proofs.Refusals.{Judges}
 use Rattle.messages.specs.Message.{FieldRead}
 use Rattle.messages.specs.Control.{isUnsupported, methodVerdict, pathVerdict, authorityVerdict, statusVerdict, isBodyless}
@@ -110,6 +110,10 @@ framing-in e fs h = framing-from e (linesOf kind.ContentLength fs) (linesOf kind
 
 -- ---- rules on a whole section, judged behind it
 
+-- a rule refuses the input s with nothing but numbers up to the form's last, at a place of the input
+abbrev pub Refuses : {X : Type 0} → ℕ → List ℕ → Judged X → Type 0
+Refuses last s j = Judges (Refusal last s) (λ x. Unit {0}) j
+
 module _ {last : ℕ} {s : List ℕ} (wide : 8 ≤ last) where
   pub refusal : {n p : ℕ} → Common n → p ≤ length s → Refusal last s n p
   refusal h i = record { some = h .0; ofForm = omega (arith, h .1); inside = i }
@@ -118,45 +122,45 @@ module _ (last : ℕ) (s : List ℕ) (wide : 8 ≤ last) (end : ℕ) (inside : e
   bad-length : Refusal last s badLength end
   bad-length = refusal wide (lit≤ tt, lit≤ tt) inside
 
-  pub authority-judged : (a : Piece) (fs : List FieldRead) → Judges (Refusal last s) (λ x. Unit {0}) (authorityIn end a fs)
+  pub authority-judged : (a : Piece) (fs : List FieldRead) → Refuses last s (authorityIn end a fs)
   unfolding authorityIn
   authority-judged a fs = on (authorityFrom a (linesOf kind.Host fs))
     where
-      on : (o : Option Piece) → Judges (Refusal last s) (λ x. Unit {0}) (orBadHost end o)
+      on : (o : Option Piece) → Refuses last s (orBadHost end o)
       on none = refusal wide (lit≤ tt, lit≤ tt) inside
       on (some x) = tt
 
-  pub nothing-judged : (f : Framing) → Judges (Refusal last s) (λ x. Unit {0}) (nothingStated end f)
+  pub nothing-judged : (f : Framing) → Refuses last s (nothingStated end f)
   unfolding nothingStated
   nothing-judged Unstated = tt
   nothing-judged (Stated n p) = bad-length
   nothing-judged Chunked = bad-length
   nothing-judged Clashing = bad-length
 
-  pub may-judged : (f : Framing) → Judges (Refusal last s) (λ x. Unit {0}) (mayState end f)
+  pub may-judged : (f : Framing) → Refuses last s (mayState end f)
   unfolding mayState
   may-judged Unstated = tt
   may-judged (Stated n p) = tt
   may-judged Chunked = tt
   may-judged Clashing = bad-length
 
-  pub request-judged : (f : Framing) → StatedIn (length s) f → Judges (Refusal last s) (λ x. Unit {0}) (requestBody end f)
+  pub request-judged : (f : Framing) → StatedIn (length s) f → Refuses last s (requestBody end f)
   unfolding requestBody
   request-judged Unstated h = tt
   request-judged (Stated n p) h =
-      either (Judges (Refusal last s) (λ x. Unit {0})) (leb n contentMost) (good (Sized n)) (wrong tooLarge p) (λ a. tt)
+      either (Refuses last s) (leb n contentMost) (good (Sized n)) (wrong tooLarge p) (λ a. tt)
       (λ a. refusal wide (lit≤ tt, lit≤ tt) h)
   request-judged Chunked h = tt
   request-judged Clashing h = bad-length
 
-  content-judged : (f : Framing) → StatedIn (length s) f → Judges (Refusal last s) (λ x. Unit {0}) (contentBody end f)
+  content-judged : (f : Framing) → StatedIn (length s) f → Refuses last s (contentBody end f)
   unfolding contentBody
   content-judged Unstated h = bad-length
   content-judged (Stated n p) h = request-judged (Stated n p) h
   content-judged Chunked h = request-judged Chunked h
   content-judged Clashing h = request-judged Clashing h
 
-  pub response-judged : (n : ℕ) (f : Framing) → StatedIn (length s) f → Judges (Refusal last s) (λ x. Unit {0}) (responseBody n end f)
+  pub response-judged : (n : ℕ) (f : Framing) → StatedIn (length s) f → Refuses last s (responseBody n end f)
   unfolding responseBody
   response-judged n f h =
-      either (Judges (Refusal last s) (λ x. Unit {0})) (isBodyless n) (nothingStated end f) (contentBody end f) (λ a. nothing-judged f) (λ a. content-judged f h)
+      either (Refuses last s) (isBodyless n) (nothingStated end f) (contentBody end f) (λ a. nothing-judged f) (λ a. content-judged f h)
