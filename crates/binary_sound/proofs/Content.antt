@@ -22,7 +22,7 @@ use Rattle.binary.specs.Reader.{no}
 use Rattle.binary.specs.Read.{knownContent, openChunks, content, contentRule, noLines, trailerRule, trailers, padding, afterHeaders}
 use Rattle.sound.proofs.Each.{content-snoc}
 use Rattle.sound.proofs.Parts.{ChunksAt, chunks-none, chunks-snoc, chunks-one}
-use Rattle.binary_sound.proofs.Judgement.{Stands, stands-on, Gets, Every, every-give, every-refuse, every-here, every-ended, every-tell, every-if, every-integer, every-octets, every-bind, every-then}
+use Rattle.binary_sound.proofs.Judgement.{Stands, stands-on, Gets, Every, stops-give, every-refuse, every-here, stops-ended, every-tell, stops-if, every-integer, every-octets, stops-bind, stops-then}
 use Rattle.binary_sound.proofs.Parts.{every-within}
 use Rattle.binary_sound.proofs.Lines.{no-wrong, LinesAt, lines-none, every-section}
 
@@ -75,18 +75,18 @@ body-valid false cs ts h g = rw (h, as-many (keptTrailers ts), g)
 module _ {s : List ℕ} {e : ℕ} where
   every-known-content : {at : ℕ} → Every s e (λ n cs. ChunksAt s cs) at knownContent
   unfolding knownContent
-  every-known-content = every-then _ (every-within contentMost) λ i c g. every-give (chunks-one s (c .place) (c .text) (g .0) (g .1) .0)
+  every-known-content = stops-then _ (every-within contentMost) λ i c g. stops-give (chunks-one s (c .place) (c .text) (g .0) (g .1) .0)
 
   every-chunks : (f : ℕ) {at : ℕ} (cs : List Piece) (total : ℕ) → ChunksAt s cs → length (contentOf cs) ≡ total
       → Every s e (λ n c. ChunksAt s c) at (openChunks f cs total)
   unfolding openChunks
   every-chunks zero cs total h t = every-refuse
   every-chunks (suc f) cs total h t =
-      every-bind _ (every-here (every-bind _ (every-integer _ _ λ i n.
-      every-if (eqb n 0) (λ a. every-give h) λ a.
-      every-if (leb chunksMost (length cs)) (λ b. every-refuse) λ b.
-      every-if (ltb contentMost (total + n)) (λ c. every-refuse) λ c.
-      every-bind _ (every-octets n _ _ λ w l y.
+      stops-bind _ (every-here (stops-bind _ (every-integer _ _ λ i n.
+      stops-if (eqb n 0) (λ a. stops-give h) λ a.
+      stops-if (leb chunksMost (length cs)) (λ b. every-refuse) λ b.
+      stops-if (ltb contentMost (total + n)) (λ c. every-refuse) λ c.
+      stops-bind _ (every-octets n _ _ λ w l y.
       every-chunks f (cs ++ piece i w ∷ []) (total + n)
       (chunks-snoc s cs (piece i w) n h y l (eqb-false n 0 a) (leb-false chunksMost (length cs) b) (omega (arith, ltb-false contentMost (total + n) c)))
       (omega (arith, content-snoc cs (piece i w)))))))
@@ -94,16 +94,16 @@ module _ {s : List ℕ} {e : ℕ} where
   every-content : {at : ℕ} (known : Bool) → Every s e (λ n cs. ChunksAt s cs) at (content known)
   unfolding content contentOf
   every-content known =
-      every-bind _ (every-ended λ b.
-      every-if b (λ t. every-give (chunks-none s)) λ t.
-      every-if known (λ u. every-known-content) (λ u. every-chunks (suc chunksMost) [] 0 (chunks-none s) refl))
+      stops-bind _ (stops-ended λ b.
+      stops-if b (λ t. stops-give (chunks-none s)) λ t.
+      stops-if known (λ u. every-known-content) (λ u. every-chunks (suc chunksMost) [] 0 (chunks-none s) refl))
 
   every-trailers : {at : ℕ} (known body : Bool) → Every s e (λ n ts. LinesAt s ts × Named body ts) at (trailers known body)
   unfolding trailers
   every-trailers known body =
-      every-bind _ (every-ended λ b.
-      every-if b (λ t. every-give (lines-none s, named-none body)) λ t.
-      every-then _ (every-section known) λ i h g.
+      stops-bind _ (stops-ended λ b.
+      stops-if b (λ t. stops-give (lines-none s, named-none body)) λ t.
+      stops-then _ (every-section known) λ i h g.
       every-tell (trailerRule body h) λ ts q. let r = trailers-are body h ts q in (subst (LinesAt s) (r .0) g, subst (Named body) (r .0) (r .1)))
 
   -- to the end of the input
@@ -133,9 +133,9 @@ pub every-after : {s : List ℕ} {e : ℕ} {P : ℕ → Message → Type 0} {at 
     → Every s e P at (afterHeaders known body start h f)
 unfolding afterHeaders
 every-after {s} {e} {P} known body start h f k =
-    every-then _ (every-content known) λ i cs a.
-    every-bind _ (every-here (every-bind _ (every-tell (contentRule body f _ cs) λ c q.
+    stops-then _ (every-content known) λ i cs a.
+    stops-bind _ (every-here (stops-bind _ (every-tell (contentRule body f _ cs) λ c q.
     let r = content-is body f _ cs c q in
-    every-then _ (every-trailers known body) λ j ts b.
-    every-then _ every-padding λ n z p.
-    every-give (rw (← p, r .0) at (k cs ts (record { chunks = a; filled = r .1; trailers = b .0; named = b .1 }))))))
+    stops-then _ (every-trailers known body) λ j ts b.
+    stops-then _ every-padding λ n z p.
+    stops-give (rw (← p, r .0) at (k cs ts (record { chunks = a; filled = r .1; trailers = b .0; named = b .1 }))))))

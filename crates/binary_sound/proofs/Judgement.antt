@@ -1,20 +1,22 @@
--- What readers of Binary HTTP give, wherever they stand in the input: a judgement with a law for each way to put readers together.
+-- What readers of Binary HTTP give and refuse, wherever they stand in the input: a judgement with a law for each way to put readers together.
 use Prim.Native.Nat.{ℕ, _+_, _-_, _≤_}
 use mathlib.Core.Path.{_≡_, refl, subst}
 use mathlib.Core.Bool.{Bool, true, false, cond}
 use mathlib.Core.List.{List}
 use native.Mathlib.Omega.{arith}
-use borrow.Author.Tests.{ltb-false, eqb-true}
+use borrow.Author.Tests.{ltb-false, eqb-true, eqb-false}
 use lib.Dec.{ltb, eqb}
 use lib.ListN.{length, take, drop, length-drop}
 use lib.Seq.{length-take-le}
+use Rattle.octets.proofs.Kit.{either}
 use Rattle.numbers.specs.Integer.{readInt}
 use Rattle.numbers.specs.declared.Integer.{Integer}
 use Rattle.numbers.specs.declared.Integer.the-variants.{Value, Cut}
 use Rattle.numbers.proofs.IntegerLaws.{read-within}
 use Rattle.script.specs.Script.{Lies}
 use Rattle.script.specs.Do.{Piece, piece, Judged, good, wrong}
-use Rattle.script.proofs.Places.{lies-front, lies-rest}
+use Rattle.script.proofs.Places.{lies-front, lies-rest, lies-in}
+use Rattle.script.proofs.Refusals.{Judges}
 use Rattle.binary.specs.Reader.{Got, got, no, Reader, onGot, _>>=_, give, refuse, here, ended, tell, rule, onInteger, integer, octets}
 
 -- at the place `at` of the input s stands l, up to the place e
@@ -26,84 +28,120 @@ pub record Stands (s : List ℕ) (e at : ℕ) (l : List ℕ) : Type 0 where
 pub stands-on : {s : List ℕ} {e at : ℕ} {l : List ℕ} (n : ℕ) → n ≤ length l → Stands s e at l → Stands s e (at + n) (drop n l)
 stands-on {l = l} n h y = record { lies = lies-rest n h (y .lies); ends = omega (arith, y .ends, length-drop n l) }
 
--- P holds of what was got: its place, what is left there, and the value
+-- R holds of the number and the place of a refusal, P of what was got: its place, what is left there, and the value
+abbrev pub Ends : {A : Type 0} → (ℕ → ℕ → Type 0) → (ℕ → List ℕ → A → Type 0) → Got A → Type 0
+Ends R P (got a at l) = P at l a
+Ends R P (no n p) = R n p
+
+-- the reader r, where it stands at the place `at` of the input s that ends at e, refuses with nothing but what R holds of and gets nothing but what P holds
+-- of, and then stands in the input again
+pub record Stops {A : Type 0} (s : List ℕ) (e : ℕ) (R : ℕ → ℕ → Type 0) (P : ℕ → A → Type 0) (at : ℕ) (r : Reader A) : Type 0 where
+  pub go : (l : List ℕ) → Stands s e at l → Ends R (λ n k a. Stands s e n k × P n a) (r at l)
+
+-- the same, where nothing is said of refusals
+abbrev pub Any : ℕ → ℕ → Type 0
+Any n p = Unit {0}
+
 abbrev pub Gets : {A : Type 0} → (ℕ → List ℕ → A → Type 0) → Got A → Type 0
-Gets P (got a at l) = P at l a
-Gets P (no n p) = Unit {0}
+Gets P x = Ends Any P x
 
--- the reader r, where it stands at the place `at` of the input s that ends at e, gets nothing but what P holds of, and then stands in the input again
-pub record Every {A : Type 0} (s : List ℕ) (e : ℕ) (P : ℕ → A → Type 0) (at : ℕ) (r : Reader A) : Type 0 where
-  pub go : (l : List ℕ) → Stands s e at l → Gets (λ n k a. Stands s e n k × P n a) (r at l)
+abbrev pub Every : {A : Type 0} → List ℕ → ℕ → (ℕ → A → Type 0) → ℕ → Reader A → Type 0
+Every s e P at r = Stops s e Any P at r
 
-module _ {s : List ℕ} {e : ℕ} where
-  pub every-give : {A : Type 0} {P : ℕ → A → Type 0} {at : ℕ} {a : A} → P at a → Every s e P at (give a)
-  every-give h = record { go = λ l y. (y, h) }
+module _ {s : List ℕ} {e : ℕ} {R : ℕ → ℕ → Type 0} where
+  pub stops-give : {A : Type 0} {P : ℕ → A → Type 0} {at : ℕ} {a : A} → P at a → Stops s e R P at (give a)
+  stops-give h = record { go = λ l y. (y, h) }
 
-  pub every-refuse : {A : Type 0} {P : ℕ → A → Type 0} {at n p : ℕ} → Every s e P at (refuse n p)
-  every-refuse = record { go = λ l y. tt }
+  pub stops-refuse : {A : Type 0} {P : ℕ → A → Type 0} {at n p : ℕ} → R n p → Stops s e R P at (refuse n p)
+  stops-refuse h = record { go = λ l y. h }
 
-  pub every-here : {P : ℕ → ℕ → Type 0} {at : ℕ} → P at at → Every s e P at here
-  every-here h = record { go = λ l y. (y, h) }
+  -- the present place is in the input
+  pub stops-here : {P : ℕ → ℕ → Type 0} {at : ℕ} → (at ≤ length s → P at at) → Stops s e R P at here
+  stops-here h = record { go = λ l y. (y, h (omega (arith, lies-in (y .lies)))) }
 
-  pub every-ended : {P : ℕ → Bool → Type 0} {at : ℕ} → ((b : Bool) → P at b) → Every s e P at ended
-  every-ended h = record { go = λ l y. (y, h _) }
+  pub stops-ended : {P : ℕ → Bool → Type 0} {at : ℕ} → ((b : Bool) → P at b) → Stops s e R P at ended
+  stops-ended h = record { go = λ l y. (y, h _) }
 
-  pub every-tell : {X : Type 0} {P : ℕ → X → Type 0} {at : ℕ} (j : Judged X) → ((x : X) → j ≡ good x → P at x) → Every s e P at (tell j)
-  every-tell (good x) h = record { go = λ l y. (y, h x refl) }
-  every-tell (wrong n p) h = record { go = λ l y. tt }
+  pub stops-tell : {X : Type 0} {P : ℕ → X → Type 0} {at : ℕ} (j : Judged X) → Judges R (λ x. Unit {0}) j → ((x : X) → j ≡ good x → P at x)
+      → Stops s e R P at (tell j)
+  stops-tell (good x) f h = stops-give (h x refl)
+  stops-tell (wrong n p) f h = stops-refuse f
 
-  pub every-rule : {X : Type 0} {P : ℕ → X → Type 0} {at : ℕ} (n p : ℕ) (x : X) → (n ≡ 0 → P at x) → Every s e P at (tell (rule n p x))
-  every-rule {P = P} {at} n p x h = on (eqb n 0) refl
-    where
-      on : (b : Bool) → eqb n 0 ≡ b → Every s e P at (tell (cond b (good x) (wrong n p)))
-      on true q = record { go = λ l y. (y, h (eqb-true n 0 q)) }
-      on false q = record { go = λ l y. tt }
+  pub stops-rule : {X : Type 0} {P : ℕ → X → Type 0} {at : ℕ} (n p : ℕ) (x : X) → ((n ≡ 0 → ⊥) → R n p) → (n ≡ 0 → P at x)
+      → Stops s e R P at (tell (rule n p x))
+  stops-rule {P = P} {at} n p x f h =
+      either (λ j. Stops s e R P at (tell j)) (eqb n 0) (good x) (wrong n p) (λ q. stops-give (h (eqb-true n 0 q))) (λ q. stops-refuse (f (eqb-false n 0 q)))
 
-  pub every-if : {A : Type 0} {P : ℕ → A → Type 0} {at : ℕ} {x y : Reader A} (t : Bool) → (t ≡ true → Every s e P at x) → (t ≡ false → Every s e P at y)
-      → Every s e P at (cond t x y)
-  every-if true f g = f refl
-  every-if false f g = g refl
+  pub stops-if : {A : Type 0} {P : ℕ → A → Type 0} {at : ℕ} {x y : Reader A} (t : Bool) → (t ≡ true → Stops s e R P at x) → (t ≡ false → Stops s e R P at y)
+      → Stops s e R P at (cond t x y)
+  stops-if {P = P} {at} {x} {y} t f g = either (Stops s e R P at) t x y f g
 
-  pub every-integer : {P : ℕ → ℕ → Type 0} {at : ℕ} (k p : ℕ) → ((n v : ℕ) → P n v) → Every s e P at (integer k p)
+  pub stops-integer : {P : ℕ → ℕ → Type 0} {at : ℕ} (k p : ℕ) → R k p → ((n v : ℕ) → P n v) → Stops s e R P at (integer k p)
   unfolding integer
-  every-integer {P} {at} k p h = record { go = λ l y. on l y (readInt at l) refl }
+  stops-integer {P} {at} k p f h = record { go = λ l y. on l y (readInt at l) refl }
     where
-      on : (l : List ℕ) → Stands s e at l → (x : Integer) → readInt at l ≡ x → Gets (λ n i a. Stands s e n i × P n a) (onInteger k p at l x)
+      on : (l : List ℕ) → Stands s e at l → (x : Integer) → readInt at l ≡ x → Ends R (λ n i a. Stands s e n i × P n a) (onInteger k p at l x)
       on l y (Value v next) q =
           let w = read-within at l q in
           let z : at + (next - at) ≡ next = omega arith in
           (subst (λ (n : ℕ). Stands s e n (drop (next - at) l)) z (stands-on (next - at) (omega arith) y), h next v)
-      on l y Cut q = tt
+      on l y Cut q = f
 
-  pub every-octets : {P : ℕ → Piece → Type 0} {at : ℕ} (n k p : ℕ) → ((w : List ℕ) → length w ≡ n → Lies s at w → P (at + n) (piece at w))
-      → Every s e P at (octets n k p)
+  pub stops-octets : {P : ℕ → Piece → Type 0} {at : ℕ} (n k p : ℕ) → R k p → ((w : List ℕ) → length w ≡ n → Lies s at w → P (at + n) (piece at w))
+      → Stops s e R P at (octets n k p)
   unfolding octets
-  every-octets {P} {at} n k p h = record { go = λ l y. on l y (ltb (length l) n) refl }
+  stops-octets {P} {at} n k p f h = record { go = λ l y. on l y (ltb (length l) n) refl }
     where
       on : (l : List ℕ) → Stands s e at l → (b : Bool) → ltb (length l) n ≡ b
-          → Gets (λ i j a. Stands s e i j × P i a) (cond b (no k p) (got (piece at (take n l)) (at + n) (drop n l)))
-      on l y true q = tt
+          → Ends R (λ i j a. Stands s e i j × P i a) (cond b (no k p) (got (piece at (take n l)) (at + n) (drop n l)))
+      on l y true q = f
       on l y false q =
           let w = ltb-false (length l) n q in
           (stands-on n w y, h (take n l) (length-take-le n l w) (lies-front n (y .lies)))
 
-  pub every-bind : {A B : Type 0} {P : ℕ → B → Type 0} {at : ℕ} {r : Reader A} (k : A → Reader B) → Every s e (λ n a. Every s e P n (k a)) at r
-      → Every s e P at (r >>= k)
+  pub stops-bind : {A B : Type 0} {P : ℕ → B → Type 0} {at : ℕ} {r : Reader A} (k : A → Reader B) → Stops s e R (λ n a. Stops s e R P n (k a)) at r
+      → Stops s e R P at (r >>= k)
   unfolding _>>=_
-  every-bind {A} {B} {P} {at} {r} k h = record { go = λ l y. on (r at l) (h .go l y) }
+  stops-bind {A} {B} {P} {at} {r} k h = record { go = λ l y. on (r at l) (h .go l y) }
     where
-      on : (x : Got A) → Gets (λ n i a. Stands s e n i × Every s e P n (k a)) x → Gets (λ n i b. Stands s e n i × P n b) (onGot x k)
+      on : (x : Got A) → Ends R (λ n i a. Stands s e n i × Stops s e R P n (k a)) x → Ends R (λ n i b. Stands s e n i × P n b) (onGot x k)
       on (got a n i) g = g .1 .go i (g .0)
-      on (no n p) g = tt
+      on (no n p) g = g
 
-  pub every-map : {A : Type 0} {P Q : ℕ → A → Type 0} {at : ℕ} {r : Reader A} → ((n : ℕ) (a : A) → P n a → Q n a) → Every s e P at r → Every s e Q at r
-  every-map {A} {P} {Q} {at} {r} f h = record { go = λ l y. on (r at l) (h .go l y) }
+  pub stops-map : {A : Type 0} {P Q : ℕ → A → Type 0} {at : ℕ} {r : Reader A} → ((n : ℕ) (a : A) → P n a → Q n a) → Stops s e R P at r → Stops s e R Q at r
+  stops-map {A} {P} {Q} {at} {r} f h = record { go = λ l y. on (r at l) (h .go l y) }
     where
-      on : (x : Got A) → Gets (λ n i a. Stands s e n i × P n a) x → Gets (λ n i a. Stands s e n i × Q n a) x
+      on : (x : Got A) → Ends R (λ n i a. Stands s e n i × P n a) x → Ends R (λ n i a. Stands s e n i × Q n a) x
       on (got a n i) g = (g .0, f n a (g .1))
-      on (no n p) g = tt
+      on (no n p) g = g
 
   -- behind a reader of which something is known
-  pub every-then : {A B : Type 0} {P : ℕ → A → Type 0} {Q : ℕ → B → Type 0} {at : ℕ} {r : Reader A} (k : A → Reader B) → Every s e P at r
-      → ((n : ℕ) (a : A) → P n a → Every s e Q n (k a)) → Every s e Q at (r >>= k)
-  every-then k h f = every-bind k (every-map f h)
+  pub stops-then : {A B : Type 0} {P : ℕ → A → Type 0} {Q : ℕ → B → Type 0} {at : ℕ} {r : Reader A} (k : A → Reader B) → Stops s e R P at r
+      → ((n : ℕ) (a : A) → P n a → Stops s e R Q n (k a)) → Stops s e R Q at (r >>= k)
+  stops-then k h f = stops-bind k (stops-map f h)
+
+-- ---- the laws of what may refuse, where nothing is said of refusals
+
+module _ {s : List ℕ} {e : ℕ} where
+  pub every-refuse : {A : Type 0} {P : ℕ → A → Type 0} {at n p : ℕ} → Every s e P at (refuse n p)
+  every-refuse = stops-refuse tt
+
+  pub every-here : {P : ℕ → ℕ → Type 0} {at : ℕ} → P at at → Every s e P at here
+  every-here h = stops-here (λ i. h)
+
+  pub every-tell : {X : Type 0} {P : ℕ → X → Type 0} {at : ℕ} (j : Judged X) → ((x : X) → j ≡ good x → P at x) → Every s e P at (tell j)
+  every-tell {X} j h = stops-tell j (any j) h
+    where
+      any : (i : Judged X) → Judges Any (λ x. Unit {0}) i
+      any (good x) = tt
+      any (wrong n p) = tt
+
+  pub every-rule : {X : Type 0} {P : ℕ → X → Type 0} {at : ℕ} (n p : ℕ) (x : X) → (n ≡ 0 → P at x) → Every s e P at (tell (rule n p x))
+  every-rule n p x h = stops-rule n p x (λ i. tt) h
+
+  pub every-integer : {P : ℕ → ℕ → Type 0} {at : ℕ} (k p : ℕ) → ((n v : ℕ) → P n v) → Every s e P at (integer k p)
+  every-integer k p h = stops-integer k p tt h
+
+  pub every-octets : {P : ℕ → Piece → Type 0} {at : ℕ} (n k p : ℕ) → ((w : List ℕ) → length w ≡ n → Lies s at w → P (at + n) (piece at w))
+      → Every s e P at (octets n k p)
+  every-octets n k p h = stops-octets n k p tt h

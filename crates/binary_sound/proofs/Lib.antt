@@ -3,3 +3,4 @@ pub mod Parts
 pub mod Lines
 pub mod Content
 pub mod Sound
+pub mod Refusals

@@ -21,7 +21,7 @@ use Rattle.sound.specs.Placed.{Each, Lying}
 use Rattle.sound.proofs.Each.{each-snoc}
 use Rattle.sound.proofs.Parts.{LineAt, SectionAt, section-none, section-snoc}
 use Rattle.binary_sound.specs.Sound.{LowerName}
-use Rattle.binary_sound.proofs.Judgement.{Stands, Gets, Every, every-give, every-refuse, every-here, every-ended, every-tell, every-if, every-integer, every-octets, every-bind, every-then}
+use Rattle.binary_sound.proofs.Judgement.{Stands, Gets, Every, stops-give, every-refuse, every-here, stops-ended, every-tell, stops-if, every-integer, every-octets, stops-bind, stops-then}
 use Rattle.binary_sound.proofs.Parts.{every-part}
 
 -- ---- a line
@@ -59,18 +59,18 @@ module _ {s : List ℕ} {e : ℕ} where
   every-known-line : {at : ℕ} → Every s e (λ n f. LowerLine s f) at knownLine
   unfolding knownLine
   every-known-line =
-      every-bind _ (every-here (every-bind _ (every-integer _ _ λ i a.
-      every-if (eqb a 0) (λ h. every-refuse) λ h.
-      every-bind _ (every-octets a _ _ λ w l x.
-      every-bind _ (every-integer _ _ λ j b.
-      every-bind _ (every-octets b _ _ λ u k y.
+      stops-bind _ (every-here (stops-bind _ (every-integer _ _ λ i a.
+      stops-if (eqb a 0) (λ h. every-refuse) λ h.
+      stops-bind _ (every-octets a _ _ λ w l x.
+      stops-bind _ (every-integer _ _ λ j b.
+      stops-bind _ (every-octets b _ _ λ u k y.
       every-tell (lineOf _ _ _) λ f q. line-is s _ _ _ f q x y))))))
 
   every-open-line : {at : ℕ} (p a : ℕ) → Every s e (λ n f. LowerLine s f) at (openLine p a)
   unfolding openLine
   every-open-line p a =
-      every-bind _ (every-octets a _ _ λ w l x.
-      every-then _ every-part λ i v y.
+      stops-bind _ (every-octets a _ _ λ w l x.
+      stops-then _ every-part λ i v y.
       every-tell (lineOf p _ v) λ f q. line-is s p _ v f q x y)
 
   -- ---- sections
@@ -79,21 +79,21 @@ module _ {s : List ℕ} {e : ℕ} where
   unfolding knownLines
   every-known-lines zero fs h = every-refuse
   every-known-lines (suc f) fs h =
-      every-bind _ (every-ended λ b.
-      every-bind _ (every-here (
-      every-if b (λ t. every-give h) λ t.
-      every-if (leb linesMost (length fs)) (λ u. every-refuse) λ u.
-      every-then _ every-known-line λ i x g.
+      stops-bind _ (stops-ended λ b.
+      stops-bind _ (every-here (
+      stops-if b (λ t. stops-give h) λ t.
+      stops-if (leb linesMost (length fs)) (λ u. every-refuse) λ u.
+      stops-then _ every-known-line λ i x g.
       every-known-lines f (fs ++ x ∷ []) (lines-snoc s fs x h g (leb-false linesMost (length fs) u)))))
 
   every-open-lines : (f : ℕ) {at : ℕ} (fs : List FieldRead) → LinesAt s fs → Every s e (λ n h. LinesAt s h) at (openLines f fs)
   unfolding openLines
   every-open-lines zero fs h = every-refuse
   every-open-lines (suc f) fs h =
-      every-bind _ (every-here (every-bind _ (every-integer _ _ λ i a.
-      every-if (eqb a 0) (λ t. every-give h) λ t.
-      every-if (leb linesMost (length fs)) (λ u. every-refuse) λ u.
-      every-then _ (every-open-line _ a) λ j x g.
+      stops-bind _ (every-here (stops-bind _ (every-integer _ _ λ i a.
+      stops-if (eqb a 0) (λ t. stops-give h) λ t.
+      stops-if (leb linesMost (length fs)) (λ u. every-refuse) λ u.
+      stops-then _ (every-open-line _ a) λ j x g.
       every-open-lines f (fs ++ x ∷ []) (lines-snoc s fs x h g (leb-false linesMost (length fs) u)))))
 
 -- the body is a part of the input: the lines inside it lie in the input, at their places there
@@ -110,10 +110,10 @@ every-body {s} {e} {at} b y =
 module _ {s : List ℕ} {e : ℕ} where
   every-known-section : {at : ℕ} → Every s e (λ n h. LinesAt s h) at knownSection
   unfolding knownSection
-  every-known-section = every-then _ every-part λ i b y. every-body b y
+  every-known-section = stops-then _ every-part λ i b y. every-body b y
 
   pub every-section : {at : ℕ} (known : Bool) → Every s e (λ n h. LinesAt s (h .lines)) at (section known)
   unfolding section
   every-section known =
-      every-then _ (every-if known (λ t. every-known-section) (λ t. every-open-lines (suc linesMost) [] (lines-none s))) λ i fs h.
-      every-bind _ (every-here (every-give h))
+      stops-then _ (stops-if known (λ t. every-known-section) (λ t. every-open-lines (suc linesMost) [] (lines-none s))) λ i fs h.
+      stops-bind _ (every-here (stops-give h))

@@ -16,7 +16,7 @@ use Rattle.messages.specs.Control.{methodVerdict, pathVerdict, authorityVerdict
 use Rattle.messages.specs.Valid.{isScheme}
 use Rattle.binary.specs.Read.{part, partWithin, ruledPart, schemeOf, schemePart, RequestControl, requestControl}
 use Rattle.sound.specs.Placed.{Lying}
-use Rattle.binary_sound.proofs.Judgement.{Every, every-give, every-refuse, every-here, every-tell, every-rule, every-if, every-integer, every-octets, every-bind, every-then}
+use Rattle.binary_sound.proofs.Judgement.{Every, stops-give, every-refuse, every-here, every-tell, every-rule, stops-if, every-integer, every-octets, stops-bind, stops-then}
 
 -- what holds of a part of at most so many octets, by a rule
 pub record RuledAt (s : List ℕ) (most : ℕ) (verdict : List ℕ → ℕ) (p : Piece) : Type 0 where
@@ -42,31 +42,31 @@ scheme-is w p v e = on (sameText w (ascii "http")) (sameText w (ascii "https")) 
 module _ {s : List ℕ} {e : ℕ} where
   pub every-part : {at : ℕ} → Every s e (λ n p. Lying s p) at part
   unfolding part
-  every-part = every-bind _ (every-here (every-bind _ (every-integer _ _ λ i n. every-octets n _ _ λ w l y. y)))
+  every-part = stops-bind _ (every-here (stops-bind _ (every-integer _ _ λ i n. every-octets n _ _ λ w l y. y)))
 
   pub every-within : {at : ℕ} (most : ℕ) → Every s e (λ n p. Lying s p × (length (p .text) ≤ most)) at (partWithin most)
   unfolding partWithin
   every-within most =
-      every-bind _ (every-here (every-bind _ (every-integer _ _ λ i n.
-      every-if (leb n most)
+      stops-bind _ (every-here (stops-bind _ (every-integer _ _ λ i n.
+      stops-if (leb n most)
       (λ h. every-octets n _ _ λ w l y. (y, omega (arith, leb-true n most h)))
       (λ h. every-refuse))))
 
   pub every-ruled : {at : ℕ} (most : ℕ) (verdict : List ℕ → ℕ) → Every s e (λ n p. RuledAt s most verdict p) at (ruledPart most verdict)
   unfolding ruledPart
   every-ruled most verdict =
-      every-bind _ (every-here (every-then _ (every-within most) λ i w g.
+      stops-bind _ (every-here (stops-then _ (every-within most) λ i w g.
       every-rule (verdict (w .text)) _ w λ h. record { lies = g .0; short = g .1; keeps = h }))
 
   every-scheme : {at : ℕ} → Every s e (λ n v. isScheme v ≡ true) at schemePart
   unfolding schemePart
-  every-scheme = every-bind _ (every-here (every-then _ every-part λ i w g. every-tell (schemeOf (w .text) _) λ v q. scheme-is (w .text) _ v q))
+  every-scheme = stops-bind _ (every-here (stops-then _ every-part λ i w g. every-tell (schemeOf (w .text) _) λ v q. scheme-is (w .text) _ v q))
 
   pub every-control : {at : ℕ} → Every s e (λ n q. ControlAt s q) at requestControl
   unfolding requestControl
   every-control =
-      every-then _ (every-ruled methodMost methodVerdict) λ i m a.
-      every-then _ every-scheme λ j v b.
-      every-then _ (every-ruled authorityMost authorityVerdict) λ k h c.
-      every-then _ (every-ruled pathMost pathVerdict) λ l p d.
-      every-give (record { method = a; scheme = b; authority = c; path = d })
+      stops-then _ (every-ruled methodMost methodVerdict) λ i m a.
+      stops-then _ every-scheme λ j v b.
+      stops-then _ (every-ruled authorityMost authorityVerdict) λ k h c.
+      stops-then _ (every-ruled pathMost pathVerdict) λ l p d.
+      stops-give (record { method = a; scheme = b; authority = c; path = d })

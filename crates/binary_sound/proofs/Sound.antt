@@ -33,7 +33,7 @@ use Rattle.sound.proofs.Each.{each-snoc}
 use Rattle.sound.proofs.Parts.{SectionAt, request-valid, HeadsAt, head-at, heads-none, heads-snoc, heads-lie, heads-good, response-valid, PartsAt, parts-sound}
 use Rattle.sound.proofs.Rules.{AuthorityIs, authority-is, host-lies, nothing-stated}
 use Rattle.binary_sound.specs.Sound.{GoodStart, Stated as IsStated, LowerName, LowerNames, SoundBinary, BinarySound}
-use Rattle.binary_sound.proofs.Judgement.{Stands, Gets, Every, every-refuse, every-here, every-tell, every-rule, every-if, every-integer, every-bind, every-then}
+use Rattle.binary_sound.proofs.Judgement.{Stands, Gets, Every, every-refuse, every-here, every-tell, every-rule, stops-if, every-integer, stops-bind, stops-then}
 use Rattle.binary_sound.proofs.Parts.{ControlAt, every-control}
 use Rattle.binary_sound.proofs.Lines.{LinesAt, every-section}
 use Rattle.binary_sound.proofs.Content.{body-valid, TailAt, every-after}
@@ -148,10 +148,10 @@ module _ {s : List ℕ} {e : ℕ} where
   every-request : {at : ℕ} (known : Bool) → Every s e (λ n m. MessageAt s m × (n ≡ e)) at (requestMessage known)
   unfolding requestMessage
   every-request known =
-      every-then _ every-control λ i q c.
-      every-then _ (every-section known) λ j h l.
-      every-bind _ (every-tell (authorityIn (h .end) (q .authority) (h .lines)) λ a p.
-      every-bind _ (every-tell (mayState (h .end) (binaryFramingOf (h .lines))) λ f g.
+      stops-then _ every-control λ i q c.
+      stops-then _ (every-section known) λ j h l.
+      stops-bind _ (every-tell (authorityIn (h .end) (q .authority) (h .lines)) λ a p.
+      stops-bind _ (every-tell (mayState (h .end) (binaryFramingOf (h .lines))) λ f g.
       let o = authority-at s q (h .lines) a c (l .section) (isEmpty (q .authority .text)) refl (authority-is (h .end) (q .authority) (h .lines) a p) in
       every-after known true _ h f λ cs ts t. (request-at s q h a f cs ts c l o (may-state (h .end) _ f g) t, refl)))
 
@@ -159,14 +159,14 @@ module _ {s : List ℕ} {e : ℕ} where
       → Every s e (λ i m. MessageAt s m × (i ≡ e)) at (finalResponse known hs n)
   unfolding finalResponse
   every-final known hs n a v i =
-      every-then _ (every-section known) λ j h l.
-      every-if (isBodyless n)
+      stops-then _ (every-section known) λ j h l.
+      stops-if (isBodyless n)
       (λ b.
-      every-bind _ (every-tell (nothingStated (h .end) (binaryFramingOf (h .lines))) λ u g.
+      stops-bind _ (every-tell (nothingStated (h .end) (binaryFramingOf (h .lines))) λ u g.
       let f = nothing-stated (h .end) _ u g .0 in
       every-after known false _ h Unstated λ cs ts t. (response-at s hs n h false Unstated cs ts a v i l (rw b) f (λ z. f) t, refl)))
       (λ b.
-      every-bind _ (every-tell (mayState (h .end) (binaryFramingOf (h .lines))) λ f g.
+      stops-bind _ (every-tell (mayState (h .end) (binaryFramingOf (h .lines))) λ f g.
       every-after known true _ h f λ cs ts t. (response-at s hs n h true f cs ts a v i l (rw b) (may-state (h .end) _ f g) (λ z. cc) t, refl)))
 
   every-response : (f : ℕ) {at : ℕ} (known : Bool) (hs : List InformationalRead) → HeadsIn s hs
@@ -174,13 +174,13 @@ module _ {s : List ℕ} {e : ℕ} where
   unfolding responseMessage
   every-response zero known hs a = every-refuse
   every-response (suc f) known hs a =
-      every-bind _ (every-here (every-bind _ (every-integer _ _ λ i n.
-      every-bind _ (every-rule (statusVerdict n) _ n λ v.
-      every-if (isInformational n)
+      stops-bind _ (every-here (stops-bind _ (every-integer _ _ λ i n.
+      stops-bind _ (every-rule (statusVerdict n) _ n λ v.
+      stops-if (isInformational n)
       (λ b.
-      every-if (leb informationalMost (length hs)) (λ c. every-refuse) λ c.
-      every-then _ (every-section known) λ j h l.
-      every-bind _ (every-tell (nothingStated (h .end) (binaryFramingOf (h .lines))) λ u g.
+      stops-if (leb informationalMost (length hs)) (λ c. every-refuse) λ c.
+      stops-then _ (every-section known) λ j h l.
+      stops-bind _ (every-tell (nothingStated (h .end) (binaryFramingOf (h .lines))) λ u g.
       every-response f known _ (one-more s hs n (h .lines) a v b l (nothing-stated (h .end) _ u g .0) (leb-false informationalMost (length hs) c))))
       (λ b. every-final known hs n a v b)))))
 
@@ -188,12 +188,12 @@ module _ {s : List ℕ} {e : ℕ} where
   unfolding message
   every-message =
       let a : HeadsIn s [] = record { heads = heads-none s; lower = tt; unstated = tt } in
-      every-bind _ (every-integer _ _ λ i f.
-      every-if (leb f 3)
+      stops-bind _ (every-integer _ _ λ i f.
+      stops-if (leb f 3)
       (λ t.
-      every-if (eqb f 0) (λ u. every-request true) λ u.
-      every-if (eqb f 1) (λ v. every-response (suc informationalMost) true [] a) λ v.
-      every-if (eqb f 2) (λ w. every-request false) (λ w. every-response (suc informationalMost) false [] a))
+      stops-if (eqb f 0) (λ u. every-request true) λ u.
+      stops-if (eqb f 1) (λ v. every-response (suc informationalMost) true [] a) λ v.
+      stops-if (eqb f 2) (λ w. every-request false) (λ w. every-response (suc informationalMost) false [] a))
       (λ t. every-refuse))
 
 -- the framing is an integer: an input without octets is cut off

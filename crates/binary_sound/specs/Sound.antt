@@ -7,7 +7,7 @@ use mathlib.Core.Logic.{_⊎_}
 use mathlib.Core.List.{List}
 use lib.ListN.{length}
 use Rattle.octets.specs.Limits.{binaryMost}
-use Rattle.script.specs.Script.{accepted}
+use Rattle.script.specs.Script.{accepted, refused, Settled}
 use Rattle.script.specs.Do.{Piece}
 use Rattle.messages.specs.Message.{FieldRead, InformationalRead, Start, requestStart, responseStart, Message}
 use Rattle.messages.specs.Control.{isHost, isBodyless, isLowerName}
@@ -18,6 +18,7 @@ use Rattle.messages.specs.declared.Framing.the-variants.{Unstated}
 use Rattle.messages.specs.declared.Kind.the-variants as kind
 use Rattle.binary.specs.Read.{readBinary}
 use Rattle.sound.specs.Placed.{Each}
+use Rattle.sound.specs.Refusal.{Refusal}
 use Rattle.sound.specs.Sound.{Sound}
 
 -- "scheme is `http` or `https` (H). Authority may be empty if one `host` field gives it; with both, the bytes are equal": there is an authority, and the
@@ -72,3 +73,15 @@ pub record SoundBinary (s : List ℕ) (n : ℕ) (m : Message) : Type 0 where
 -- every accepted message is so
 abbrev pub BinarySound : Type 0
 BinarySound = (s : List ℕ) (n : ℕ) (m : Message) → readBinary s ≡ accepted n m → SoundBinary s n m
+
+-- the last of the numbers with which Binary HTTP is refused (01, "Numbers a call answers with")
+abbrev pub binaryLast : ℕ
+binaryLast = 12
+
+-- every refused input is refused with a number from 2 to 12, at a place of the input
+abbrev pub BinaryRefused : Type 0
+BinaryRefused = (s : List ℕ) (n p : ℕ) → readBinary s ≡ refused n p → Refusal binaryLast s n p
+
+-- the whole input is there: no more octets are asked for
+abbrev pub BinarySettled : Type 0
+BinarySettled = (s : List ℕ) → Settled (readBinary s)

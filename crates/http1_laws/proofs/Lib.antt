@@ -3,3 +3,4 @@ pub mod Rules
 pub mod Lines
 pub mod Sections
 pub mod Sound
+pub mod Refusals

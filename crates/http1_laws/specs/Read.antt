@@ -5,7 +5,7 @@ use mathlib.Core.Path.{_≡_}
 use mathlib.Core.Bool.{true}
 use mathlib.Core.List.{List, [], _∷_}
 use lib.ListN.{length}
-use Rattle.script.specs.Script.{accepted}
+use Rattle.script.specs.Script.{accepted, refused}
 use Rattle.messages.specs.Told.{Told}
 use Rattle.messages.specs.Message.{FieldRead, Start, requestStart, responseStart, Message}
 use Rattle.messages.specs.Names.{linesOf}
@@ -15,6 +15,7 @@ use Rattle.messages.specs.declared.Kind.the-variants as kind
 use Rattle.http1.specs.Read.{readRequest, readResponse}
 use Rattle.http1_laws.specs.Front.{Front}
 use Rattle.sound.specs.Sound.{Sound}
+use Rattle.sound.specs.Refusal.{Refusal}
 
 -- a request of the scheme that was told; host stands exactly once, and it is the authority
 abbrev pub IsRequest : Told → List FieldRead → Start → Type 0
@@ -53,6 +54,18 @@ RequestsSound = (t : Told) (s : List ℕ) (n : ℕ) (m : Message) → readReques
 -- so is every accepted response
 abbrev pub ResponsesSound : Type 0
 ResponsesSound = (s : List ℕ) (n : ℕ) (m : Message) → readResponse s ≡ accepted n m → SoundResponse s n m
+
+-- the last of the numbers with which HTTP/1.1 is refused (01, "Numbers a call answers with")
+abbrev pub http1Last : ℕ
+http1Last = 8
+
+-- every refused request, under whatever scheme is told, is refused with a number from 2 to 8, at a place of the input
+abbrev pub RequestsRefused : Type 0
+RequestsRefused = (t : Told) (s : List ℕ) (n p : ℕ) → readRequest t s ≡ refused n p → Refusal http1Last s n p
+
+-- so is every refused response
+abbrev pub ResponsesRefused : Type 0
+ResponsesRefused = (s : List ℕ) (n p : ℕ) → readResponse s ≡ refused n p → Refusal http1Last s n p
 
 -- the claims on both readers of HTTP/1.1; a call told any scheme number is meant
 pub record Http1Reads : Type 0 where

@@ -2,3 +2,4 @@ pub mod Each
 pub mod Valid
 pub mod Parts
 pub mod Rules
+pub mod Refusals

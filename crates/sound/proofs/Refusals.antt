@@ -1,0 +1,166 @@
+-- What the rules of both forms refuse with.
+use Prim.Native.Nat.{ℕ, _≤_}
+use mathlib.Core.Path.{_≡_, refl}
+use mathlib.Core.Bool.{Bool, cond}
+use mathlib.Core.Logic.{_⊎_, inl, inr}
+use mathlib.Core.Option.{Option, none, some}
+use mathlib.Core.List.{List, [], _∷_, map}
+use native.Mathlib.Omega.{arith}
+use lib.Dec.{ltb, leb, eqb, lit≤}
+use lib.ListN.{length, getD}
+use Rattle.octets.specs.Ascii.{ascii}
+use Rattle.octets.specs.Class.{hasClass, token, path, authority}
+use Rattle.octets.specs.Limits.{methodMost, pathMost, contentMost}
+use Rattle.octets.specs.Refusals.{badSyntax, notSupported, badStatus, badLength, tooLarge}
+use Rattle.octets.specs.Text.{all, lowerOf, sameText, isEmpty}
+use Rattle.octets.proofs.Kit.{either}
+use Rattle.numbers.specs.Digits.{numOf}
+use Rattle.numbers.specs.declared.Number.{Number}
+use Rattle.numbers.specs.declared.Number.the-variants.{Is, Not}
+use Rattle.script.specs.Do.{Piece, Judged, good, wrong}
+use Rattle.script.proofs.Refusals.{Judges}
+use Rattle.messages.specs.Message.{FieldRead}
+use Rattle.messages.specs.Control.{isUnsupported, methodVerdict, pathVerdict, authorityVerdict, statusVerdict, isBodyless}
+use Rattle.messages.specs.Names.{linesOf}
+use Rattle.messages.specs.Rules.{authorityFrom, orBadHost, authorityIn, lengthStated, framingFrom, framingOf, requestBody, nothingStated, contentBody, responseBody, mayState}
+use Rattle.messages.specs.declared.Body.the-variants.{Sized}
+use Rattle.messages.specs.declared.Framing.{Framing}
+use Rattle.messages.specs.declared.Framing.the-variants.{Unstated, Stated, Chunked, Clashing}
+use Rattle.messages.specs.declared.Kind.the-variants as kind
+use Rattle.sound.specs.Placed.{Each}
+use Rattle.sound.specs.Refusal.{Refusal}
+use Rattle.sound.proofs.Each.{each-of}
+
+-- ---- verdicts of single parts
+
+-- one of the numbers that both forms have
+abbrev pub Common : ℕ → Type 0
+Common n = (2 ≤ n) × (n ≤ 8)
+
+-- a verdict is good, or such a number
+abbrev pub Verdict : ℕ → Type 0
+Verdict v = (v ≡ 0) ⊎ Common v
+
+verdict-if : (t : Bool) {x y : ℕ} → Verdict x → Verdict y → Verdict (cond t x y)
+verdict-if t {x} {y} f g = either Verdict t x y (λ a. f) (λ a. g)
+
+bad-syntax : Verdict badSyntax
+bad-syntax = inr (lit≤ tt, lit≤ tt)
+
+not-supported : Verdict notSupported
+not-supported = inr (lit≤ tt, lit≤ tt)
+
+bad-status : Verdict badStatus
+bad-status = inr (lit≤ tt, lit≤ tt)
+
+too-large : Verdict tooLarge
+too-large = inr (lit≤ tt, lit≤ tt)
+
+pub method-verdict : (m : List ℕ) → Verdict (methodVerdict m)
+unfolding methodVerdict
+method-verdict m =
+    verdict-if (isEmpty m) bad-syntax (verdict-if (all (hasClass token) m) (verdict-if (leb (length m) methodMost) (verdict-if (isUnsupported m) not-supported (inl refl)) too-large) bad-syntax)
+
+pub path-verdict : (p : List ℕ) → Verdict (pathVerdict p)
+unfolding pathVerdict
+path-verdict p =
+    verdict-if (isEmpty p) bad-syntax
+    (verdict-if (eqb (getD p 0 0) 47) (verdict-if (all (hasClass path) p) (verdict-if (leb (length p) pathMost) (inl refl) too-large) bad-syntax) not-supported)
+
+pub authority-verdict : (a : List ℕ) → Verdict (authorityVerdict a)
+unfolding authorityVerdict
+authority-verdict a = verdict-if (all (hasClass authority) a) (inl refl) bad-syntax
+
+pub status-verdict : (n : ℕ) → Verdict (statusVerdict n)
+unfolding statusVerdict
+status-verdict n = verdict-if (ltb n 100) bad-status (verdict-if (ltb 599 n) bad-status (verdict-if (eqb n 101) not-supported (inl refl)))
+
+-- a verdict that is not 0
+pub not-good : {v : ℕ} → Verdict v → (v ≡ 0 → ⊥) → Common v
+not-good (inl e) h = absurd (h e)
+not-good (inr g) h = g
+
+-- ---- the place that a head's length has: that of its line
+
+abbrev pub StatedIn : ℕ → Framing → Type 0
+StatedIn e Unstated = Unit {0}
+StatedIn e (Stated n p) = p ≤ e
+StatedIn e Chunked = Unit {0}
+StatedIn e Clashing = Unit {0}
+
+abbrev pub NamedIn : ℕ → FieldRead → Type 0
+NamedIn e f = f .name .place ≤ e
+
+length-in : (e p : ℕ) (n : Number) → p ≤ e → StatedIn e (lengthStated p n)
+length-in e p (Is n) h = h
+length-in e p Not h = tt
+
+framing-from : (e : ℕ) (fs cs : List FieldRead) → Each (NamedIn e) fs → StatedIn e (framingFrom fs cs)
+unfolding framingFrom
+framing-from e [] [] h = tt
+framing-from e [] (c ∷ []) h = either (StatedIn e) (sameText (map lowerOf (c .value .text)) (ascii "chunked")) Chunked Clashing (λ a. tt) (λ a. tt)
+framing-from e [] (c ∷ d ∷ cs) h = tt
+framing-from e (f ∷ []) [] h = length-in e (f .name .place) (numOf 10 (f .value .text)) (h .0)
+framing-from e (f ∷ []) (c ∷ cs) h = tt
+framing-from e (f ∷ g ∷ fs) cs h = tt
+
+pub framing-in : (e : ℕ) (fs : List FieldRead) → Each (NamedIn e) fs → StatedIn e (framingOf fs)
+unfolding framingOf
+framing-in e fs h = framing-from e (linesOf kind.ContentLength fs) (linesOf kind.TransferEncoding fs) (each-of (NamedIn e) kind.ContentLength fs h)
+
+-- ---- rules on a whole section, judged behind it
+
+-- a rule refuses the input s with nothing but numbers up to the form's last, at a place of the input
+abbrev pub Refuses : {X : Type 0} → ℕ → List ℕ → Judged X → Type 0
+Refuses last s j = Judges (Refusal last s) (λ x. Unit {0}) j
+
+module _ {last : ℕ} {s : List ℕ} (wide : 8 ≤ last) where
+  pub refusal : {n p : ℕ} → Common n → p ≤ length s → Refusal last s n p
+  refusal h i = record { some = h .0; ofForm = omega (arith, h .1); inside = i }
+
+module _ (last : ℕ) (s : List ℕ) (wide : 8 ≤ last) (end : ℕ) (inside : end ≤ length s) where
+  bad-length : Refusal last s badLength end
+  bad-length = refusal wide (lit≤ tt, lit≤ tt) inside
+
+  pub authority-judged : (a : Piece) (fs : List FieldRead) → Refuses last s (authorityIn end a fs)
+  unfolding authorityIn
+  authority-judged a fs = on (authorityFrom a (linesOf kind.Host fs))
+    where
+      on : (o : Option Piece) → Refuses last s (orBadHost end o)
+      on none = refusal wide (lit≤ tt, lit≤ tt) inside
+      on (some x) = tt
+
+  pub nothing-judged : (f : Framing) → Refuses last s (nothingStated end f)
+  unfolding nothingStated
+  nothing-judged Unstated = tt
+  nothing-judged (Stated n p) = bad-length
+  nothing-judged Chunked = bad-length
+  nothing-judged Clashing = bad-length
+
+  pub may-judged : (f : Framing) → Refuses last s (mayState end f)
+  unfolding mayState
+  may-judged Unstated = tt
+  may-judged (Stated n p) = tt
+  may-judged Chunked = tt
+  may-judged Clashing = bad-length
+
+  pub request-judged : (f : Framing) → StatedIn (length s) f → Refuses last s (requestBody end f)
+  unfolding requestBody
+  request-judged Unstated h = tt
+  request-judged (Stated n p) h =
+      either (Refuses last s) (leb n contentMost) (good (Sized n)) (wrong tooLarge p) (λ a. tt)
+      (λ a. refusal wide (lit≤ tt, lit≤ tt) h)
+  request-judged Chunked h = tt
+  request-judged Clashing h = bad-length
+
+  content-judged : (f : Framing) → StatedIn (length s) f → Refuses last s (contentBody end f)
+  unfolding contentBody
+  content-judged Unstated h = bad-length
+  content-judged (Stated n p) h = request-judged (Stated n p) h
+  content-judged Chunked h = request-judged Chunked h
+  content-judged Clashing h = request-judged Clashing h
+
+  pub response-judged : (n : ℕ) (f : Framing) → StatedIn (length s) f → Refuses last s (responseBody n end f)
+  unfolding responseBody
+  response-judged n f h =
+      either (Refuses last s) (isBodyless n) (nothingStated end f) (contentBody end f) (λ a. nothing-judged f) (λ a. content-judged f h)
