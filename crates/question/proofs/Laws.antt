@@ -10,20 +10,28 @@ use lib.ListN.{length, getD, take, drop}
 use Rattle.octets.specs.Text.{lowerOf, sameText}
 use Rattle.script.specs.Script.{Answer, accepted, refused, more}
 use Rattle.script.specs.Do.{Piece, piece}
+use Rattle.script.proofs.Places.{lies-in}
 use Rattle.output.specs.Splice.{part}
 use Rattle.output.proofs.Laws.{elements-take, elements-length}
 use Rattle.messages.specs.Message.{FieldRead, Start, requestStart, responseStart, isResponse, Message}
+use Rattle.messages.specs.Told.{Told}
 use Rattle.messages.specs.Names.{kept}
 use Rattle.messages.specs.Answers.{recordFrom, recordOf, informationalIn}
 use Rattle.messages.specs.declared.Record.{Record}
 use Rattle.messages.specs.declared.Outcome.{Outcome}
 use Rattle.messages.specs.declared.Outcome.the-variants as outcome
+use Rattle.sound.specs.Placed.{Each, OfLine, Lying}
+use Rattle.sound.specs.Sound.{Sound}
+use Rattle.http1.specs.Read.{readRequest, readResponse}
+use Rattle.http1_laws.proofs.Sound.{request-sound, response-sound}
+use Rattle.binary.specs.Read.{readBinary}
+use Rattle.binary_sound.proofs.Sound.{binary-sound}
 use Rattle.ranges.specs.Ranges.{Outcomed, Held}
 use Rattle.ranges.specs.Entries.{fieldIn, fieldsIn, fieldsBefore, EntryWithin}
-use Rattle.ranges.proofs.Entries.{FieldsAt, fields-are, fields-more, fields-none, held-parts, held-within}
+use Rattle.ranges.proofs.Entries.{FieldsAt, lies-is, fields-are, fields-more, fields-none, each-kept, held-parts, held-within}
 use Rattle.ranges.proofs.Outcomes.{IsHeld, given-refusal, given-more}
-use Rattle.turn.specs.Question.{firstOf, Question, questionOf}
-use Rattle.question.specs.Asking.{foundOf, askedOf, valuePart, foundIn, OutcomeWithin, askedFrom}
+use Rattle.turn.specs.Question.{firstOf, Question, questionOf, valueOr, requestQuestion, responseQuestion, binaryQuestion}
+use Rattle.question.specs.Asking.{foundOf, askedOf, valuePart, foundIn, OutcomeWithin, askedFrom, octetsOr, pointsTo, FoundWithin, Answered}
 use Rattle.question.specs.declared.Found.{Found}
 use Rattle.question.specs.declared.Found.the-variants as found
 use Rattle.question.specs.declared.Asked.{Asked}
@@ -95,3 +103,76 @@ module _ {x : Answer Message} {o : Outcome} (s : List ℕ) {hs ns cs ts : List �
       go (outcome.Message r) e = rw (held r e .2, held-headers (held r e .3))
       go (outcome.Refusal k p) e = rw (given-refusal h k p e)
       go outcome.More e = rw (given-more h e)
+
+-- ---- an answer as a slice: the part is cut out of s, or the default is given
+
+module _ (s default : List ℕ) (m d : ℕ × ℕ) {f : Found} where
+  pub cut-part : {a n : ℕ} → f ≡ found.Part a n → a + n ≤ length s → (take (a + n - a) (drop a s) ≡ octetsOr s default f) × ((m .0, a + m .1) ≡ pointsTo f m d)
+  cut-part {a} {n} e h = (rw (e, add-sub-cancel-left a n) (sym (elements-take 0 s a n h)), rw e)
+
+  pub cut-nothing : f ≡ found.Nothing → (default ≡ octetsOr s default f) × (d ≡ pointsTo f m d)
+  cut-nothing e = (rw e, rw e)
+
+-- ---- what is found is a part of the message
+
+-- the octets of a part stand at its place in s
+abbrev pub LiesIn : List ℕ → Option Piece → Type 0
+LiesIn s none = Unit {0}
+LiesIn s (some w) = Lying s w
+
+module _ (s name : List ℕ) where
+  first-lies : (fs : List FieldRead) → Each (OfLine (Lying s)) fs → LiesIn s (firstOf name fs)
+  unfolding firstOf
+  first-lies [] h = tt
+  first-lies (f ∷ fs) h = go (sameText (map lowerOf (f .name .text)) name) (first-lies fs (h .1))
+    where
+      go : (b : Bool) → LiesIn s (firstOf name fs) → LiesIn s (cond b (some (f .value)) (firstOf name fs))
+      go true ih = h .0 .value
+      go false ih = ih
+
+  question-lies : (n : ℕ) (x : Answer Message) → ((k : ℕ) (m : Message) → x ≡ accepted k m → Sound s m) → LiesIn s (questionOf name n x .found)
+  question-lies n (accepted k m) sound =
+      first-lies (kept (isResponse (m .start)) (m .lines)) (each-kept (OfLine (Lying s)) (isResponse (m .start)) (m .lines) (sound k m refl .placed .lines))
+  question-lies n (refused k p) sound = tt
+  question-lies n more sound = tt
+
+  pub request-lies : (t : Told) → LiesIn s (requestQuestion t name s .found)
+  unfolding requestQuestion
+  request-lies t = question-lies (length s) (readRequest t s) (λ n m e. request-sound t s n m e .sound)
+
+  pub response-lies : LiesIn s (responseQuestion name s .found)
+  unfolding responseQuestion
+  response-lies = question-lies (length s) (readResponse s) (λ n m e. response-sound s n m e .sound)
+
+  pub binary-lies : LiesIn s (binaryQuestion name s .found)
+  unfolding binaryQuestion
+  binary-lies = question-lies (length s) (readBinary s) (λ n m e. binary-sound s n m e .sound)
+
+module _ (s : List ℕ) {a : Asked} (q : Question) (e : a ≡ askedOf q) (l : LiesIn s (q .found)) where
+  found-is : a .found ≡ foundOf (q .found)
+  unfolding askedOf
+  found-is = rw e
+
+  pub found-within : FoundWithin s (a .found)
+  found-within = record { part = λ i n h. go (q .found) l i n (sym found-is ∙ h) }
+    where
+      go : (f : Option Piece) → LiesIn s f → (i n : ℕ) → foundOf f ≡ found.Part i n → i + n ≤ length s
+      go none y i n h = let z : _≡_ {A = ℕ} 0 1 = cc in absurd (omega arith)
+      go (some w) y i n h =
+          let u : w .place ≡ i = cc in
+          let v : length (w .text) ≡ n = cc in
+          omega (arith, lies-in y, u, v)
+
+  pub answered : {default octets : List ℕ} {message-at default-at at : ℕ × ℕ} {n p : ℕ} → octets ≡ octetsOr s default (a .found)
+      → at ≡ pointsTo (a .found) message-at default-at → n ≡ a .number → p ≡ a .place → Answered q default message-at default-at octets at n p
+  unfolding askedOf
+  answered {default} v w n p = record {
+    value = v ∙ ap (octetsOr s default) found-is ∙ go (q .found) l;
+    slice = rw found-is at w;
+    number = n ∙ rw e;
+    place = p ∙ rw e;
+  }
+    where
+      go : (f : Option Piece) → LiesIn s f → octetsOr s default (foundOf f) ≡ valueOr default f
+      go none y = refl
+      go (some z) y = lies-is y

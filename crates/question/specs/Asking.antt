@@ -7,6 +7,7 @@ use lib.ListN.{length, getD}
 use Rattle.octets.specs.Refusals.{moreNeeded}
 use Rattle.octets.specs.Limits.{informationalMost}
 use Rattle.script.specs.Do.{Piece}
+use Rattle.output.specs.Splice.{part}
 use Rattle.messages.specs.Message.{FieldRead}
 use Rattle.messages.specs.declared.Record.{Record}
 use Rattle.messages.specs.declared.Outcome.{Outcome}
@@ -50,3 +51,26 @@ abbrev pub askedFrom : List ℕ → List ℕ → Outcome → List ℕ → List �
 askedFrom name s (outcome.Message r) hs ns = record { found = foundIn name s hs (fieldsBefore ns (r .informational)) (r .headers); number = 0; place = 0 }
 askedFrom name s (outcome.Refusal k p) hs ns = record { found = found.Nothing; number = k; place = p }
 askedFrom name s outcome.More hs ns = record { found = found.Nothing; number = moreNeeded; place = length s }
+
+-- ---- the answer as a slice
+
+-- the octets of what was found in s, or the default
+abbrev pub octetsOr : List ℕ → List ℕ → Found → List ℕ
+octetsOr s default (found.Part a n) = part s a n
+octetsOr s default found.Nothing = default
+
+-- where the slice stands in memory, as block and offset: where the part of the message does, or the default
+abbrev pub pointsTo : Found → ℕ × ℕ → ℕ × ℕ → ℕ × ℕ
+pointsTo (found.Part a n) message default = (message .0, a + message .1)
+pointsTo found.Nothing message default = default
+
+-- a part that was found lies within s
+pub record FoundWithin (s : List ℕ) (f : Found) : Type 0 where
+  pub part : (a n : ℕ) → f ≡ found.Part a n → a + n ≤ length s
+
+-- a call's answer to the question q, where the message and the default stand in memory as told: the octets of the slice, where it stands, number and place
+pub record Answered (q : Question) (default : List ℕ) (message-at default-at : ℕ × ℕ) (octets : List ℕ) (at : ℕ × ℕ) (n p : ℕ) : Type 0 where
+  pub value : octets ≡ valueOr default (q .found)
+  pub slice : at ≡ pointsTo (foundOf (q .found)) message-at default-at
+  pub number : n ≡ q .number
+  pub place : p ≡ q .place

@@ -11,12 +11,13 @@ use readers::response::response_in;
 ghost use mathlib.Core.Path.{_≡_};
 ghost use mathlib.Core.List.{map};
 ghost use Prim.Native.Nat.{_+_, _*_, _≤_};
+ghost use denote.Ref.{ptr};
 ghost use lib.ListN.{length};
 ghost use Rattle.octets.specs.Text.{lowerOf, sameText};
 ghost use Rattle.ranges.specs.Entries.{fieldIn, EntryWithin, FieldsWithin};
 ghost use Rattle.readers.specs.Readers.{told};
 ghost use Rattle.turn.specs.Question.{requestQuestion, responseQuestion, binaryQuestion};
-ghost use Rattle.question.specs.Asking.{askedOf, valuePart, foundIn, OutcomeWithin, askedFrom};
+ghost use Rattle.question.specs.Asking.{askedOf, valuePart, foundIn, OutcomeWithin, askedFrom, octetsOr, pointsTo, FoundWithin, Answered};
 
 // A value that was found, as a part of the message, or nothing: the default is meant then.
 pub enum Found {
@@ -132,4 +133,71 @@ pub fn binary_found(s: &[u8], name: &[u8]) -> Asked
     let mut trailers = [0u32; 256];
     let o = binary_in(&t, s, &mut headers, &mut heads, &mut chunks, &mut trailers);
     asked_from(s, o, &headers, &heads, name)
+}
+
+// What an answer stands for: the part of s, or the default. The lent number and place are the answer's afterwards.
+fn field_or<'a>(
+    s: &'a [u8],
+    a: Asked,
+    default: &'a [u8],
+    number: &mut u32,
+    place: &mut usize,
+) -> &'a [u8]
+    requires { ⌜ FoundWithin (now s) (a .found) ⌝ }
+    ensures { λ r. ⌜ now r ≡ octetsOr (now (s .entry)) (now («default» .entry)) (a .found) ⌝ }
+    ensures { λ r. ⌜ ptr r ≡ pointsTo (a .found) (ptr (s .entry)) (ptr («default» .entry)) ⌝ }
+    ensures { λ r. ⌜ now (number .exit) ≡ a .number ⌝ }
+    ensures { λ r. ⌜ now (place .exit) ≡ a .place ⌝ }
+{
+    *number = a.number;
+    *place = a.place;
+    let found = a.found;
+    match found {
+        Found::Part { start, len } => &s[start..start + len],
+        Found::Nothing => default,
+    }
+}
+
+// The first kept header value of the name in the first HTTP/1.1 request of s, under the scheme told, as the part of s that it is, or the default; the lent number
+// and place receive the message's refusal, or 0 and 0.
+pub fn request_field<'a>(
+    s: &'a [u8],
+    scheme: u32,
+    name: &[u8],
+    default: &'a [u8],
+    number: &mut u32,
+    place: &mut usize,
+) -> &'a [u8]
+    ensures { λ r. ⌜ Answered (requestQuestion (told scheme) (now (name .entry)) (now (s .entry))) (now («default» .entry)) (ptr (s .entry)) (ptr («default» .entry)) (now r) (ptr r) (now (number .exit)) (now (place .exit)) ⌝ }
+{
+    let a = request_found(s, scheme, name);
+    field_or(s, a, default, number, place)
+}
+
+// The same for the final head of the first HTTP/1.1 response of s.
+pub fn response_field<'a>(
+    s: &'a [u8],
+    name: &[u8],
+    default: &'a [u8],
+    number: &mut u32,
+    place: &mut usize,
+) -> &'a [u8]
+    ensures { λ r. ⌜ Answered (responseQuestion (now (name .entry)) (now (s .entry))) (now («default» .entry)) (ptr (s .entry)) (ptr («default» .entry)) (now r) (ptr r) (now (number .exit)) (now (place .exit)) ⌝ }
+{
+    let a = response_found(s, name);
+    field_or(s, a, default, number, place)
+}
+
+// The same for the Binary message that s is.
+pub fn binary_field<'a>(
+    s: &'a [u8],
+    name: &[u8],
+    default: &'a [u8],
+    number: &mut u32,
+    place: &mut usize,
+) -> &'a [u8]
+    ensures { λ r. ⌜ Answered (binaryQuestion (now (name .entry)) (now (s .entry))) (now («default» .entry)) (ptr (s .entry)) (ptr («default» .entry)) (now r) (ptr r) (now (number .exit)) (now (place .exit)) ⌝ }
+{
+    let a = binary_found(s, name);
+    field_or(s, a, default, number, place)
 }
