@@ -11,6 +11,8 @@ mod binary;
 mod fixed;
 #[path = "generate/messages.rs"]
 mod messages;
+#[path = "generate/questions.rs"]
+mod questions;
 #[path = "reference/mod.rs"]
 mod reference;
 #[path = "generate/streams.rs"]
@@ -166,33 +168,6 @@ fn turn_case(maker: &mut Maker) -> String {
     turn_line(turn, scheme, room, &input)
 }
 
-fn field_case(maker: &mut Maker) -> String {
-    maker.calm = !maker.random.chance(3);
-    let form = maker.random.below(3);
-    let input = match form {
-        0 => maker.request_input(),
-        1 => maker.response_input(),
-        _ => maker.binary_input(),
-    };
-    maker.calm = false;
-    let name = match maker.random.below(12) {
-        0 => Vec::new(),
-        1 => b"host".to_vec(),
-        2 => maker.random.pick(&["content-length", "te", "connection", "transfer-encoding", "upgrade", "keep-alive"]).as_bytes().to_vec(),
-        3 => maker.random.pick(&["Accept", "X-A", "A", "Cookie"]).as_bytes().to_vec(),
-        4 => maker.random.pick(&["x-", "accep", "accept ", "x-a:", "\u{0}", "b"]).as_bytes().to_vec(),
-        _ => maker.common_name().as_bytes().to_vec(),
-    };
-    let size = if maker.random.chance(200) { 5_000 } else { maker.random.below(9) };
-    let default: Vec<u8> = (0..size).map(|_| maker.random.octet()).collect();
-    let (name, default, input_hex) = (hex(&name), hex(&default), hex(&input));
-    match form {
-        0 => format!("field_h1req {} {} {} {}", scheme(&mut maker.random), name, default, input_hex),
-        1 => format!("field_h1resp {} {} {}", name, default, input_hex),
-        _ => format!("field_bin {} {} {}", name, default, input_hex),
-    }
-}
-
 fn usage() -> ! {
     eprintln!("usage: generate h1|binary|turn|field|stream|all COUNT SEED | generate fixed 0 0 [h1|binary|turn|field|stream]");
     std::process::exit(2);
@@ -227,14 +202,14 @@ fn main() {
         "h1" => h1_case,
         "binary" => binary_case,
         "turn" => turn_case,
-        "field" => field_case,
+        "field" => questions::case,
         "stream" => streams::case,
         "all" => |maker| match maker.random.below(20) {
             0..=7 => h1_case(maker),
             8..=11 => binary_case(maker),
             12..=16 => turn_case(maker),
             17 => streams::case(maker),
-            _ => field_case(maker),
+            _ => questions::case(maker),
         },
         _ => usage(),
     };

@@ -1,4 +1,3 @@
-#![allow(dead_code)] // helpers of commands whose entries come later
 //! `probe`: speaks the comparing protocol over the proved static library, through the C interface of include/ospirnar.h.
 //!
 //! Build: rustc -O -L native=target/staticlib -o target/compare/probe compare/probe.rs      (compare/build does it)
@@ -11,7 +10,6 @@
 //!                          with one element too few the call was not 13 at 0 that leaves all as it was
 //!   {"error":"room"}       with exactly enough space, or a refusal with none, the call answered something else
 //!   {"error":"range"}      a number that the header rules out: a part outside the input, a count above its size
-//!   {"error":"not built"}  a command whose entry is not in the header yet
 
 use std::io::{self, BufRead, BufReader, BufWriter, Write};
 
@@ -28,6 +26,15 @@ mod entries {
         pub fn ospirnar_response_to_binary(input: *const u8, input_len: usize, out: *mut u8, out_len: usize, place: *mut usize) -> u32;
         pub fn ospirnar_binary_to_binary(input: *const u8, input_len: usize, out: *mut u8, out_len: usize, place: *mut usize) -> u32;
         pub fn ospirnar_binary_to_http1(input: *const u8, input_len: usize, scheme: u32, out: *mut u8, out_len: usize, place: *mut usize) -> u32;
+        pub fn ospirnar_request_field(
+            input: *const u8, input_len: usize, scheme: u32, name: *const u8, name_len: usize, number: *mut u32, place: *mut usize, start: *mut usize, length: *mut usize,
+        ) -> u32;
+        pub fn ospirnar_response_field(
+            input: *const u8, input_len: usize, name: *const u8, name_len: usize, number: *mut u32, place: *mut usize, start: *mut usize, length: *mut usize,
+        ) -> u32;
+        pub fn ospirnar_binary_field(
+            input: *const u8, input_len: usize, name: *const u8, name_len: usize, number: *mut u32, place: *mut usize, start: *mut usize, length: *mut usize,
+        ) -> u32;
         pub fn ospirnar_listing(input: *const u8, input_len: usize, output: *mut u8, output_len: usize, place: *mut usize) -> u32;
     }
 }
@@ -47,6 +54,27 @@ fn ask(call: impl FnOnce(*mut usize) -> u32) -> Answer {
     let mut place = 0xAAAA_AAAA_AAAA_AAAA;
     let number = call(&mut place);
     Answer { number, place }
+}
+
+/// What a field entry returned, and what it left in the four lent numbers.
+struct Asked {
+    found: u32,
+    message: Answer,
+    start: usize,
+    len: usize,
+}
+
+/// A call with four numbers to write to, each between two that are not lent and stay as they were.
+fn inquire(call: impl FnOnce(*mut u32, *mut usize, *mut usize, *mut usize) -> u32) -> Result<Asked, &'static str> {
+    const FILL: usize = 0xAAAA_AAAA_AAAA_AAAA;
+    let mut number = [FILL as u32; 3];
+    let (mut place, mut start, mut len) = ([FILL; 3], [FILL; 3], [FILL; 3]);
+    let found = call(&mut number[1], &mut place[1], &mut start[1], &mut len[1]);
+    let kept = [place, start, len].iter().all(|lent| lent[0] == FILL && lent[2] == FILL);
+    if !kept || number[0] != FILL as u32 || number[2] != FILL as u32 {
+        return Err("altered");
+    }
+    Ok(Asked { found, message: Answer { number: number[1], place: place[1] }, start: start[1], len: len[1] })
 }
 
 fn read_request(input: &[u8], scheme: u32, ranges: &mut Lent<u32>) -> Answer {
@@ -82,6 +110,18 @@ fn binary_to_binary(input: &[u8], out: &mut Lent<u8>) -> Answer {
 fn binary_to_http1(input: &[u8], scheme: u32, out: &mut Lent<u8>) -> Answer {
     let (pointer, room) = out.lend();
     ask(|place| unsafe { entries::ospirnar_binary_to_http1(input.as_ptr(), input.len(), scheme, pointer, room, place) })
+}
+
+fn request_field(input: &[u8], scheme: u32, name: &[u8]) -> Result<Asked, &'static str> {
+    inquire(|n, p, s, l| unsafe { entries::ospirnar_request_field(input.as_ptr(), input.len(), scheme, name.as_ptr(), name.len(), n, p, s, l) })
+}
+
+fn response_field(input: &[u8], name: &[u8]) -> Result<Asked, &'static str> {
+    inquire(|n, p, s, l| unsafe { entries::ospirnar_response_field(input.as_ptr(), input.len(), name.as_ptr(), name.len(), n, p, s, l) })
+}
+
+fn binary_field(input: &[u8], name: &[u8]) -> Result<Asked, &'static str> {
+    inquire(|n, p, s, l| unsafe { entries::ospirnar_binary_field(input.as_ptr(), input.len(), name.as_ptr(), name.len(), n, p, s, l) })
 }
 
 fn listing(input: &[u8], output: &mut Lent<u8>) -> Answer {
@@ -419,6 +459,17 @@ fn write_hex(room: usize, call: impl Fn(&mut Lent<u8>) -> Answer) -> Result<Stri
     Ok(out)
 }
 
+/// The field question's answer, on an input and a default of these lengths.
+fn field(input: usize, default: usize, asked: Asked) -> Result<String, &'static str> {
+    let Asked { found, message, start, len } = asked;
+    let (from, len) = match found {
+        1 if message == (Answer { number: 0, place: 0 }) && start <= input && len <= input - start => ("message", len),
+        0 if start == 0 && len == 0 => ("default", default),
+        _ => return Err("range"),
+    };
+    Ok(format!("{{\"at\":{},\"from\":\"{}\",\"len\":{},\"n\":{},\"start\":{}}}", message.place, from, len, message.number, start))
+}
+
 /// Calls of bin2h1 one behind the other in one space, and what the request reader takes off then, with `tail` behind.
 fn stream(told: u32, room: usize, tail: &[u8], inputs: &[Vec<u8>]) -> Result<String, &'static str> {
     let mut space = output(room);
@@ -592,12 +643,10 @@ fn listing_room(input: &[u8]) -> usize {
     256 + 2 * input.len()
 }
 
-const NOT_BUILT: Result<String, &'static str> = Err("not built");
-
 /// The answer to one command line; None if it is no command.
 ///
-/// To build one: declare its entry in `entries`, give it a safe function beside the others, and let its arm here return `read` or
-/// `write_hex` of it, as the first three do. Then name its set in compare/run.
+/// To build one: declare its entry in `entries`, give it a safe function beside the others, and let its arm here return `read`,
+/// `write_hex` or `field` of it. Then name it and its set in compare/run.
 fn command(line: &[u8]) -> Option<Result<String, &'static str>> {
     let words: Vec<&[u8]> = line.split(|&b| b == b' ').collect();
     Some(match (words[0], &words[1..]) {
@@ -639,16 +688,16 @@ fn command(line: &[u8]) -> Option<Result<String, &'static str>> {
             stream(told, space, &tail, &inputs)
         }
         (b"field_h1req", [told, name, default, input]) => {
-            (scheme(told)?, octets(name)?, octets(default)?, octets(input)?);
-            NOT_BUILT
+            let (told, name, default, input) = (scheme(told)?, octets(name)?, octets(default)?, octets(input)?);
+            request_field(&input, told, &name).and_then(|asked| field(input.len(), default.len(), asked))
         }
         (b"field_h1resp", [name, default, input]) => {
-            (octets(name)?, octets(default)?, octets(input)?);
-            NOT_BUILT
+            let (name, default, input) = (octets(name)?, octets(default)?, octets(input)?);
+            response_field(&input, &name).and_then(|asked| field(input.len(), default.len(), asked))
         }
         (b"field_bin", [name, default, input]) => {
-            (octets(name)?, octets(default)?, octets(input)?);
-            NOT_BUILT
+            let (name, default, input) = (octets(name)?, octets(default)?, octets(input)?);
+            binary_field(&input, &name).and_then(|asked| field(input.len(), default.len(), asked))
         }
         _ => return None,
     })

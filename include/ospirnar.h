@@ -4,7 +4,7 @@
  * (any such pointer serves then). Nothing lent for writing overlaps anything else that is lent to the same call. The caller owns all that it lends; no
  * call keeps a pointer.
  *
- * Answers. A call returns a number: 0 accepted, 1 more octets are needed, 2 and above a refusal (document 01, "Numbers a call answers with").
+ * Answers. A call, but for the field question, returns a number: 0 accepted, 1 more octets are needed, 2 and above a refusal (document 01, "Numbers a call answers with").
  * *place is always written: the message's length where it is accepted, the input's length for 1, the refusal's place otherwise. A refusal and a call
  * for more alter none of the other lent elements.
  *
@@ -70,6 +70,24 @@ uint32_t ospirnar_binary_to_http1(const uint8_t *input, size_t input_len, uint32
 /* The listing of an HTTP/1.1 request stream under http, as the listing program prints it, into `output`; *place is its length. All behind it stays as
  * it was. 13 at 0 where it does not fit; nothing else is refused. */
 uint32_t ospirnar_listing(const uint8_t *input, size_t input_len, uint8_t *output, size_t output_len, size_t *place);
+
+/* The field question: the first header field of the message that travels and whose name is `name`, of the final head in a response. `name` is in lower case; the message's
+ * names are compared in lower case, so that a `name` with a capital letter, and an empty one, find nothing.
+ *
+ * 1: its value is a part of the input, *start and *length say which (a length of 0 is an empty value that was found). 0: there is none, so the caller's default is
+ * meant; *start and *length are 0. A slice can't be handed back to C: start and length stand for it, and the default stays with the caller.
+ * *number and *place are those of the reader of that form: 0 and 0 for an accepted message, found or not; 1 and the input's length where more octets are needed, and the
+ * number and place of a refusal, with the answer 0. All four are always written; nothing else is. */
+
+/* To the first HTTP/1.1 request of a stream, under the scheme told (0 http, 1 https; another number is 4 at 0). */
+uint32_t ospirnar_request_field(const uint8_t *input, size_t input_len, uint32_t scheme, const uint8_t *name, size_t name_len, uint32_t *number, size_t *place,
+                                size_t *start, size_t *length);
+
+/* To the first HTTP/1.1 response of a stream. */
+uint32_t ospirnar_response_field(const uint8_t *input, size_t input_len, const uint8_t *name, size_t name_len, uint32_t *number, size_t *place, size_t *start, size_t *length);
+
+/* To a Binary HTTP message: the whole input. */
+uint32_t ospirnar_binary_field(const uint8_t *input, size_t input_len, const uint8_t *name, size_t name_len, uint32_t *number, size_t *place, size_t *start, size_t *length);
 
 #ifdef __cplusplus
 }

@@ -3,6 +3,7 @@
 
 use crate::binary;
 use crate::messages::push_form;
+use crate::questions;
 use crate::reference::figures::*;
 use crate::streams;
 use crate::{hex, needed, turn_line, Turn};
@@ -25,6 +26,7 @@ pub fn cases() -> Vec<String> {
     told_schemes(&mut out);
     binary::cases(&mut out);
     streams::cases(&mut out);
+    questions::cases(&mut out);
     no_commands(&mut out);
     out.lines
 }

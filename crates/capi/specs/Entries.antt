@@ -15,6 +15,9 @@ use Rattle.messages.specs.Answers.{chunksNumbers, informationalNumbers, informa
 use Rattle.messages.specs.declared.Part.{Part}
 use Rattle.messages.specs.declared.Record.{Record}
 use Rattle.ranges.specs.Ranges.{headNumbers, trailerNumbers}
+use Rattle.question.specs.declared.Found.{Found}
+use Rattle.question.specs.declared.Found.the-variants as found
+use Rattle.question.specs.declared.Asked.{Asked}
 
 -- place and length of a part
 abbrev pub partNumbers : Part → List ℕ
@@ -87,3 +90,26 @@ pub record EntryServed (y : Reply) (o o′ : List ℕ) (place number : ℕ) : Ty
   pub answers : number ≡ writtenNumber (answerOf y (length o))
   pub places : place ≡ writtenPlace (answerOf y (length o))
   pub after : o′ ≡ afterOf y o
+
+-- ---- the answer of a field entry; C can't be handed a slice back, so start and length stand for the part of the message
+
+-- whether a part was found (1) or the default is meant (0), and its start and length, 0 and 0 for the default
+abbrev pub fieldAnswer : Found → ℕ
+fieldAnswer (found.Part a n) = 1
+fieldAnswer found.Nothing = 0
+
+abbrev pub fieldStart : Found → ℕ
+fieldStart (found.Part a n) = a
+fieldStart found.Nothing = 0
+
+abbrev pub fieldLength : Found → ℕ
+fieldLength (found.Part a n) = n
+fieldLength found.Nothing = 0
+
+-- the five together, where the inner call answers a
+pub record FieldEntered (a : Asked) (number place start len answer : ℕ) : Type 0 where
+  pub answers : answer ≡ fieldAnswer (a .found)
+  pub starts : start ≡ fieldStart (a .found)
+  pub lengths : len ≡ fieldLength (a .found)
+  pub numbers : number ≡ a .number
+  pub places : place ≡ a .place

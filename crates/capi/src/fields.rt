@@ -1,0 +1,87 @@
+// The field question's entries. C can't be handed a slice back, so start and length stand for the part of the message that the inner call's slice would be.
+use question::Asked;
+use question::Found;
+use question::binary_found;
+use question::request_found;
+use question::response_found;
+ghost use mathlib.Core.Path.{_≡_};
+ghost use Rattle.readers.specs.Readers.{told};
+ghost use Rattle.turn.specs.Question.{requestQuestion, responseQuestion, binaryQuestion};
+ghost use Rattle.question.specs.Asking.{askedOf};
+ghost use Rattle.capi.specs.Entries.{FieldEntered};
+
+// 1 with start and length of the part that was found, or 0 with 0 and 0; number and place as they were answered.
+fn give_field(
+    a: Asked,
+    number: &mut u32,
+    place: &mut usize,
+    start: &mut usize,
+    len: &mut usize,
+) -> u32
+    ensures { λ r. ⌜ FieldEntered a (now (number .exit)) (now (place .exit)) (now (start .exit)) (now (len .exit)) r ⌝ }
+{
+    *number = a.number;
+    *place = a.place;
+    let found = a.found;
+    match found {
+        Found::Part { start: i, len: n } => {
+            *start = i;
+            *len = n;
+            return 1;
+        }
+        Found::Nothing => {
+            *start = 0;
+            *len = 0;
+            return 0;
+        }
+    }
+}
+
+// The first kept header value of the name in the first HTTP/1.1 request of a stream, under the scheme told.
+#[no_mangle]
+pub extern "C" fn ospirnar_request_field(
+    input: &[u8],
+    scheme: u32,
+    name: &[u8],
+    number: &mut u32,
+    place: &mut usize,
+    start: &mut usize,
+    len: &mut usize,
+) -> u32
+    ensures { λ r. ⌜ FieldEntered (askedOf (requestQuestion (told scheme) (now (name .entry)) (now (input .entry)))) (now (number .exit)) (now (place .exit)) (now (start .exit)) (now (len .exit)) r ⌝ }
+{
+    let a = request_found(input, scheme, name);
+    give_field(a, number, place, start, len)
+}
+
+// The first kept header value of the name in the final head of the first HTTP/1.1 response of a stream.
+#[no_mangle]
+pub extern "C" fn ospirnar_response_field(
+    input: &[u8],
+    name: &[u8],
+    number: &mut u32,
+    place: &mut usize,
+    start: &mut usize,
+    len: &mut usize,
+) -> u32
+    ensures { λ r. ⌜ FieldEntered (askedOf (responseQuestion (now (name .entry)) (now (input .entry)))) (now (number .exit)) (now (place .exit)) (now (start .exit)) (now (len .exit)) r ⌝ }
+{
+    let a = response_found(input, name);
+    give_field(a, number, place, start, len)
+}
+
+// The first kept header value of the name in a Binary message: the whole input.
+#[no_mangle]
+pub extern "C" fn ospirnar_binary_field(
+    input: &[u8],
+    name: &[u8],
+    number: &mut u32,
+    place: &mut usize,
+    start: &mut usize,
+    len: &mut usize,
+) -> u32
+    ensures { λ r. ⌜ FieldEntered (askedOf (binaryQuestion (now (name .entry)) (now (input .entry)))) (now (number .exit)) (now (place .exit)) (now (start .exit)) (now (len .exit)) r ⌝ }
+{
+    let a = binary_found(input, name);
+    give_field(a, number, place, start, len)
+}
