@@ -1,5 +1,5 @@
 -- The first field of a name by the numbers of its entry, and the answer from a reader's outcome.
-use Prim.Native.Nat.{ℕ, zero, suc, _+_, _-_, _*_, _<_, _≤_}
+use Prim.Native.Nat.{ℕ, _+_, _-_, _*_, _<_, _≤_}
 use mathlib.Core.Path.{_≡_, refl, sym, ap, _∙_}
 use mathlib.Core.Bool.{Bool, true, false, cond}
 use mathlib.Core.Option.{Option, none, some}
@@ -9,9 +9,8 @@ use native.Mathlib.Omega.{arith}
 use lib.ListN.{length, getD, take, drop}
 use Rattle.octets.specs.Text.{lowerOf, sameText}
 use Rattle.script.specs.Script.{Answer, accepted, refused, more}
-use Rattle.script.specs.Do.{Piece, piece}
+use Rattle.script.specs.Do.{Piece}
 use Rattle.script.proofs.Places.{lies-in}
-use Rattle.output.specs.Splice.{part}
 use Rattle.output.proofs.Laws.{elements-take, elements-length}
 use Rattle.messages.specs.Message.{FieldRead, Start, requestStart, responseStart, isResponse, Message}
 use Rattle.messages.specs.Told.{Told}

@@ -8,7 +8,6 @@ use Rattle.octets.specs.Refusals.{moreNeeded}
 use Rattle.octets.specs.Limits.{informationalMost}
 use Rattle.script.specs.Do.{Piece}
 use Rattle.output.specs.Splice.{part}
-use Rattle.messages.specs.Message.{FieldRead}
 use Rattle.messages.specs.declared.Record.{Record}
 use Rattle.messages.specs.declared.Outcome.{Outcome}
 use Rattle.messages.specs.declared.Outcome.the-variants as outcome
