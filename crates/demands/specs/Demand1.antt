@@ -41,7 +41,7 @@ pub record ReadNumbers (last : ℕ) (read : List ℕ → Answer Message) : Type 
 
 -- ---- turning
 
--- the last of all numbers: a turning may answer with any, 13 and 14 too
+-- the last of all numbers: turning adds 13 and 14 to those of reading
 abbrev pub turnLast : ℕ
 turnLast = 14
 
@@ -56,6 +56,7 @@ pub record TurnNumbers (turn : List ℕ → Reply) : Type 0 where
 
 -- ---- the claim
 
+-- demand 1 on refusals: of each reader and each turning
 pub record Demand1 : Type 0 where
   -- the readers of HTTP/1.1, under whatever scheme is told: 2 to 8
   pub requests : (t : Told) → ReadNumbers 8 (readRequest t)
