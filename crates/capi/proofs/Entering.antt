@@ -11,7 +11,7 @@ use Rattle.messages.specs.Names.{kept, keptTrailers}
 use Rattle.messages.specs.Answers.{fieldsNumbers, chunksNumbers, informationalNumbers, informationalLines, informationalIn, padded, recordOf}
 use Rattle.messages.specs.declared.Record.{Record}
 use Rattle.ranges.proofs.Stored.{numbers-length}
-use Rattle.ranges.proofs.Outcomes.{Given, front-part, record-length, record-chunks, record-trailers}
+use Rattle.ranges.proofs.Outcomes.{Given, front-part, record-chunks, record-trailers}
 use Rattle.ranges.proofs.Stored.{chunks-length}
 use Rattle.capi.specs.Entries.{recordNumbers, entryNumbers, Entered, Numbered}
 
@@ -34,7 +34,7 @@ module _ {x : Answer Message} {hs hs′ cs cs′ ts ts′ : List ℕ} {r : Recor
       rw (g .pieces) (front-part cs (chunksNumbers (g .message .chunks)) (r .chunks * 2) (chunks-length (g .message .chunks) ∙ ap (λ (k : ℕ). k * 2) (sym kc)) hc) in
       let c : part ts′ 0 (r .trailers * 4) ≡ fieldsNumbers (keptTrailers (g .message .trailers)) =
       rw (g .trailers) (front-part ts (fieldsNumbers (keptTrailers (g .message .trailers))) (r .trailers * 4) (numbers-length (keptTrailers (g .message .trailers)) ∙ ap (λ (k : ℕ). k * 4) (sym kt)) ht) in
-      let l : r .length ≡ g .long = ap (λ (q : Record). q .length) (g .numbers) ∙ record-length (g .long) (g .message) in
+      let l : r .length ≡ recordOf (g .long) (g .message) .length = ap (λ (q : Record). q .length) (g .numbers) in
       let n : recordNumbers r ≡ recordNumbers (recordOf (g .long) (g .message)) = ap recordNumbers (g .numbers) in
       let e : (recordNumbers r ++ part heads 0 8) ++ (part hs′ 0 (f * 4) ++ part cs′ 0 (r .chunks * 2) ++ part ts′ 0 (r .trailers * 4)) ≡ entryNumbers (g .long) (g .message) =
       ap₂ (λ (u v : List ℕ). u ++ v) (ap₂ (λ (u v : List ℕ). u ++ v) n eh) (ap₂ (λ (u v : List ℕ). u ++ v) (ap₂ (λ (u v : List ℕ). u ++ v) a b) c) in

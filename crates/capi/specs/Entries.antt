@@ -6,12 +6,12 @@ use mathlib.Core.Bool.{Bool, true, false, cond}
 use mathlib.Core.List.{List, [], _∷_, _++_}
 use lib.Dec.{leb}
 use lib.ListN.{length, getD, replicate}
-use Rattle.octets.specs.Refusals.{moreNeeded, noRoom}
+use Rattle.octets.specs.Refusals.{noRoom}
 use Rattle.script.specs.Script.{Answer, accepted, refused, more}
 use Rattle.output.specs.Splice.{splice}
 use Rattle.output.specs.Reply.{Reply, answerOf, afterOf, writtenNumber, writtenPlace}
 use Rattle.messages.specs.Message.{Message}
-use Rattle.messages.specs.Answers.{chunksNumbers, informationalNumbers, informationalIn, padded, recordOf}
+use Rattle.messages.specs.Answers.{chunksNumbers, informationalNumbers, informationalIn, padded, recordOf, readingOf, numberOf, placeOf}
 use Rattle.messages.specs.declared.Part.{Part}
 use Rattle.messages.specs.declared.Record.{Record}
 use Rattle.ranges.specs.Ranges.{headNumbers, trailerNumbers}
@@ -43,17 +43,19 @@ entryNumbers n m =
 
 -- ---- the answer of a reading entry that was lent ranges o, on an input of so many octets
 
--- 13 at 0 where the numbers do not fit, behind the reader's own refusal
-abbrev pub entryNumber : List ℕ → Answer Message → ℕ
-entryNumber o (accepted n m) = cond (leb (length (entryNumbers n m)) (length o)) 0 noRoom
-entryNumber o (refused k p) = k
-entryNumber o more = moreNeeded
+-- whether what describes the message fits into the lent ranges; a refusal and a call for more describe none
+abbrev pub entryFits : List ℕ → Answer Message → Bool
+entryFits o (accepted n m) = leb (length (entryNumbers n m)) (length o)
+entryFits o (refused k p) = true
+entryFits o more = true
 
--- the message's length, or the refusal's place
+-- 01's number for the reader's outcome; 13 where the numbers do not fit
+abbrev pub entryNumber : List ℕ → Answer Message → ℕ
+entryNumber o x = cond (entryFits o x) (numberOf (readingOf x .outcome)) noRoom
+
+-- the message's length, or the refusal's place; 0 where the numbers do not fit
 abbrev pub entryPlace : List ℕ → ℕ → Answer Message → ℕ
-entryPlace o input (accepted n m) = cond (leb (length (entryNumbers n m)) (length o)) n 0
-entryPlace o input (refused k p) = p
-entryPlace o input more = input
+entryPlace o input x = cond (entryFits o x) (placeOf input (readingOf x .outcome)) 0
 
 -- the ranges afterwards: a refusal and a call for more alter none
 abbrev pub entryAfter : List ℕ → Answer Message → List ℕ
@@ -93,15 +95,17 @@ pub record EntryServed (y : Reply) (o o′ : List ℕ) (place number : ℕ) : Ty
 
 -- ---- the answer of a field entry; C can't be handed a slice back, so start and length stand for the part of the message
 
--- whether a part was found (1) or the default is meant (0), and its start and length, 0 and 0 for the default
+-- whether a part was found (1) or the default is meant (0)
 abbrev pub fieldAnswer : Found → ℕ
 fieldAnswer (found.Part a n) = 1
 fieldAnswer found.Nothing = 0
 
+-- where the part starts, 0 for the default
 abbrev pub fieldStart : Found → ℕ
 fieldStart (found.Part a n) = a
 fieldStart found.Nothing = 0
 
+-- how long it is, 0 for the default
 abbrev pub fieldLength : Found → ℕ
 fieldLength (found.Part a n) = n
 fieldLength found.Nothing = 0
