@@ -8,8 +8,8 @@ use native.Mathlib.Omega.{arith}
 use borrow.Author.Tests.{le-leb, lt-leb, leb-true, leb-false}
 use lib.Dec.{leb}
 use lib.ListN.{length}
-use Rattle.output.specs.Splice.{splice, hasRoom, Put, PutIf, Puts}
-use Rattle.output.proofs.Laws.{splice-length, put-then, put-count}
+use Rattle.output.specs.Splice.{liesWithin, Put, PutIf, Puts}
+use Rattle.output.proofs.Laws.{splice-length, put-then}
 
 -- ---- the test
 
@@ -28,10 +28,10 @@ pub room-by : (size at n : ℕ) {r : Bool} → r ≡ leb (at + n) size → r ≡
 room-by size at n e t = leb-true (at + n) size (sym e ∙ t)
 
 -- one octet
-pub one-fits : (o : List ℕ) (at : ℕ) → at < length o → hasRoom o at 1 ≡ true
+pub one-fits : (o : List ℕ) (at : ℕ) → at < length o → liesWithin o at 1 ≡ true
 one-fits o at h = le-leb (at + 1) (length o) (omega arith)
 
-pub one-past : (o : List ℕ) (at : ℕ) → length o ≤ at → hasRoom o at 1 ≡ false
+pub one-past : (o : List ℕ) (at : ℕ) → length o ≤ at → liesWithin o at 1 ≡ false
 one-past o at h = lt-leb (at + 1) (length o) (omega arith)
 
 -- ---- where the test passes, and where not
@@ -55,11 +55,11 @@ put-nothing false [] e z = record { next = refl; size = e; all = refl }
 -- ---- given that there is room
 
 module _ {o bs o′ : List ℕ} {at n r : ℕ} where
-  pub puts : PutIf (hasRoom o at n) o at bs n o′ r → Puts o at bs n o′ r
+  pub puts : PutIf (liesWithin o at n) o at bs n o′ r → Puts o at bs n o′ r
   puts p h = put-of (le-leb _ _ h) p
 
   -- a part that lies within its source
-  pub puts-part : {within : Bool} → within ≡ true → PutIf (cond within (hasRoom o at n) false) o at bs n o′ r → Puts o at bs n o′ r
+  pub puts-part : {within : Bool} → within ≡ true → PutIf (cond within (liesWithin o at n) false) o at bs n o′ r → Puts o at bs n o′ r
   puts-part e p h = put-of (rw e (le-leb _ _ h)) p
 
 pub puts-then : {o o₁ o₂ a b : List ℕ} {at m n r₁ r₂ : ℕ} → Puts o at a m o₁ r₁ → Puts o₁ r₁ b n o₂ r₂ → Puts o at (a ++ b) (m + n) o₂ r₂

@@ -27,9 +27,9 @@ pub record Put (o : List ℕ) (at : ℕ) (bs : List ℕ) (n : ℕ) (o′ : List 
   pub size : length bs ≡ n
   pub all : o′ ≡ splice o at bs
 
--- whether `n` octets have room in `o` from the place `at` on
-abbrev pub hasRoom : List ℕ → ℕ → ℕ → Bool
-hasRoom o at n = leb (at + n) (length o)
+-- whether `n` octets from the place `at` on lie within `o`: where they are to be written, that there is room
+abbrev pub liesWithin : List ℕ → ℕ → ℕ → Bool
+liesWithin o at n = leb (at + n) (length o)
 
 -- what a writer of all or nothing leaves, which writes where the test `may` passes: the same; else `o` as it was, and its answer is `at`
 pub record PutIf (may : Bool) (o : List ℕ) (at : ℕ) (bs : List ℕ) (n : ℕ) (o′ : List ℕ) (r : ℕ) : Type 0 where

@@ -8,7 +8,7 @@ ghost use lib.ListN.{length};
 ghost use Rattle.octets.specs.Text.{lowerOf};
 ghost use Rattle.numbers.specs.Integer.{integerEnd, intLen, intBytes};
 ghost use Rattle.numbers.specs.Digits.{charOf, countOf, digits};
-ghost use Rattle.output.specs.Splice.{part, hasRoom, Put, PutIf};
+ghost use Rattle.output.specs.Splice.{part, liesWithin, Put, PutIf};
 use numbers::digit_count;
 use numbers::int_len;
 use numbers::int_tag;
@@ -94,7 +94,7 @@ fn lay_digits(out: &mut [u8], at: usize, n: usize, base: usize, k: usize) -> usi
 fn put_digits(out: &mut [u8], at: usize, n: usize, base: usize) -> usize
     requires { ⌜ 2 ≤ base ⌝ }
     requires { ⌜ base ≤ 16 ⌝ }
-    ensures { λ r. ⌜ PutIf (hasRoom (now (out .entry)) at (countOf base n)) (now (out .entry)) at (digits base n) (countOf base n) (now (out .exit)) r ⌝ }
+    ensures { λ r. ⌜ PutIf (liesWithin (now (out .entry)) at (countOf base n)) (now (out .entry)) at (digits base n) (countOf base n) (now (out .exit)) r ⌝ }
 {
     let k = digit_count(n, base);
     if lies_within(out.len(), at, k) {
@@ -113,8 +113,9 @@ pub fn lies_within(size: usize, at: usize, n: usize) -> bool
     false
 }
 
+// One octet.
 pub fn put_octet(out: &mut [u8], at: usize, b: u8) -> usize
-    ensures { λ r. ⌜ PutIf (hasRoom (now (out .entry)) at 1) (now (out .entry)) at (b ∷ []) 1 (now (out .exit)) r ⌝ }
+    ensures { λ r. ⌜ PutIf (liesWithin (now (out .entry)) at 1) (now (out .entry)) at (b ∷ []) 1 (now (out .exit)) r ⌝ }
 {
     if at < out.len() {
         out[at] = b;
@@ -125,7 +126,7 @@ pub fn put_octet(out: &mut [u8], at: usize, b: u8) -> usize
 
 // So many octets of the source, from a place on; nothing where the source has not so many.
 pub fn put_part(out: &mut [u8], at: usize, src: &[u8], from: usize, len: usize) -> usize
-    ensures { λ r. ⌜ PutIf (cond (hasRoom (now (src .entry)) from len) (hasRoom (now (out .entry)) at len) false) (now (out .entry)) at (part (now (src .entry)) from len) len (now (out .exit)) r ⌝ }
+    ensures { λ r. ⌜ PutIf (cond (liesWithin (now (src .entry)) from len) (liesWithin (now (out .entry)) at len) false) (now (out .entry)) at (part (now (src .entry)) from len) len (now (out .exit)) r ⌝ }
 {
     if lies_within(src.len(), from, len) {
         if lies_within(out.len(), at, len) {
@@ -137,7 +138,7 @@ pub fn put_part(out: &mut [u8], at: usize, src: &[u8], from: usize, len: usize) 
 
 // The same in lower case.
 pub fn put_lower(out: &mut [u8], at: usize, src: &[u8], from: usize, len: usize) -> usize
-    ensures { λ r. ⌜ PutIf (cond (hasRoom (now (src .entry)) from len) (hasRoom (now (out .entry)) at len) false) (now (out .entry)) at (map lowerOf (part (now (src .entry)) from len)) len (now (out .exit)) r ⌝ }
+    ensures { λ r. ⌜ PutIf (cond (liesWithin (now (src .entry)) from len) (liesWithin (now (out .entry)) at len) false) (now (out .entry)) at (map lowerOf (part (now (src .entry)) from len)) len (now (out .exit)) r ⌝ }
 {
     if lies_within(src.len(), from, len) {
         if lies_within(out.len(), at, len) {
@@ -147,8 +148,9 @@ pub fn put_lower(out: &mut [u8], at: usize, src: &[u8], from: usize, len: usize)
     at
 }
 
+// A whole text.
 pub fn put_text(out: &mut [u8], at: usize, text: &[u8]) -> usize
-    ensures { λ r. ⌜ PutIf (hasRoom (now (out .entry)) at (length (now (text .entry)))) (now (out .entry)) at (now (text .entry)) (length (now (text .entry))) (now (out .exit)) r ⌝ }
+    ensures { λ r. ⌜ PutIf (liesWithin (now (out .entry)) at (length (now (text .entry)))) (now (out .entry)) at (now (text .entry)) (length (now (text .entry))) (now (out .exit)) r ⌝ }
 {
     if lies_within(out.len(), at, text.len()) {
         return copy_part(out, at, text, 0, text.len());
@@ -158,7 +160,7 @@ pub fn put_text(out: &mut [u8], at: usize, text: &[u8]) -> usize
 
 // The shortest form of an integer; nothing where it has none.
 pub fn put_int(out: &mut [u8], at: usize, v: usize) -> usize
-    ensures { λ r. ⌜ PutIf (hasRoom (now (out .entry)) at (intLen v)) (now (out .entry)) at (intBytes v) (intLen v) (now (out .exit)) r ⌝ }
+    ensures { λ r. ⌜ PutIf (liesWithin (now (out .entry)) at (intLen v)) (now (out .entry)) at (intBytes v) (intLen v) (now (out .exit)) r ⌝ }
 {
     let n = int_len(v);
     if n == 0 {
@@ -170,14 +172,16 @@ pub fn put_int(out: &mut [u8], at: usize, v: usize) -> usize
     at
 }
 
+// A number in decimal digits.
 pub fn put_decimal(out: &mut [u8], at: usize, n: usize) -> usize
-    ensures { λ r. ⌜ PutIf (hasRoom (now (out .entry)) at (countOf 10 n)) (now (out .entry)) at (digits 10 n) (countOf 10 n) (now (out .exit)) r ⌝ }
+    ensures { λ r. ⌜ PutIf (liesWithin (now (out .entry)) at (countOf 10 n)) (now (out .entry)) at (digits 10 n) (countOf 10 n) (now (out .exit)) r ⌝ }
 {
     put_digits(out, at, n, 10)
 }
 
+// The same in hexadecimal digits.
 pub fn put_hexadecimal(out: &mut [u8], at: usize, n: usize) -> usize
-    ensures { λ r. ⌜ PutIf (hasRoom (now (out .entry)) at (countOf 16 n)) (now (out .entry)) at (digits 16 n) (countOf 16 n) (now (out .exit)) r ⌝ }
+    ensures { λ r. ⌜ PutIf (liesWithin (now (out .entry)) at (countOf 16 n)) (now (out .entry)) at (digits 16 n) (countOf 16 n) (now (out .exit)) r ⌝ }
 {
     put_digits(out, at, n, 16)
 }
