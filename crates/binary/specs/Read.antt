@@ -7,17 +7,17 @@ use lib.ListN.{length, take, drop}
 use Rattle.octets.specs.Ascii.{ascii}
 use Rattle.octets.specs.Text.{sameText, isEmpty}
 use Rattle.octets.specs.Limits.{methodMost, authorityMost, pathMost, linesMost, chunksMost, contentMost, binaryMost, informationalMost}
-use Rattle.octets.specs.Refusals.{badSyntax, notSupported, badLength, tooLarge, cutOff, badFraming, badSection, badPadding}
+use Rattle.octets.specs.Refusals.{badSyntax, notSupported, badLength, tooLarge, cutOff, badIndicator, badSection, badPadding}
 use Rattle.script.specs.Script.{Answer, accepted, refused, more}
 use Rattle.script.specs.Do.{Piece, piece, Judged, good, wrong}
-use Rattle.messages.specs.Message.{FieldRead, Section, InformationalRead, Start, requestStart, responseStart, Message}
+use Rattle.messages.specs.Message.{FieldRead, Section, InformationalRead, Start, requestStart, responseStart, Message, plainMessage, nonEmpty}
 use Rattle.messages.specs.Control.{methodVerdict, pathVerdict, authorityVerdict, statusVerdict, isInformational, isBodyless, isLowerName, isTrimmedValue}
 use Rattle.messages.specs.Names.{areTrailers, keptTrailers}
 use Rattle.messages.specs.Rules.{authorityIn, binaryFramingOf, nothingStated, mayState, agrees}
 use Rattle.messages.specs.declared.Framing.{Framing}
 use Rattle.messages.specs.declared.Framing.the-variants.{Unstated}
 use Rattle.messages.specs.Meaning.{contentOf}
-use Rattle.binary.specs.Reader.{Got, got, no, Reader, _>>=_, give, refuse, here, ended, tell, rule, integer, octets}
+use Rattle.binary.specs.Reader.{Got, got, no, Reader, _>>=_, give, refuse, here, ended, tell, rule, integer, string}
 
 -- ---- parts: a length and what it counts
 
@@ -26,14 +26,14 @@ unfoldable pub part : Reader Piece
 part = do
   p ← here
   n ← integer cutOff p
-  octets n cutOff p
+  string n cutOff p
 
 -- a part of at most so many octets: the length is judged before what it counts
 unfoldable pub partWithin : ℕ → Reader Piece
 partWithin most = do
   p ← here
   n ← integer cutOff p
-  cond (leb n most) (octets n cutOff p) (refuse tooLarge p)
+  cond (leb n most) (string n cutOff p) (refuse tooLarge p)
 
 -- a part whose octets have a rule, by its number
 unfoldable pub ruledPart : ℕ → (List ℕ → ℕ) → Reader Piece
@@ -74,8 +74,8 @@ requestControl = do
 -- ---- field lines
 
 -- a line's octets are judged when both halves are in, at the line's first octet
-unfoldable pub lineOf : ℕ → Piece → Piece → Judged FieldRead
-lineOf p n v = cond (isLowerName (n .text)) (cond (isTrimmedValue (v .text)) (good (record { name = n; value = v })) (wrong badSyntax p)) (wrong badSyntax p)
+unfoldable pub judgedLine : ℕ → Piece → Piece → Judged FieldRead
+judgedLine p n v = cond (isLowerName (n .text)) (cond (isTrimmedValue (v .text)) (good (record { name = n; value = v })) (wrong badSyntax p)) (wrong badSyntax p)
 
 -- a line of a known-length section: whatever is cut off crosses the section
 unfoldable pub knownLine : Reader FieldRead
@@ -85,10 +85,10 @@ knownLine = do
   cond (eqb a 0)
       (refuse badSection p)
       (do
-        n ← octets a badSection p
+        n ← string a badSection p
         b ← integer badSection p
-        v ← octets b badSection p
-        tell (lineOf p n v))
+        v ← string b badSection p
+        tell (judgedLine p n v))
 
 -- the lines that fill the body of a known-length section exactly; a 65th is refused before it is read. The first number is above how many may come
 unfoldable pub knownLines : ℕ → List FieldRead → Reader (List FieldRead)
@@ -122,9 +122,9 @@ knownSection = do
 -- the rest of a line of an indeterminate section, which starts at the place p and whose name has a octets: name, then value, a part of its own
 unfoldable pub openLine : ℕ → ℕ → Reader FieldRead
 openLine p a = do
-  n ← octets a cutOff p
+  n ← string a cutOff p
   v ← part
-  tell (lineOf p n v)
+  tell (judgedLine p n v)
 
 -- the lines up to a name length of zero; a 65th is refused when its name length is in. The first number is above how many may come
 unfoldable pub openLines : ℕ → List FieldRead → Reader (List FieldRead)
@@ -149,10 +149,6 @@ section known = do
 
 -- ---- content
 
--- a piece as a list: nothing where it is empty
-abbrev pub nonEmpty : Piece → List Piece
-nonEmpty c = cond (isEmpty (c .text)) [] (c ∷ [])
-
 -- content of known length: a part, whose size is judged first
 unfoldable pub knownContent : Reader (List Piece)
 knownContent = do
@@ -173,7 +169,7 @@ openChunks (suc f) cs total = do
       (cond (ltb contentMost (total + n))
       (refuse tooLarge p)
       (do
-        c ← octets n cutOff p
+        c ← string n cutOff p
         openChunks f (cs ++ c ∷ []) (total + n))))
 
 -- the message may end before its content: then there is none
@@ -224,7 +220,7 @@ afterHeaders known body start h f = do
   c ← tell (contentRule body f e cs)
   ts ← trailers known body
   z ← padding
-  give (record { start = start; lines = h .lines; chunks = c; trailers = ts })
+  give (plainMessage start (h .lines) c ts)
 
 -- a request: host, then the length, are judged behind the header section
 unfoldable pub requestMessage : Bool → Reader Message
@@ -274,13 +270,13 @@ message = do
       (cond (eqb f 1)
       (responseMessage true (suc informationalMost) [])
       (cond (eqb f 2) (requestMessage false) (responseMessage false (suc informationalMost) []))))
-      (refuse badFraming 0)
+      (refuse badIndicator 0)
 
 -- the whole input is the message, padding too
-abbrev pub answerOf : Got Message → Answer Message
-answerOf (got m n r) = accepted n m
-answerOf (no k p) = refused k p
+abbrev pub messageAnswer : Got Message → Answer Message
+messageAnswer (got m n r) = accepted n m
+messageAnswer (no k p) = refused k p
 
 -- a whole Binary message; input above the size is 8 at 0, first
 unfoldable pub readBinary : List ℕ → Answer Message
-readBinary s = cond (leb (length s) binaryMost) (answerOf (message 0 s)) (refused tooLarge 0)
+readBinary s = cond (leb (length s) binaryMost) (messageAnswer (message 0 s)) (refused tooLarge 0)

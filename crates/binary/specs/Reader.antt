@@ -67,5 +67,5 @@ unfoldable pub integer : ℕ → ℕ → Reader ℕ
 integer k p at s = onInteger k p at s (readInt at s)
 
 -- n octets; where fewer are left they are refused with a number at the place p
-unfoldable pub octets : ℕ → ℕ → ℕ → Reader Piece
-octets n k p at s = cond (ltb (length s) n) (no k p) (got (piece at (take n s)) (at + n) (drop n s))
+unfoldable pub string : ℕ → ℕ → ℕ → Reader Piece
+string n k p at s = cond (ltb (length s) n) (no k p) (got (piece at (take n s)) (at + n) (drop n s))

@@ -10,7 +10,7 @@ use Rattle.messages.specs.Answers.{fieldsNumbers, informationalNumbers, informa
 use Rattle.messages.specs.declared.Outcome.{Outcome}
 use Rattle.messages.specs.declared.Outcome.the-variants as outcome
 use Rattle.binary.specs.Reader.{Got, got, no}
-use Rattle.binary.specs.Read.{answerOf}
+use Rattle.binary.specs.Read.{messageAnswer}
 use Rattle.ranges.specs.Ranges.{Responded}
 use Rattle.binary_reader.specs.Whole.{MessageSays, MessageIs}
 
@@ -23,19 +23,19 @@ module _ {response : Bool} {is : List InformationalRead} {lines : List FieldRead
   message-no {n = n} {p = p} e = message-as {y = no n p} e (record { says = refl })
 
 module _ {hs hs′ ns ns′ cs cs′ ts ts′ : List ℕ} where
-  pub answered-as : {x y : Got Message} {r : Outcome} → x ≡ y → Responded (answerOf y) hs hs′ ns ns′ cs cs′ ts ts′ r
-      → Responded (answerOf x) hs hs′ ns ns′ cs cs′ ts ts′ r
-  answered-as {r = r} e h = subst (λ (z : Got Message). Responded (answerOf z) hs hs′ ns ns′ cs cs′ ts ts′ r) (sym e) h
+  pub answered-as : {x y : Got Message} {r : Outcome} → x ≡ y → Responded (messageAnswer y) hs hs′ ns ns′ cs cs′ ts ts′ r
+      → Responded (messageAnswer x) hs hs′ ns ns′ cs cs′ ts ts′ r
+  answered-as {r = r} e h = subst (λ (z : Got Message). Responded (messageAnswer z) hs hs′ ns ns′ cs cs′ ts ts′ r) (sym e) h
 
-  pub answered-no : {x : Got Message} {n p : ℕ} → x ≡ no n p → Responded (answerOf x) hs hs′ ns ns′ cs cs′ ts ts′ (outcome.Refusal n p)
+  pub answered-no : {x : Got Message} {n p : ℕ} → x ≡ no n p → Responded (messageAnswer x) hs hs′ ns ns′ cs cs′ ts ts′ (outcome.Refusal n p)
   answered-no {n = n} {p = p} e = answered-as {y = no n p} e (record { says = refl; informational = tt })
 
   -- with the ranges of the heads that stand already
   pub with-headers : {response : Bool} {is : List InformationalRead} {lines : List FieldRead} {r : Outcome} (x : Got Message)
       → hs′ ≡ splice hs 0 (fieldsNumbers (informationalLines is ++ kept response lines)) → ns′ ≡ splice ns 0 (informationalNumbers is)
-      → MessageIs response is lines x cs cs′ ts ts′ r → Responded (answerOf x) hs hs′ ns ns′ cs cs′ ts ts′ r
+      → MessageIs response is lines x cs cs′ ts ts′ r → Responded (messageAnswer x) hs hs′ ns ns′ cs cs′ ts ts′ r
   with-headers {response} {is} {lines} {r} x a b h = go x (h .says)
     where
-      go : (y : Got Message) → MessageSays response is lines y cs cs′ ts ts′ r → Responded (answerOf y) hs hs′ ns ns′ cs cs′ ts ts′ r
+      go : (y : Got Message) → MessageSays response is lines y cs cs′ ts ts′ r → Responded (messageAnswer y) hs hs′ ns ns′ cs cs′ ts ts′ r
       go (got m e l) u = record { says = (u .0, a ∙ rw (u .5, u .4, u .3) refl, u .1, u .2); informational = b ∙ rw (u .5) refl }
       go (no n p) u = record { says = u; informational = tt }

@@ -23,10 +23,10 @@ use Rattle.messages.proofs.Noting.{notes-binary}
 use Rattle.messages.proofs.Lengths.{body-read, body-refused}
 use Rattle.binary.specs.Reader.{Got, got, no, Reader, _>>=_}
 use Rattle.binary.specs.Read.{section, finalResponse, responseMessage}
-use Rattle.read_binary.specs.Section.{Sectioned}
-use Rattle.read_binary.specs.declared.Section as answer
-use Rattle.read_binary.specs.declared.Section.the-variants as section-read
-use Rattle.read_binary.proofs.Places.{integer-cut, integer-got}
+use Rattle.binary_parts.specs.Section.{Sectioned}
+use Rattle.binary_parts.specs.declared.Section as answer
+use Rattle.binary_parts.specs.declared.Section.the-variants as section-read
+use Rattle.binary_parts.proofs.Places.{integer-cut, integer-got}
 use Rattle.binary_reader.specs.Heads.{informationalRead, behindInformational, behindFinal, informationalRest, finalRest, FinalStatus, HeadStored, HeadSays, Headed}
 use Rattle.binary_reader.specs.declared.HeadRead.{HeadRead}
 use Rattle.binary_reader.specs.declared.HeadRead.the-variants as head

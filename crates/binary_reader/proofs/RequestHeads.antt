@@ -12,7 +12,7 @@ use Rattle.script.proofs.Places.{lies-all, lies-from}
 use Rattle.messages.specs.Message.{FieldRead}
 use Rattle.messages.specs.Control.{isHost}
 use Rattle.messages.specs.Names.{linesOf}
-use Rattle.messages.specs.Notes.{notesOf, hostsFrom, partAt, isInside, hostAt, hostIn, isSameHost, givenIn, authorityNoted, isClashing}
+use Rattle.messages.specs.Notes.{notesOf, hostsFrom, octetsAt, isInside, hostAt, hostIn, isSameHost, givenIn, authorityNoted, isClashing}
 use Rattle.messages.specs.Rules.{binaryFramingOf}
 use Rattle.messages.specs.declared.Authority.{Authority}
 use Rattle.messages.specs.declared.Authority.the-variants.{Found, Wrong}
@@ -23,9 +23,9 @@ use Rattle.messages.specs.declared.Notes.{Notes}
 use Rattle.messages.proofs.Noting.{notes-hosts, notes-binary}
 use Rattle.messages.proofs.Hosting.{inside-sum, authority-found, authority-wrong}
 use Rattle.messages.proofs.Lengths.{may-state, may-not-state}
-use Rattle.read_binary.specs.Control.{pieceOf}
-use Rattle.read_binary.specs.declared.Span.{Span}
-use Rattle.read_binary.proofs.Places.{part-length}
+use Rattle.binary_parts.specs.Control.{pieceOf}
+use Rattle.binary_parts.specs.declared.Span.{Span}
+use Rattle.binary_parts.proofs.Places.{part-length}
 use Rattle.binary_reader.specs.Requests.{HeadJudged}
 use Rattle.binary_reader.specs.declared.HeadAnswer.the-variants.{Good, Refused}
 
@@ -49,7 +49,7 @@ noted-inside s b m a n h l q = on (eqb m 0) h q
   where
     on : (i : Bool) (h : Hosts) → cond i (hostIn s h) (givenIn s b m h) ≡ Found a n → a + n ≤ length s
     on true Nothing q = let z : _≡_ {A = ℕ} 0 1 = cc in absurd (omega arith)
-    on true (One c k) q = found-inside s c k a n (isInside s c k) (isHost (partAt s c k)) refl q
+    on true (One c k) q = found-inside s c k a n (isInside s c k) (isHost (octetsAt s c k)) refl q
     on true Several q = let z : _≡_ {A = ℕ} 0 1 = cc in absurd (omega arith)
     on false Nothing q = given-inside s b m a n true l q
     on false (One c k) q = given-inside s b m a n (isSameHost s b m c k) l q

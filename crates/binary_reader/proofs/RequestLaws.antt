@@ -10,7 +10,7 @@ use Rattle.messages.specs.Message.{FieldRead, Section, requestStart, isResponse
 use Rattle.messages.specs.Names.{kept}
 use Rattle.messages.specs.Notes.{AllLie}
 use Rattle.messages.specs.Rules.{authorityIn, binaryFramingOf, mayState}
-use Rattle.messages.specs.Answers.{informationalNumbers, informationalLines, informationalIn, partOf, recordOf}
+use Rattle.messages.specs.Answers.{informationalNumbers, informationalLines, informationalIn, partAt, partOf, recordOf}
 use Rattle.messages.specs.declared.Framing.{Framing}
 use Rattle.messages.specs.declared.Notes.{Notes}
 use Rattle.messages.specs.declared.Outcome.{Outcome}
@@ -19,11 +19,11 @@ use Rattle.binary.specs.Reader.{Got, got, no, Reader, _>>=_, tell}
 use Rattle.binary.specs.Read.{RequestControl, requestControl, section, afterHeaders, requestMessage}
 use Rattle.sound.specs.Placed.{Each}
 use Rattle.sound.proofs.Parts.{LineAt}
-use Rattle.read_binary.specs.Control.{pieceOf}
-use Rattle.read_binary.specs.declared.Span.{Span}
-use Rattle.read_binary.proofs.Places.{part-length}
+use Rattle.binary_parts.specs.Control.{pieceOf}
+use Rattle.binary_parts.specs.declared.Span.{Span}
+use Rattle.binary_parts.proofs.Places.{part-length}
 use Rattle.binary_reader.specs.Rest.{RestSays, Rested}
-use Rattle.binary_reader.specs.Requests.{bothRules, HeadSays, HeadLies, HeadJudged, partAt, partIs, requestOutcome, controlIs, behindHead, behindControl, HeadFacts, RequestRest, Requested}
+use Rattle.binary_reader.specs.Requests.{bothRules, HeadSays, HeadLies, HeadJudged, partIs, requestOutcome, controlIs, behindHead, behindControl, HeadFacts, RequestRest, Requested}
 use Rattle.binary_reader.specs.declared.HeadAnswer.{HeadAnswer}
 use Rattle.binary_reader.specs.declared.HeadAnswer.the-variants as head
 use Rattle.binary_reader.specs.declared.RestRead.{RestRead}

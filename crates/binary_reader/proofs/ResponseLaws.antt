@@ -21,7 +21,7 @@ use Rattle.messages.specs.declared.Outcome.{Outcome}
 use Rattle.messages.specs.declared.Outcome.the-variants as outcome
 use Rattle.messages.proofs.Lengths.{body-read, body-refused, may-state, may-not-state}
 use Rattle.binary.specs.Reader.{Got, got, no, _>>=_}
-use Rattle.binary.specs.Read.{afterHeaders, answerOf}
+use Rattle.binary.specs.Read.{afterHeaders, messageAnswer}
 use Rattle.ranges.specs.Ranges.{Responded}
 use Rattle.binary_reader.specs.Heads.{behindFinal, HeadsFacts, HeadsSays, HeadsTaken}
 use Rattle.binary_reader.specs.Rest.{RestSays, Rested}
@@ -120,14 +120,14 @@ module _ {x : Got Message} {known : Bool} {s hs hs′ ns ns′ : List ℕ} {r : 
   taken : {o : HeadsRead} → r ≡ o → HeadsSays x known s hs hs′ ns ns′ o
   taken q = subst (λ (z : HeadsRead). HeadsSays x known s hs hs′ ns ns′ z) q (w .says)
 
-  pub responded-no : {cs cs′ ts ts′ : List ℕ} {i p : ℕ} → r ≡ heads-read.Refused i p → Responded (answerOf x) hs hs′ ns ns′ cs cs′ ts ts′ (outcome.Refusal i p)
+  pub responded-no : {cs cs′ ts ts′ : List ℕ} {i p : ℕ} → r ≡ heads-read.Refused i p → Responded (messageAnswer x) hs hs′ ns ns′ cs cs′ ts ts′ (outcome.Refusal i p)
   responded-no q = answered-no (taken q)
 
   module _ {n e c k : ℕ} {notes : Notes} (q : r ≡ heads-read.Done n e c k notes) where
     pub final-within : e ≤ length s
     final-within = taken q .2 .within
 
-    pub responded-final : {cs cs′ ts ts′ : List ℕ} {o : Outcome} → FinalRead s known n e c k notes cs cs′ ts ts′ o → Responded (answerOf x) hs hs′ ns ns′ cs cs′ ts ts′ o
+    pub responded-final : {cs cs′ ts ts′ : List ℕ} {o : Outcome} → FinalRead s known n e c k notes cs cs′ ts ts′ o → Responded (messageAnswer x) hs hs′ ns ns′ cs cs′ ts ts′ o
     responded-final f =
         let d = taken q in
         answered-as (d .3) (with-headers (behindFinal known (d .0) n (d .1) e (drop e s)) (d .4) (d .5) (f .by (d .0) (d .1) (d .2)))

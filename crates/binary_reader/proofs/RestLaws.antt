@@ -6,17 +6,17 @@ use mathlib.Core.List.{List}
 use lib.ListN.{length, drop}
 use Rattle.octets.specs.Refusals.{badLength, badPadding}
 use Rattle.script.specs.Do.{Piece, good, wrong}
-use Rattle.messages.specs.Message.{FieldRead, Section, Start, Message}
+use Rattle.messages.specs.Message.{FieldRead, Section, Start, Message, plainMessage}
 use Rattle.messages.specs.declared.Framing.{Framing}
 use Rattle.binary.specs.Reader.{Got, got, no, _>>=_}
 use Rattle.binary.specs.Read.{content, contentRule, trailers, padding, afterHeaders}
-use Rattle.read_binary.specs.Content.{Contented, contentAgrees, Padded}
-use Rattle.read_binary.specs.declared.ContentRead.{ContentRead}
-use Rattle.read_binary.specs.declared.ContentRead.the-variants as content-is
-use Rattle.read_binary.specs.declared.Padding.{Padding}
-use Rattle.read_binary.specs.declared.Padding.the-variants as padding-is
-use Rattle.read_binary.proofs.Contents.{rule-agrees, content-no, content-done}
-use Rattle.read_binary.proofs.PaddingLaws.{padding-bad, padding-clean}
+use Rattle.binary_parts.specs.Content.{Contented, contentAgrees, Padded}
+use Rattle.binary_parts.specs.declared.ContentRead.{ContentRead}
+use Rattle.binary_parts.specs.declared.ContentRead.the-variants as content-is
+use Rattle.binary_parts.specs.declared.Padding.{Padding}
+use Rattle.binary_parts.specs.declared.Padding.the-variants as padding-is
+use Rattle.binary_parts.proofs.Contents.{rule-agrees, content-no, content-done}
+use Rattle.binary_parts.proofs.PaddingLaws.{padding-bad, padding-clean}
 use Rattle.binary_reader.specs.Rest.{Trailed, behindContent, RestIs, Behind, Rested}
 use Rattle.binary_reader.specs.declared.TrailersRead.{TrailersRead}
 use Rattle.binary_reader.specs.declared.TrailersRead.the-variants as trailers-are
@@ -41,7 +41,7 @@ same-done e f g = rw (e, f, g)
 
 trailers-then : (s : List ℕ) (from : ℕ) (known body : Bool) (start : Start) (lines : List FieldRead) (c : List Piece) {fs : List FieldRead} {end v n : ℕ} {l : List ℕ}
     → trailers known body from (drop from s) ≡ got fs end (drop end s) → padding end (drop end s) ≡ got v n l
-    → behindContent known body start lines c from (drop from s) ≡ got (record { start = start; lines = lines; chunks = c; trailers = fs }) n l
+    → behindContent known body start lines c from (drop from s) ≡ got (plainMessage start lines c fs) n l
 unfolding behindContent _>>=_
 trailers-then s from known body start lines c e f = rw (e, f)
 
@@ -60,7 +60,7 @@ module _ (s : List ℕ) (from : ℕ) (known body : Bool) (count total : ℕ) {ts
     behind-done f = let d = trailed-done h e in let w = padding-clean z f in
         record {
           by = λ start lines c cs cs′ a b g.
-              rest-as {y = got (record { start = start; lines = lines; chunks = c; trailers = d .lines }) (length s) (w .rest)}
+              rest-as {y = got (plainMessage start lines c (d .lines)) (length s) (w .rest)}
               (trailers-then s from known body start lines c (d .taken) (w .taken))
               (record { says = (same-done (sym a) (sym b) (sym (d .counted)), g, d .stored, refl, refl, refl) });
         }
@@ -81,7 +81,7 @@ module _ (s : List ℕ) (from : ℕ) (known body : Bool) (f : Framing) {cs cs′
 
   module _ {end count total : ℕ} (e : r ≡ content-is.Done end count total) {b : Bool} (a : b ≡ contentAgrees f body total) where
     judged : {t : Bool} → b ≡ t → contentRule body f end (content-done h e .chunks) ≡ cond t (good (content-done h e .chunks)) (wrong badLength end)
-    judged g = rule-agrees body f end (content-done h e .chunks) (content-done h e .octets) ∙ rw (← a, g)
+    judged g = rule-agrees body f end (content-done h e .chunks) (content-done h e .sum) ∙ rw (← a, g)
 
     pub rested-bad : {ts ts′ : List ℕ} → b ≡ false → Rested s from known body f cs cs′ ts ts′ (Refused badLength end)
     unfolding afterHeaders _>>=_
@@ -89,4 +89,4 @@ module _ (s : List ℕ) (from : ℕ) (known body : Bool) (f : Framing) {cs cs′
 
     pub rested-on : {ts ts′ : List ℕ} {o : RestRead} → b ≡ true → Behind s end known body count total ts ts′ o → Rested s from known body f cs cs′ ts ts′ o
     rested-on g w = let d = content-done h e in
-        record { by = λ start l. rest-as (content-then s from known body f start l (d .taken) (judged g)) (w .by start (l .lines) (d .chunks) cs cs′ (d .counted) (d .octets) (d .stored)) }
+        record { by = λ start l. rest-as (content-then s from known body f start l (d .taken) (judged g)) (w .by start (l .lines) (d .chunks) cs cs′ (d .counted) (d .sum) (d .stored)) }

@@ -17,9 +17,9 @@ use Rattle.binary.specs.Reader.{Got, got, no, Reader, _>>=_}
 use Rattle.binary.specs.Read.{section}
 use Rattle.binary_sound.proofs.Judgement.{Stands, Gets}
 use Rattle.binary_sound.proofs.Lines.{LinesAt, every-section}
-use Rattle.read_binary.specs.Section.{SectionSays, Sectioned}
-use Rattle.read_binary.specs.declared.Section as answer
-use Rattle.read_binary.specs.declared.Section.the-variants.{Done, Refused}
+use Rattle.binary_parts.specs.Section.{SectionSays, Sectioned}
+use Rattle.binary_parts.specs.declared.Section as answer
+use Rattle.binary_parts.specs.declared.Section.the-variants.{Done, Refused}
 
 clash : {A : Type 0} {k p e c : ℕ} {x : Notes} → Done e c x ≡ Refused k p → A
 clash e = let z : _≡_ {A = ℕ} 0 1 = cc in absurd (omega arith)

@@ -18,9 +18,9 @@ use Rattle.messages.specs.declared.Notes.{Notes}
 use Rattle.messages.proofs.Noting.{trailers-noted}
 use Rattle.binary.specs.Reader.{Got, got, no, _>>=_, tell}
 use Rattle.binary.specs.Read.{section, noLines, trailerRule, trailers}
-use Rattle.read_binary.specs.Section.{Sectioned}
-use Rattle.read_binary.specs.declared.Section as answer
-use Rattle.read_binary.specs.declared.Section.the-variants as section-is
+use Rattle.binary_parts.specs.Section.{Sectioned}
+use Rattle.binary_parts.specs.declared.Section as answer
+use Rattle.binary_parts.specs.declared.Section.the-variants as section-is
 use Rattle.binary_reader.specs.Rest.{trailersAgree, TrailersSays, Trailed}
 use Rattle.binary_reader.specs.declared.TrailersRead.{TrailersRead}
 use Rattle.binary_reader.specs.declared.TrailersRead.the-variants.{Done, Refused}

@@ -8,7 +8,7 @@ use borrow.Author.Tests.{le-leb, lt-leb}
 use lib.Dec.{leb}
 use lib.ListN.{length, drop, replicate}
 use Rattle.octets.specs.Limits.{binaryMost, informationalMost}
-use Rattle.octets.specs.Refusals.{tooLarge, cutOff, badFraming}
+use Rattle.octets.specs.Refusals.{tooLarge, cutOff, badIndicator}
 use Rattle.numbers.specs.Integer.{readInt}
 use Rattle.numbers.specs.declared.Integer.the-variants.{Value, Cut}
 use Rattle.script.specs.Script.{Answer, refused}
@@ -17,12 +17,12 @@ use Rattle.messages.specs.Answers.{readingOf}
 use Rattle.messages.specs.declared.Outcome.{Outcome}
 use Rattle.messages.specs.declared.Outcome.the-variants as outcome
 use Rattle.binary.specs.Reader.{no, _>>=_}
-use Rattle.binary.specs.Read.{requestMessage, responseMessage, message, answerOf, readBinary}
+use Rattle.binary.specs.Read.{requestMessage, responseMessage, message, messageAnswer, readBinary}
 use Rattle.binary_sound.proofs.Sound.{binary-sound}
 use Rattle.ranges.specs.Ranges.{Responded, readingFrom}
 use Rattle.ranges.proofs.ByValue.{by-value}
-use Rattle.read_binary.proofs.Places.{integer-cut, integer-got}
-use Rattle.binary_reader.specs.Whole.{behindFraming}
+use Rattle.binary_parts.proofs.Places.{integer-cut, integer-got}
+use Rattle.binary_reader.specs.Whole.{behindIndicator}
 use Rattle.binary_reader.specs.Requests.{Requested}
 use Rattle.binary_reader.proofs.Answered.{answered-as, answered-no}
 
@@ -34,44 +34,44 @@ another k n h e q = omega (arith, h, e, q)
 above : {f : ℕ} → 4 ≤ f → leb f 3 ≡ false
 above {f} h = lt-leb f 3 (omega (arith, h))
 
-framing-other : (f from : ℕ) (l : List ℕ) → leb f 3 ≡ false → behindFraming f from l ≡ no badFraming 0
-unfolding behindFraming
+framing-other : (f from : ℕ) (l : List ℕ) → leb f 3 ≡ false → behindIndicator f from l ≡ no badIndicator 0
+unfolding behindIndicator
 framing-other f from l e = rw e
 
 module _ {f : ℕ} (from : ℕ) (l : List ℕ) where
-  framing-is : (g : ℕ) → f ≡ g → behindFraming f from l ≡ behindFraming g from l
-  framing-is g e = ap (λ (n : ℕ). behindFraming n from l) e
+  framing-is : (g : ℕ) → f ≡ g → behindIndicator f from l ≡ behindIndicator g from l
+  framing-is g e = ap (λ (n : ℕ). behindIndicator n from l) e
 
   module _ {hs hs′ ns cs cs′ ts ts′ : List ℕ} {r : Outcome} where
-    pub framed-request : f ≡ 0 → Requested (requestMessage true from l) hs hs′ cs cs′ ts ts′ r → Responded (answerOf (behindFraming f from l)) hs hs′ ns ns cs cs′ ts ts′ r
-    unfolding behindFraming
+    pub framed-request : f ≡ 0 → Requested (requestMessage true from l) hs hs′ cs cs′ ts ts′ r → Responded (messageAnswer (behindIndicator f from l)) hs hs′ ns ns cs cs′ ts ts′ r
+    unfolding behindIndicator
     framed-request e h = answered-as (framing-is 0 e) (h .by ns)
 
     pub framed-open-request : f ≡ 2 → Requested (requestMessage false from l) hs hs′ cs cs′ ts ts′ r
-        → Responded (answerOf (behindFraming f from l)) hs hs′ ns ns cs cs′ ts ts′ r
-    unfolding behindFraming
+        → Responded (messageAnswer (behindIndicator f from l)) hs hs′ ns ns cs cs′ ts ts′ r
+    unfolding behindIndicator
     framed-open-request e h = answered-as (framing-is 2 e) (h .by ns)
 
   module _ {hs hs′ ns ns′ cs cs′ ts ts′ : List ℕ} {r : Outcome} where
-    pub framed-response : f ≡ 1 → Responded (answerOf (responseMessage true (suc informationalMost) [] from l)) hs hs′ ns ns′ cs cs′ ts ts′ r
-        → Responded (answerOf (behindFraming f from l)) hs hs′ ns ns′ cs cs′ ts ts′ r
-    unfolding behindFraming
+    pub framed-response : f ≡ 1 → Responded (messageAnswer (responseMessage true (suc informationalMost) [] from l)) hs hs′ ns ns′ cs cs′ ts ts′ r
+        → Responded (messageAnswer (behindIndicator f from l)) hs hs′ ns ns′ cs cs′ ts ts′ r
+    unfolding behindIndicator
     framed-response e h = answered-as (framing-is 1 e) h
 
-    pub framed-open-response : f ≡ 3 → Responded (answerOf (responseMessage false (suc informationalMost) [] from l)) hs hs′ ns ns′ cs cs′ ts ts′ r
-        → Responded (answerOf (behindFraming f from l)) hs hs′ ns ns′ cs cs′ ts ts′ r
-    unfolding behindFraming
+    pub framed-open-response : f ≡ 3 → Responded (messageAnswer (responseMessage false (suc informationalMost) [] from l)) hs hs′ ns ns′ cs cs′ ts ts′ r
+        → Responded (messageAnswer (behindIndicator f from l)) hs hs′ ns ns′ cs cs′ ts ts′ r
+    unfolding behindIndicator
     framed-open-response e h = answered-as (framing-is 3 e) h
 
   pub framed-other : {hs hs′ ns ns′ cs cs′ ts ts′ : List ℕ} → (f ≡ 0 → ⊥) → (f ≡ 1 → ⊥) → (f ≡ 2 → ⊥) → (f ≡ 3 → ⊥)
-      → Responded (answerOf (behindFraming f from l)) hs hs′ ns ns′ cs cs′ ts ts′ (outcome.Refusal badFraming 0)
+      → Responded (messageAnswer (behindIndicator f from l)) hs hs′ ns ns′ cs cs′ ts ts′ (outcome.Refusal badIndicator 0)
   framed-other a b c d =
       let z : 0 ≤ f = omega arith in
       answered-no (framing-other f from l (above (another 3 4 (another 2 3 (another 1 2 (another 0 1 z a refl) b refl) c refl) d refl)))
 
 -- ---- the whole input
 
-read-whole : (s : List ℕ) → length s ≤ binaryMost → readBinary s ≡ answerOf (message 0 s)
+read-whole : (s : List ℕ) → length s ≤ binaryMost → readBinary s ≡ messageAnswer (message 0 s)
 unfolding readBinary
 read-whole s h = rw (le-leb (length s) binaryMost h)
 
@@ -79,8 +79,8 @@ message-cut : (s : List ℕ) → readInt 0 (drop 0 s) ≡ Cut → message 0 s �
 unfolding message _>>=_
 message-cut s e = rw (integer-cut s 0 cutOff 0 e)
 
-message-framed : (s : List ℕ) {v next : ℕ} → readInt 0 (drop 0 s) ≡ Value v next → message 0 s ≡ behindFraming v next (drop next s)
-unfolding message behindFraming _>>=_
+message-framed : (s : List ℕ) {v next : ℕ} → readInt 0 (drop 0 s) ≡ Value v next → message 0 s ≡ behindIndicator v next (drop next s)
+unfolding message behindIndicator _>>=_
 message-framed s e = rw (integer-got s 0 cutOff 0 e)
 
 module _ (s : List ℕ) {hs hs′ ns ns′ cs cs′ ts ts′ : List ℕ} where
@@ -96,7 +96,7 @@ module _ (s : List ℕ) {hs hs′ ns ns′ cs cs′ ts ts′ : List ℕ} where
     whole-cut e = whole-as (read-whole s h) (answered-no (message-cut s e))
 
     pub whole-framed : {v next : ℕ} {r : Outcome} → readInt 0 (drop 0 s) ≡ Value v next
-        → Responded (answerOf (behindFraming v next (drop next s))) hs hs′ ns ns′ cs cs′ ts ts′ r → Responded (readBinary s) hs hs′ ns ns′ cs cs′ ts ts′ r
+        → Responded (messageAnswer (behindIndicator v next (drop next s))) hs hs′ ns ns′ cs cs′ ts ts′ r → Responded (readBinary s) hs hs′ ns ns′ cs cs′ ts ts′ r
     whole-framed e w = whole-as (read-whole s h) (answered-as (message-framed s e) w)
 
 pub binary-by-value : (s : List ℕ) {hs′ ns′ cs′ ts′ : List ℕ} {o : Outcome}

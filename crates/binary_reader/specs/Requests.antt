@@ -7,6 +7,7 @@ use lib.ListN.{length, drop}
 use Rattle.script.specs.Do.{Piece, piece, Judged, good, wrong}
 use Rattle.messages.specs.Message.{FieldRead, Section, requestStart, Message}
 use Rattle.messages.specs.Names.{kept}
+use Rattle.messages.specs.Answers.{partAt}
 use Rattle.messages.specs.Notes.{notesOf, AllLie}
 use Rattle.messages.specs.Rules.{authorityIn, binaryFramingOf, mayState}
 use Rattle.messages.specs.declared.Framing.{Framing}
@@ -15,10 +16,10 @@ use Rattle.messages.specs.declared.Part.{Part}
 use Rattle.messages.specs.declared.Outcome.{Outcome}
 use Rattle.messages.specs.declared.Outcome.the-variants as outcome
 use Rattle.binary.specs.Reader.{Got, Reader, _>>=_, tell}
-use Rattle.binary.specs.Read.{RequestControl, section, afterHeaders, answerOf}
+use Rattle.binary.specs.Read.{RequestControl, section, afterHeaders, messageAnswer}
 use Rattle.ranges.specs.Ranges.{Responded}
-use Rattle.read_binary.specs.Control.{pieceOf}
-use Rattle.read_binary.specs.declared.Span.{Span}
+use Rattle.binary_parts.specs.Control.{pieceOf}
+use Rattle.binary_parts.specs.declared.Span.{Span}
 use Rattle.binary_reader.specs.Whole.{MessageIs}
 use Rattle.binary_reader.specs.declared.HeadAnswer.{HeadAnswer}
 use Rattle.binary_reader.specs.declared.HeadAnswer.the-variants as head
@@ -49,10 +50,6 @@ pub record HeadJudged (s : List ℕ) (authority : Span) (end : ℕ) (notes : Not
   pub lies : HeadLies s r
 
 -- ---- the outcome
-
--- a part by its place and its length
-abbrev pub partAt : ℕ → ℕ → Part
-partAt a n = record { start = a; len = n }
 
 -- the part that a span names
 abbrev pub partIs : Span → Part
@@ -113,4 +110,4 @@ pub record RequestRest (s : List ℕ) (known : Bool) (q : RequestControl) (end f
 
 -- a request that was read: as a message that might be a response; it has no informational heads, so the ranges lent for them stay as they are
 pub record Requested (x : Got Message) (hs hs′ cs cs′ ts ts′ : List ℕ) (r : Outcome) : Type 0 where
-  pub by : (ns : List ℕ) → Responded (answerOf x) hs hs′ ns ns cs cs′ ts ts′ r
+  pub by : (ns : List ℕ) → Responded (messageAnswer x) hs hs′ ns ns cs cs′ ts ts′ r

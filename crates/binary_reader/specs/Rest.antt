@@ -8,14 +8,14 @@ use lib.Dec.{eqb}
 use lib.ListN.{length, drop}
 use Rattle.script.specs.Do.{Piece}
 use Rattle.output.specs.Splice.{splice}
-use Rattle.messages.specs.Message.{FieldRead, Section, Start, Message}
+use Rattle.messages.specs.Message.{FieldRead, Section, Start, Message, plainMessage}
 use Rattle.messages.specs.Names.{keptTrailers}
 use Rattle.messages.specs.Meaning.{contentOf}
 use Rattle.messages.specs.Answers.{fieldsNumbers, chunksNumbers}
 use Rattle.messages.specs.declared.Framing.{Framing}
 use Rattle.binary.specs.Reader.{Got, got, no, Reader, _>>=_, give}
 use Rattle.binary.specs.Read.{trailers, padding, afterHeaders}
-use Rattle.read_binary.specs.Control.{GoesOn}
+use Rattle.binary_parts.specs.Control.{GoesOn}
 use Rattle.binary_reader.specs.declared.TrailersRead.{TrailersRead}
 use Rattle.binary_reader.specs.declared.TrailersRead.the-variants as trailers-are
 use Rattle.binary_reader.specs.declared.RestRead.{RestRead}
@@ -44,7 +44,7 @@ unfoldable pub behindContent : Bool → Bool → Start → List FieldRead → Li
 behindContent known body start lines c = do
   ts ← trailers known body
   z ← padding
-  give (record { start = start; lines = lines; chunks = c; trailers = ts })
+  give (plainMessage start lines c ts)
 
 -- a message that was read to the end of s behind its start and its header lines: the ranges of its chunks and kept trailers, and their numbers
 abbrev pub RestSays : List ℕ → Start → List FieldRead → Got Message → List ℕ → List ℕ → List ℕ → List ℕ → RestRead → Type 0

@@ -5,7 +5,7 @@ use mathlib.Core.Bool.{Bool, true, false, cond}
 use mathlib.Core.List.{List, []}
 use lib.Dec.{leb, eqb}
 use Rattle.octets.specs.Limits.{informationalMost}
-use Rattle.octets.specs.Refusals.{badFraming}
+use Rattle.octets.specs.Refusals.{badIndicator}
 use Rattle.output.specs.Splice.{splice}
 use Rattle.messages.specs.Message.{FieldRead, InformationalRead, isResponse, Message}
 use Rattle.messages.specs.Names.{keptTrailers}
@@ -31,12 +31,12 @@ pub record MessageIs (response : Bool) (is : List InformationalRead) (lines : Li
   pub says : MessageSays response is lines x cs cs′ ts ts′ r
 
 -- what stands behind the framing: 0 request, 1 response, of known length; 2 and 3 the same of indeterminate length
-unfoldable pub behindFraming : ℕ → Reader Message
-behindFraming f =
+unfoldable pub behindIndicator : ℕ → Reader Message
+behindIndicator f =
     cond (leb f 3)
     (cond (eqb f 0)
     (requestMessage true)
     (cond (eqb f 1)
     (responseMessage true (suc informationalMost) [])
     (cond (eqb f 2) (requestMessage false) (responseMessage false (suc informationalMost) []))))
-    (refuse badFraming 0)
+    (refuse badIndicator 0)

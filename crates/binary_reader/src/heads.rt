@@ -1,6 +1,8 @@
 // The heads of a response.
 use crate::HeadRead;
 use crate::HeadsRead;
+use binary_parts::Section;
+use binary_parts::lines::read_section;
 use messages::BodyAnswer;
 use messages::parts::is_informational;
 use messages::parts::status_verdict;
@@ -10,8 +12,6 @@ use numbers::read_int;
 use octets::Limits;
 use octets::Refusals;
 use ranges::store;
-use read_binary::Section;
-use read_binary::lines::read_section;
 ghost use mathlib.Core.Path.{_≡_};
 ghost use mathlib.Core.List.{[]};
 ghost use Prim.Native.Nat.{suc, _+_, _*_, _≤_, _<_};

@@ -1,17 +1,17 @@
 // What stands behind a header section: content, trailers, padding.
 use crate::RestRead;
 use crate::TrailersRead;
+use binary_parts::ContentRead;
+use binary_parts::Padding;
+use binary_parts::Section;
+use binary_parts::content::check_padding;
+use binary_parts::content::content_agrees;
+use binary_parts::content::read_content;
+use binary_parts::lines::read_section;
 use messages::Framing;
 use messages::Notes;
 use messages::sections::are_trailers;
 use octets::Refusals;
-use read_binary::ContentRead;
-use read_binary::Padding;
-use read_binary::Section;
-use read_binary::content::check_padding;
-use read_binary::content::content_agrees;
-use read_binary::content::read_content;
-use read_binary::lines::read_section;
 ghost use mathlib.Core.Path.{_≡_};
 ghost use Prim.Native.Nat.{_≤_, _<_};
 ghost use lib.ListN.{length, drop};

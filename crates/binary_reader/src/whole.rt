@@ -14,9 +14,9 @@ ghost use Prim.Native.Nat.{_≤_, _<_};
 ghost use lib.ListN.{length, drop};
 ghost use Rattle.octets.specs.Table.{classes};
 ghost use Rattle.messages.specs.Answers.{readingOf};
-ghost use Rattle.binary.specs.Read.{readBinary, answerOf};
+ghost use Rattle.binary.specs.Read.{readBinary, messageAnswer};
 ghost use Rattle.ranges.specs.Ranges.{placesEnd, Responded};
-ghost use Rattle.binary_reader.specs.Whole.{behindFraming};
+ghost use Rattle.binary_reader.specs.Whole.{behindIndicator};
 
 // The message behind its framing, which ends at `from`.
 fn framed_in(
@@ -30,7 +30,7 @@ fn framed_in(
     trailers: &mut [u32],
 ) -> Outcome
     requires { ⌜ (now t ≡ classes) × (length (now s) < placesEnd) × (1280 ≤ length (now headers)) × (8 ≤ length (now informational)) × (512 ≤ length (now chunks)) × (256 ≤ length (now trailers)) ⌝ }
-    ensures { λ r. ⌜ Responded (answerOf (behindFraming framing from (drop from (now (s .entry))))) (now (headers .entry)) (now (headers .exit)) (now (informational .entry)) (now (informational .exit)) (now (chunks .entry)) (now (chunks .exit)) (now (trailers .entry)) (now (trailers .exit)) r ⌝ }
+    ensures { λ r. ⌜ Responded (messageAnswer (behindIndicator framing from (drop from (now (s .entry))))) (now (headers .entry)) (now (headers .exit)) (now (informational .entry)) (now (informational .exit)) (now (chunks .entry)) (now (chunks .exit)) (now (trailers .entry)) (now (trailers .exit)) r ⌝ }
 {
     if framing == 0 {
         return request_in(t, s, from, true, headers, chunks, trailers);
@@ -45,7 +45,7 @@ fn framed_in(
         return response_in(t, s, from, false, headers, informational, chunks, trailers);
     }
     Outcome::Refusal {
-        number: Refusals::BAD_FRAMING,
+        number: Refusals::BAD_INDICATOR,
         place: 0,
     }
 }

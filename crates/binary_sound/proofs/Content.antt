@@ -12,7 +12,7 @@ use Rattle.octets.specs.Refusals.{badPadding}
 use Rattle.octets.specs.Text.{isEmpty}
 use Rattle.octets.proofs.Kit.{into}
 use Rattle.script.specs.Do.{Piece, piece, good}
-use Rattle.messages.specs.Message.{FieldRead, Section, Start, Message}
+use Rattle.messages.specs.Message.{FieldRead, Section, Start, Message, plainMessage}
 use Rattle.messages.specs.Names.{areTrailers, kept, keptTrailers}
 use Rattle.messages.specs.Rules.{agrees}
 use Rattle.messages.specs.Meaning.{fieldMeans, contentOf}
@@ -40,11 +40,11 @@ content-is body f end cs c e =
     let b = into no-wrong (body || isEmpty (contentOf cs)) _ (a .1) in
     (cc, record { agreed = a .0; empty = b .0 })
 
-pub record Named (body : Bool) (ts : List FieldRead) : Type 0 where
+pub record GoodTrailers (body : Bool) (ts : List FieldRead) : Type 0 where
   pub names : areTrailers ts ≡ true
   pub none : (body || noLines (keptTrailers ts)) ≡ true
 
-trailers-are : (body : Bool) (h : Section) (ts : List FieldRead) → trailerRule body h ≡ good ts → (h .lines ≡ ts) × Named body (h .lines)
+trailers-are : (body : Bool) (h : Section) (ts : List FieldRead) → trailerRule body h ≡ good ts → (h .lines ≡ ts) × GoodTrailers body (h .lines)
 unfolding trailerRule
 trailers-are body h ts e =
     let a = into no-wrong (areTrailers (h .lines)) _ e in
@@ -55,7 +55,7 @@ or-true : (b : Bool) → (b || true) ≡ true
 or-true true = refl
 or-true false = refl
 
-named-none : (body : Bool) → Named body []
+named-none : (body : Bool) → GoodTrailers body []
 unfolding areTrailers keptTrailers kept
 named-none body = record { names = refl; none = or-true body }
 
@@ -98,13 +98,13 @@ module _ {s : List ℕ} {e : ℕ} where
       stops-if b (λ t. stops-give (chunks-none s)) λ t.
       stops-if known (λ u. every-known-content) (λ u. every-chunks (suc chunksMost) [] 0 (chunks-none s) refl))
 
-  every-trailers : {at : ℕ} (known body : Bool) → Every s e (λ n ts. LinesAt s ts × Named body ts) at (trailers known body)
+  every-trailers : {at : ℕ} (known body : Bool) → Every s e (λ n ts. LinesAt s ts × GoodTrailers body ts) at (trailers known body)
   unfolding trailers
   every-trailers known body =
       stops-bind _ (stops-ended λ b.
       stops-if b (λ t. stops-give (lines-none s, named-none body)) λ t.
       stops-then _ (every-section known) λ i h g.
-      every-tell (trailerRule body h) λ ts q. let r = trailers-are body h ts q in (subst (LinesAt s) (r .0) g, subst (Named body) (r .0) (r .1)))
+      every-tell (trailerRule body h) λ ts q. let r = trailers-are body h ts q in (subst (LinesAt s) (r .0) g, subst (GoodTrailers body) (r .0) (r .1)))
 
   -- to the end of the input
   padded : (at : ℕ) (l : List ℕ) → Stands s e at l → Gets (λ n i z. Stands s e n i × (n ≡ e)) (padding at l)
@@ -126,10 +126,10 @@ pub record TailAt (s : List ℕ) (body : Bool) (f : Framing) (cs : List Piece) (
   pub chunks : ChunksAt s cs
   pub filled : Filled body f cs
   pub trailers : LinesAt s ts
-  pub named : Named body ts
+  pub named : GoodTrailers body ts
 
 pub every-after : {s : List ℕ} {e : ℕ} {P : ℕ → Message → Type 0} {at : ℕ} (known body : Bool) (start : Start) (h : Section) (f : Framing)
-    → ((cs : List Piece) (ts : List FieldRead) → TailAt s body f cs ts → P e (record { start = start; lines = h .lines; chunks = cs; trailers = ts }))
+    → ((cs : List Piece) (ts : List FieldRead) → TailAt s body f cs ts → P e (plainMessage start (h .lines) cs ts))
     → Every s e P at (afterHeaders known body start h f)
 unfolding afterHeaders
 every-after {s} {e} {P} known body start h f k =

@@ -17,7 +17,7 @@ use Rattle.script.specs.Script.{Lies}
 use Rattle.script.specs.Do.{Piece, piece, Judged, good, wrong}
 use Rattle.script.proofs.Places.{lies-front, lies-rest, lies-in}
 use Rattle.script.proofs.Refusals.{Judges}
-use Rattle.binary.specs.Reader.{Got, got, no, Reader, onGot, _>>=_, give, refuse, here, ended, tell, rule, onInteger, integer, octets}
+use Rattle.binary.specs.Reader.{Got, got, no, Reader, onGot, _>>=_, give, refuse, here, ended, tell, rule, onInteger, integer, string}
 
 -- at the place `at` of the input s stands l, up to the place e
 pub record Stands (s : List ℕ) (e at : ℕ) (l : List ℕ) : Type 0 where
@@ -88,8 +88,8 @@ module _ {s : List ℕ} {e : ℕ} {R : ℕ → ℕ → Type 0} where
       on l y Cut q = f
 
   pub stops-octets : {P : ℕ → Piece → Type 0} {at : ℕ} (n k p : ℕ) → R k p → ((w : List ℕ) → length w ≡ n → Lies s at w → P (at + n) (piece at w))
-      → Stops s e R P at (octets n k p)
-  unfolding octets
+      → Stops s e R P at (string n k p)
+  unfolding string
   stops-octets {P} {at} n k p f h = record { go = λ l y. on l y (ltb (length l) n) refl }
     where
       on : (l : List ℕ) → Stands s e at l → (b : Bool) → ltb (length l) n ≡ b
@@ -143,5 +143,5 @@ module _ {s : List ℕ} {e : ℕ} where
   every-integer k p h = stops-integer k p tt h
 
   pub every-octets : {P : ℕ → Piece → Type 0} {at : ℕ} (n k p : ℕ) → ((w : List ℕ) → length w ≡ n → Lies s at w → P (at + n) (piece at w))
-      → Every s e P at (octets n k p)
+      → Every s e P at (string n k p)
   every-octets n k p h = stops-octets n k p tt h

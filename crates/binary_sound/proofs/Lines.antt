@@ -16,7 +16,7 @@ use Rattle.messages.specs.Message.{FieldRead}
 use Rattle.messages.specs.Control.{isLowerName, isTrimmedValue}
 use Rattle.messages.proofs.Verdicts.{name-rule}
 use Rattle.binary.specs.Reader.{Got, got, no}
-use Rattle.binary.specs.Read.{lineOf, knownLine, knownLines, onBody, bodyLines, knownSection, openLine, openLines, section}
+use Rattle.binary.specs.Read.{judgedLine, knownLine, knownLines, onBody, bodyLines, knownSection, openLine, openLines, section}
 use Rattle.sound.specs.Placed.{Each, Lying}
 use Rattle.sound.proofs.Each.{each-snoc}
 use Rattle.sound.proofs.Parts.{LineAt, SectionAt, section-none, section-snoc}
@@ -44,8 +44,8 @@ lines-snoc s fs f h g l = record { section = section-snoc s fs f (h .section) (g
 pub no-wrong : {X : Type 0} {n p : ℕ} {x : X} → wrong n p ≡ good x → ⊥
 no-wrong e = let z : _≡_ {A = ℕ} 0 1 = cc in omega arith
 
-line-is : (s : List ℕ) (p : ℕ) (n v : Piece) (f : FieldRead) → lineOf p n v ≡ good f → Lying s n → Lying s v → LowerLine s f
-unfolding lineOf
+line-is : (s : List ℕ) (p : ℕ) (n v : Piece) (f : FieldRead) → judgedLine p n v ≡ good f → Lying s n → Lying s v → LowerLine s f
+unfolding judgedLine
 line-is s p n v f e x y =
     let a = into no-wrong (isLowerName (n .text)) _ e in
     let b = into no-wrong (isTrimmedValue (v .text)) _ (a .1) in
@@ -64,14 +64,14 @@ module _ {s : List ℕ} {e : ℕ} where
       stops-bind _ (every-octets a _ _ λ w l x.
       stops-bind _ (every-integer _ _ λ j b.
       stops-bind _ (every-octets b _ _ λ u k y.
-      every-tell (lineOf _ _ _) λ f q. line-is s _ _ _ f q x y))))))
+      every-tell (judgedLine _ _ _) λ f q. line-is s _ _ _ f q x y))))))
 
   every-open-line : {at : ℕ} (p a : ℕ) → Every s e (λ n f. LowerLine s f) at (openLine p a)
   unfolding openLine
   every-open-line p a =
       stops-bind _ (every-octets a _ _ λ w l x.
       stops-then _ every-part λ i v y.
-      every-tell (lineOf p _ v) λ f q. line-is s p _ v f q x y)
+      every-tell (judgedLine p _ v) λ f q. line-is s p _ v f q x y)
 
   -- ---- sections
 

@@ -22,8 +22,8 @@ use Rattle.messages.specs.Rules.{authorityIn, binaryFramingOf, nothingStated, m
 use Rattle.messages.specs.declared.Framing.{Framing}
 use Rattle.messages.specs.declared.Framing.the-variants.{Unstated}
 use Rattle.binary.specs.Reader.{Got, got, no, Reader}
-use Rattle.binary.specs.Read.{part, partWithin, ruledPart, schemeOf, schemePart, requestControl, lineOf, knownLine, knownLines, onBody, bodyLines, knownSection, openLine, openLines, section}
-use Rattle.binary.specs.Read.{knownContent, openChunks, content, contentRule, noLines, trailerRule, trailers, padding, afterHeaders, requestMessage, finalResponse, responseMessage, message, answerOf, readBinary}
+use Rattle.binary.specs.Read.{part, partWithin, ruledPart, schemeOf, schemePart, requestControl, judgedLine, knownLine, knownLines, onBody, bodyLines, knownSection, openLine, openLines, section}
+use Rattle.binary.specs.Read.{knownContent, openChunks, content, contentRule, noLines, trailerRule, trailers, padding, afterHeaders, requestMessage, finalResponse, responseMessage, message, messageAnswer, readBinary}
 use Rattle.sound.specs.Placed.{Lying}
 use Rattle.sound.specs.Refusal.{Refusal}
 use Rattle.sound.proofs.Refusals.{Verdict, method-verdict, path-verdict, authority-verdict, status-verdict, not-good, Refuses, refusal, authority-judged, nothing-judged, may-judged}
@@ -64,8 +64,8 @@ module _ (s : List ℕ) (p : ℕ) (i : p ≤ length s) where
       either (Refuses binaryLast s) (sameText w (ascii "http")) (good 0) _ (λ a. tt)
       (λ a. either (Refuses binaryLast s) (sameText w (ascii "https")) (good 1) (wrong notSupported p) (λ b. tt) (λ b. at-place (lit≤ tt) (lit≤ tt) i))
 
-  line-judged : (n v : Piece) → Refuses binaryLast s (lineOf p n v)
-  unfolding lineOf
+  line-judged : (n v : Piece) → Refuses binaryLast s (judgedLine p n v)
+  unfolding judgedLine
   line-judged n v =
       either (Refuses binaryLast s) (isLowerName (n .text)) _ (wrong badSyntax p)
       (λ a. either (Refuses binaryLast s) (isTrimmedValue (v .text)) _ (wrong badSyntax p) (λ b. tt) (λ b. bad-syntax i))
@@ -146,7 +146,7 @@ module _ {s : List ℕ} {e : ℕ} where
       (stops-bind _ (stops-octets a _ _ (bad-section p) λ w k y.
       stops-bind _ (stops-integer _ _ (bad-section p) λ l b.
       stops-bind _ (stops-octets b _ _ (bad-section p) λ u m y.
-      stops-tell (lineOf _ _ _) (line-judged s _ p _ _) λ x q. tt))))))
+      stops-tell (judgedLine _ _ _) (line-judged s _ p _ _) λ x q. tt))))))
 
   stops-known-lines : (f : ℕ) {at : ℕ} (fs : List FieldRead) → Refusing s e (λ n h. Unit {0}) at (knownLines f fs)
   unfolding knownLines
@@ -164,7 +164,7 @@ module _ {s : List ℕ} {e : ℕ} where
   stops-open-line p a i =
       stops-bind _ (stops-octets a _ _ (cut-off i) λ w k y.
       stops-then _ stops-part λ j v z.
-      stops-tell (lineOf p _ v) (line-judged s p i _ v) λ x q. tt)
+      stops-tell (judgedLine p _ v) (line-judged s p i _ v) λ x q. tt)
 
   stops-open-lines : (f : ℕ) {at : ℕ} (fs : List FieldRead) → Refusing s e (λ n h. Unit {0}) at (openLines f fs)
   unfolding openLines
@@ -302,14 +302,14 @@ pub binary-refused : BinaryRefused
 unfolding readBinary
 binary-refused s n p q = on (leb (length s) binaryMost) q
   where
-    pick : (x : Got Message) → Ends (Refusal binaryLast s) (λ k l y. Stands s (length s) k l × Unit {0}) x → answerOf x ≡ refused n p → Refusal binaryLast s n p
+    pick : (x : Got Message) → Ends (Refusal binaryLast s) (λ k l y. Stands s (length s) k l × Unit {0}) x → messageAnswer x ≡ refused n p → Refusal binaryLast s n p
     pick (got y k l) g z = let w : _≡_ {A = ℕ} 0 1 = cc in absurd (omega arith)
     pick (no k j) g z =
         let a : k ≡ n = cc in
         let b : j ≡ p = cc in
         rw (a, b) at g
 
-    on : (b : Bool) → cond b (answerOf (message 0 s)) (refused tooLarge 0) ≡ refused n p → Refusal binaryLast s n p
+    on : (b : Bool) → cond b (messageAnswer (message 0 s)) (refused tooLarge 0) ≡ refused n p → Refusal binaryLast s n p
     on true z = pick (message 0 s) (stops-message {s = s} {e = length s} {at = 0} .go s (record { lies = lies-all s; ends = omega arith })) z
     on false z =
         let a : tooLarge ≡ n = cc in
@@ -318,8 +318,8 @@ binary-refused s n p q = on (leb (length s) binaryMost) q
 
 pub binary-settled : BinarySettled
 unfolding readBinary
-binary-settled s = either Settled (leb (length s) binaryMost) (answerOf (message 0 s)) (refused tooLarge 0) (λ a. on (message 0 s)) (λ a. tt)
+binary-settled s = either Settled (leb (length s) binaryMost) (messageAnswer (message 0 s)) (refused tooLarge 0) (λ a. on (message 0 s)) (λ a. tt)
   where
-    on : (x : Got Message) → Settled (answerOf x)
+    on : (x : Got Message) → Settled (messageAnswer x)
     on (got m n r) = tt
     on (no k p) = tt

@@ -15,7 +15,7 @@ use Rattle.octets.proofs.Texts.{some}
 use Rattle.script.specs.Script.{accepted, refused}
 use Rattle.script.specs.Do.{Piece, good}
 use Rattle.script.proofs.Places.{lies-all}
-use Rattle.messages.specs.Message.{FieldRead, Section, InformationalRead, requestStart, responseStart, Message}
+use Rattle.messages.specs.Message.{FieldRead, Section, InformationalRead, requestStart, responseStart, Message, plainMessage}
 use Rattle.messages.specs.Control.{isHost, statusVerdict, isInformational, isBodyless}
 use Rattle.messages.specs.Names.{linesOf}
 use Rattle.messages.specs.Rules.{authorityIn, binaryFramingOf, nothingStated, mayState}
@@ -27,12 +27,13 @@ use Rattle.messages.proofs.Verdicts.{host-made}
 use Rattle.messages.proofs.Valid.{host-ok}
 use Rattle.numbers.specs.Integer.{readInt}
 use Rattle.binary.specs.Reader.{Got, got, no, _>>=_, integer}
-use Rattle.binary.specs.Read.{RequestControl, requestMessage, finalResponse, responseMessage, message, answerOf, readBinary}
+use Rattle.binary.specs.Read.{RequestControl, requestMessage, finalResponse, responseMessage, message, messageAnswer, readBinary}
 use Rattle.sound.specs.Placed.{Each, Lying}
+use Rattle.sound.specs.Sound.{LengthAgrees}
 use Rattle.sound.proofs.Each.{each-snoc}
 use Rattle.sound.proofs.Parts.{SectionAt, request-valid, HeadsAt, head-at, heads-none, heads-snoc, heads-lie, heads-good, response-valid, PartsAt, parts-sound}
 use Rattle.sound.proofs.Rules.{AuthorityIs, authority-is, host-lies, nothing-stated}
-use Rattle.binary_sound.specs.Sound.{GoodStart, Stated as IsStated, LowerName, LowerNames, SoundBinary, BinarySound}
+use Rattle.binary_sound.specs.Sound.{GoodStart, LowerName, LowerNames, SoundBinary, BinarySound}
 use Rattle.binary_sound.proofs.Judgement.{Stands, Gets, Every, every-refuse, every-here, every-tell, every-rule, stops-if, every-integer, stops-bind, stops-then}
 use Rattle.binary_sound.proofs.Parts.{ControlAt, every-control}
 use Rattle.binary_sound.proofs.Lines.{LinesAt, every-section}
@@ -42,7 +43,7 @@ use Rattle.binary_sound.proofs.Content.{body-valid, TailAt, every-after
 pub record MessageAt (s : List ℕ) (m : Message) : Type 0 where
   pub parts : PartsAt s m
   pub start : GoodStart (m .start) (m .lines)
-  pub stated : IsStated m
+  pub stated : LengthAgrees (binaryFramingOf (m .lines)) m
   pub names : LowerNames m
 
 may-state : (end : ℕ) (f g : Framing) → mayState end f ≡ good g → f ≡ g
@@ -86,7 +87,7 @@ scheme-number (suc (suc v)) h = let z = ltb-true (suc (suc v)) 2 h in absurd (om
 
 request-at : (s : List ℕ) (q : RequestControl) (h : Section) (a : Piece) (f : Framing) (cs : List Piece) (ts : List FieldRead) → ControlAt s q
     → LinesAt s (h .lines) → AuthorityAt s (h .lines) a → binaryFramingOf (h .lines) ≡ f → TailAt s true f cs ts
-    → MessageAt s (record { start = requestStart (q .method) (q .scheme) a (q .path); lines = h .lines; chunks = cs; trailers = ts })
+    → MessageAt s (plainMessage (requestStart (q .method) (q .scheme) a (q .path)) (h .lines) cs ts)
 request-at s q h a f cs ts c l o g t = record {
   parts = record {
     control = request-valid (q .method .text) (a .text) (q .path .text) (q .scheme) (c .method .keeps) (c .scheme) (o .host) (c .path .keeps);
@@ -127,7 +128,7 @@ one-more s hs n fs a v i l u k = record {
 response-at : (s : List ℕ) (hs : List InformationalRead) (n : ℕ) (h : Section) (body : Bool) (f : Framing) (cs : List Piece) (ts : List FieldRead) → HeadsIn s hs
     → statusVerdict n ≡ 0 → isInformational n ≡ false → LinesAt s (h .lines) → not (isBodyless n) ≡ body → binaryFramingOf (h .lines) ≡ f
     → (isBodyless n ≡ true → binaryFramingOf (h .lines) ≡ Unstated) → TailAt s body f cs ts
-    → MessageAt s (record { start = responseStart hs n; lines = h .lines; chunks = cs; trailers = ts })
+    → MessageAt s (plainMessage (responseStart hs n) (h .lines) cs ts)
 response-at s hs n h body f cs ts a v i l b g u t = record {
   parts = record {
     control = response-valid s hs n (a .heads) v i;
@@ -210,7 +211,7 @@ unfolding readBinary
 binary-sound s n m q = on (leb (length s) binaryMost) refl q
   where
     pick : length s ≤ binaryMost → (x : Got Message) → Gets (λ k l y. Stands s (length s) k l × (MessageAt s y × (k ≡ length s))) x
-        → answerOf x ≡ accepted n m → SoundBinary s n m
+        → messageAnswer x ≡ accepted n m → SoundBinary s n m
     pick h (got y k l) g z =
         let a : k ≡ n = cc in
         let b : y ≡ m = cc in
@@ -228,7 +229,7 @@ binary-sound s n m q = on (leb (length s) binaryMost) refl q
         }
     pick h (no k p) g z = let w : _≡_ {A = ℕ} 0 1 = cc in absurd (omega arith)
 
-    on : (b : Bool) → leb (length s) binaryMost ≡ b → cond b (answerOf (message 0 s)) (refused tooLarge 0) ≡ accepted n m → SoundBinary s n m
+    on : (b : Bool) → leb (length s) binaryMost ≡ b → cond b (messageAnswer (message 0 s)) (refused tooLarge 0) ≡ accepted n m → SoundBinary s n m
     on true h z =
         pick (leb-true (length s) binaryMost h) (message 0 s)
         (every-message {s = s} {e = length s} {at = 0} .go s (record { lies = lies-all s; ends = omega arith })) z

@@ -12,14 +12,13 @@ use Rattle.script.specs.Do.{Piece}
 use Rattle.messages.specs.Message.{FieldRead, InformationalRead, Start, requestStart, responseStart, Message}
 use Rattle.messages.specs.Control.{isHost, isBodyless, isLowerName}
 use Rattle.messages.specs.Names.{linesOf}
-use Rattle.messages.specs.Rules.{binaryFramingOf, agrees}
-use Rattle.messages.specs.Meaning.{contentOf}
+use Rattle.messages.specs.Rules.{binaryFramingOf}
 use Rattle.messages.specs.declared.Framing.the-variants.{Unstated}
 use Rattle.messages.specs.declared.Kind.the-variants as kind
 use Rattle.binary.specs.Read.{readBinary}
 use Rattle.sound.specs.Placed.{Each}
 use Rattle.sound.specs.Refusal.{Refusal}
-use Rattle.sound.specs.Sound.{Sound}
+use Rattle.sound.specs.Sound.{Sound, LengthAgrees}
 
 -- "scheme is `http` or `https` (H). Authority may be empty if one `host` field gives it; with both, the bytes are equal": there is an authority, and the
 -- host line, where there is one, has its octets
@@ -39,10 +38,6 @@ pub record GoodResponse (hs : List InformationalRead) (n : ℕ) (lines : List Fi
 abbrev pub GoodStart : Start → List FieldRead → Type 0
 GoodStart (requestStart method s authority path) lines = GoodRequest s authority lines
 GoodStart (responseStart hs n) lines = GoodResponse hs n lines
-
--- "`content-length` stands at most once, one or more digits, equal to the content's length"
-abbrev pub Stated : Message → Type 0
-Stated m = agrees (binaryFramingOf (m .lines)) (length (contentOf (m .chunks))) ≡ true
 
 -- "Names are lower-case tokens": as they stand, before any is made lower case
 abbrev pub LowerName : FieldRead → Type 0
@@ -67,7 +62,8 @@ pub record SoundBinary (s : List ℕ) (n : ℕ) (m : Message) : Type 0 where
   pub whole : n ≡ length s
   pub small : n ≤ binaryMost
   pub start : GoodStart (m .start) (m .lines)
-  pub stated : Stated m
+  -- "`content-length` stands at most once, one or more digits, equal to the content's length"
+  pub stated : LengthAgrees (binaryFramingOf (m .lines)) m
   pub names : LowerNames m
 
 -- every accepted message is so

@@ -16,7 +16,7 @@ use Rattle.messages.specs.declared.Outcome.{Outcome}
 use Rattle.messages.specs.declared.Outcome.the-variants as outcome
 use Rattle.messages.proofs.Noting.{kept-few}
 use Rattle.http1.specs.Read.{readResponse}
-use Rattle.http1_laws.proofs.Sound.{response-sound}
+use Rattle.http1_sound.proofs.Sound.{response-sound}
 use Rattle.binary.specs.Read.{readBinary}
 use Rattle.binary_sound.proofs.Sound.{binary-sound}
 use Rattle.sound.specs.Sound.{Sound, GoodHeads}

@@ -10,12 +10,12 @@ use Rattle.script.specs.Script.{Answer, accepted}
 use Rattle.output.specs.Splice.{part}
 use Rattle.messages.specs.Message.{FieldRead, Start, requestStart, responseStart, isResponse, Message}
 use Rattle.messages.specs.Names.{kept}
-use Rattle.messages.specs.Told.{Told}
+use Rattle.messages.specs.declared.Told.{Told}
 use Rattle.messages.specs.Answers.{informationalNumbers, informationalLines, informationalIn, padded, recordFrom, recordOf}
 use Rattle.messages.specs.declared.Record.{Record}
 use Rattle.http1.specs.Read.{readRequest}
-use Rattle.http1_laws.specs.Read.{IsRequest, SoundRequest}
-use Rattle.http1_laws.proofs.Sound.{request-sound}
+use Rattle.http1_sound.specs.Read.{IsRequest, SoundRequest}
+use Rattle.http1_sound.proofs.Sound.{request-sound}
 use Rattle.ranges.specs.Ranges.{SmallRecord}
 use Rattle.ranges.proofs.Outcomes.{Given, sound-small}
 use Rattle.capi.specs.Entries.{recordNumbers, Entered, Numbered}

@@ -9,7 +9,7 @@ use lib.ListN.{length, getD, replicate}
 use Rattle.octets.specs.Refusals.{noRoom}
 use Rattle.script.specs.Script.{Answer, accepted, refused, more}
 use Rattle.output.specs.Splice.{splice}
-use Rattle.output.specs.Reply.{Reply, answerOf, afterOf, writtenNumber, writtenPlace}
+use Rattle.output.specs.Reply.{Reply, writtenOf, lentAfter, writtenNumber, writtenPlace}
 use Rattle.messages.specs.Message.{Message}
 use Rattle.messages.specs.Answers.{chunksNumbers, informationalNumbers, informationalIn, padded, recordOf, readingOf, numberOf, placeOf}
 use Rattle.messages.specs.declared.Part.{Part}
@@ -89,9 +89,9 @@ headsFields l = getD l 1 0 + getD l 3 0 + getD l 5 0 + getD l 7 0
 
 -- 01's number, the length written or the refusal's place, and the octets afterwards: a refusal alters none
 pub record EntryServed (y : Reply) (o o′ : List ℕ) (place number : ℕ) : Type 0 where
-  pub answers : number ≡ writtenNumber (answerOf y (length o))
-  pub places : place ≡ writtenPlace (answerOf y (length o))
-  pub after : o′ ≡ afterOf y o
+  pub answers : number ≡ writtenNumber (writtenOf y (length o))
+  pub places : place ≡ writtenPlace (writtenOf y (length o))
+  pub after : o′ ≡ lentAfter y o
 
 -- ---- the answer of a field entry; C can't be handed a slice back, so start and length stand for the part of the message
 

@@ -2,20 +2,20 @@
 use crate::numbers_out::give_message;
 use crate::written::give_written;
 use binary_reader::whole::binary_in;
+use http1_reader::request::request_in;
+use http1_reader::response::response_in;
 use listing::listing;
 use messages::Outcome;
 use octets::Refusals;
 use octets::class_table;
-use readers::request::request_in;
-use readers::response::response_in;
 ghost use mathlib.Core.Path.{_≡_};
 ghost use Prim.Native.Nat.{_+_, _≤_, _<_};
 ghost use lib.ListN.{length};
 ghost use Rattle.octets.specs.Table.{classes};
 ghost use Rattle.binary.specs.Read.{readBinary};
 ghost use Rattle.http1.specs.Read.{readRequest, readResponse};
-ghost use Rattle.readers.specs.Readers.{told};
-ghost use Rattle.output.specs.Reply.{octets};
+ghost use Rattle.http1_reader.specs.Readers.{told};
+ghost use Rattle.output.specs.Reply.{writes};
 ghost use Rattle.listing.specs.Listing.{listingOf};
 ghost use Rattle.capi.specs.Entries.{Entered, EntryServed, noHeads, headsFields};
 
@@ -212,7 +212,7 @@ pub extern "C" fn ospirnar_read_binary(input: &[u8], ranges: &mut [u32], place: 
 // The listing of an HTTP/1.1 request stream under http.
 #[no_mangle]
 pub extern "C" fn ospirnar_listing(input: &[u8], output: &mut [u8], place: &mut usize) -> u32
-    ensures { λ r. ⌜ EntryServed (octets (listingOf (now (input .entry)))) (now (output .entry)) (now (output .exit)) (now (place .exit)) r ⌝ }
+    ensures { λ r. ⌜ EntryServed (writes (listingOf (now (input .entry)))) (now (output .entry)) (now (output .exit)) (now (place .exit)) r ⌝ }
 {
     let w = listing(input, output);
     give_written(w, place)

@@ -10,24 +10,24 @@ use lib.ListN.{length}
 use Rattle.octets.specs.Refusals.{moreNeeded, notSupported, tooLarge, noRoom, otherScheme}
 use Rattle.octets.proofs.Kit.{either}
 use Rattle.script.specs.Script.{Answer, accepted, refused, more}
-use Rattle.messages.specs.Told.{Told}
+use Rattle.messages.specs.declared.Told.{Told}
 use Rattle.messages.specs.Message.{Message}
 use Rattle.messages.specs.Meaning.{Meaning, meaning}
 use Rattle.messages.specs.Valid.{isScheme}
 use Rattle.http1.specs.Read.{readRequest, readResponse}
 use Rattle.binary.specs.Read.{readBinary}
-use Rattle.write_binary.specs.Write.{binaryOf, binaryFits, toBinary}
-use Rattle.write_http1.specs.Write.{http1Of, http1Fits, onConnection, toHttp1}
-use Rattle.output.specs.Reply.{Reply, octets, wrong, answerOf, writtenNumber}
+use Rattle.binary_writer.specs.Write.{binaryOf, binaryFits, toBinary}
+use Rattle.http1_writer.specs.Write.{http1Of, http1Fits, onConnection, toHttp1}
+use Rattle.output.specs.Reply.{Reply, writes, refuses, writtenOf, writtenNumber}
 use Rattle.output.specs.declared.Written.{Written}
 use Rattle.output.specs.declared.Written.the-variants.{Done, Refused}
-use Rattle.turn.specs.Turn.{replyTo, requestToBinary, responseToBinary, binaryToBinary, binaryToHttp1}
+use Rattle.turn.specs.Turn.{replyFrom, requestToBinary, responseToBinary, binaryToBinary, binaryToHttp1}
 use Rattle.sound.specs.Refusal.{Refusal}
-use Rattle.http1_laws.specs.Read.{http1Last}
-use Rattle.http1_laws.proofs.Refusals.{request-refused, response-refused}
+use Rattle.http1_sound.specs.Read.{http1Last}
+use Rattle.http1_sound.proofs.Refusals.{request-refused, response-refused}
 use Rattle.binary_sound.specs.Sound.{binaryLast}
 use Rattle.binary_sound.proofs.Refusals.{binary-refused, binary-settled}
-use Rattle.demands.specs.Demand1.{Named, readNumber, IsAccepted, ReadNumbers, turnLast, TurnNumbers, Demand1}
+use Rattle.demands.specs.Demand1.{RefusalWithin, readNumber, IsAccepted, ReadNumbers, turnLast, TurnNumbers, Demand1}
 use Rattle.demands.proofs.Demand2.{no}
 
 -- ---- reading
@@ -58,12 +58,12 @@ read-numbers n read w h = record {
 -- ---- turning
 
 abbrev Wrongs : List ℕ → Reply → Type 0
-Wrongs s y = (k p : ℕ) → y ≡ wrong k p → Named 1 turnLast s k p
+Wrongs s y = (k p : ℕ) → y ≡ refuses k p → RefusalWithin 1 turnLast s k p
 
-octets-wrongs : (s b : List ℕ) → Wrongs s (octets b)
+octets-wrongs : (s b : List ℕ) → Wrongs s (writes b)
 octets-wrongs s b k p e = no cc
 
-wrong-wrongs : (s : List ℕ) (j q : ℕ) → Named 1 turnLast s j q → Wrongs s (wrong j q)
+wrong-wrongs : (s : List ℕ) (j q : ℕ) → RefusalWithin 1 turnLast s j q → Wrongs s (refuses j q)
 wrong-wrongs s j q h k p e =
     let a : j ≡ k = cc in
     let b : q ≡ p = cc in
@@ -73,36 +73,36 @@ wrong-wrongs s j q h k p e =
 binary-wrongs : (s : List ℕ) (m : Meaning) → Wrongs s (toBinary m)
 unfolding toBinary
 binary-wrongs s m =
-    either (Wrongs s) (binaryFits m) (octets (binaryOf m)) (wrong tooLarge 0) (λ a. octets-wrongs s (binaryOf m))
+    either (Wrongs s) (binaryFits m) (writes (binaryOf m)) (refuses tooLarge 0) (λ a. octets-wrongs s (binaryOf m))
     (λ a. wrong-wrongs s tooLarge 0 (lit≤ tt, lit≤ tt, omega arith))
 
 http1-wrongs : (t : Told) (s : List ℕ) (m : Meaning) → Wrongs s (toHttp1 t m)
 unfolding toHttp1
 http1-wrongs t s m =
-    either (Wrongs s) (onConnection t (m .control)) (cond (http1Fits m) (octets (http1Of m)) (wrong tooLarge 0)) (wrong otherScheme 0)
+    either (Wrongs s) (onConnection t (m .control)) (cond (http1Fits m) (writes (http1Of m)) (refuses tooLarge 0)) (refuses otherScheme 0)
     (λ a.
-    either (Wrongs s) (http1Fits m) (octets (http1Of m)) (wrong tooLarge 0) (λ b. octets-wrongs s (http1Of m))
+    either (Wrongs s) (http1Fits m) (writes (http1Of m)) (refuses tooLarge 0) (λ b. octets-wrongs s (http1Of m))
     (λ b. wrong-wrongs s tooLarge 0 (lit≤ tt, lit≤ tt, omega arith)))
     (λ a. wrong-wrongs s otherScheme 0 (lit≤ tt, lit≤ tt, omega arith))
 
 -- what is replied to a reader's answer
 reply-wrongs : (s : List ℕ) (n : ℕ) → n ≤ turnLast → (x : Answer Message) → ((k p : ℕ) → x ≡ refused k p → Refusal n s k p) → (write : Meaning → Reply)
-    → ((m : Meaning) → Wrongs s (write m)) → Wrongs s (replyTo (length s) x write)
+    → ((m : Meaning) → Wrongs s (write m)) → Wrongs s (replyFrom (length s) x write)
 reply-wrongs s n w (accepted k m) h write f = f (meaning m)
 reply-wrongs s n w (refused k p) h write f =
     let r = h k p refl in
     wrong-wrongs s k p (omega (arith, r .some), omega (arith, r .ofForm), r .inside)
 reply-wrongs s n w more h write f = wrong-wrongs s moreNeeded (length s) (lit≤ tt, lit≤ tt, omega arith)
 
-in-room : (s : List ℕ) (y : Reply) → Wrongs s y → (room k p : ℕ) → answerOf y room ≡ Refused k p → Named 1 turnLast s k p
-unfolding answerOf
-in-room s (octets b) h room =
-    either (λ (r : Written). (k p : ℕ) → r ≡ Refused k p → Named 1 turnLast s k p) (leb (length b) room) (Done (length b)) (Refused noRoom 0) (λ a k p e. no cc)
+in-room : (s : List ℕ) (y : Reply) → Wrongs s y → (room k p : ℕ) → writtenOf y room ≡ Refused k p → RefusalWithin 1 turnLast s k p
+unfolding writtenOf
+in-room s (writes b) h room =
+    either (λ (r : Written). (k p : ℕ) → r ≡ Refused k p → RefusalWithin 1 turnLast s k p) (leb (length b) room) (Done (length b)) (Refused noRoom 0) (λ a k p e. no cc)
     (λ a k p e.
     let x : noRoom ≡ k = cc in
     let z : 0 ≡ p = cc in
     (omega arith, omega arith, omega arith))
-in-room s (wrong j q) h room = λ k p e. let a : j ≡ k = cc in let b : q ≡ p = cc in h k p (rw (a, b))
+in-room s (refuses j q) h room = λ k p e. let a : j ≡ k = cc in let b : q ≡ p = cc in h k p (rw (a, b))
 
 done-is : (r : Written) → ((k p : ℕ) → r ≡ Refused k p → 1 ≤ k) → (writtenNumber r ≡ 0) ↔ ((n : ℕ) × (r ≡ Done n))
 done-is (Done n) h = ((λ e. (n, refl)), (λ g. refl))
@@ -112,7 +112,7 @@ turn-numbers : (turn : List ℕ → Reply) → ((s : List ℕ) → Wrongs s (tur
 turn-numbers turn h = record {
   refusals = h;
   inRoom = λ s room k p e. in-room s (turn s) (h s) room k p e;
-  writes = λ s room. done-is (answerOf (turn s) room) (λ k p e. in-room s (turn s) (h s) room k p e .0);
+  writes = λ s room. done-is (writtenOf (turn s) room) (λ k p e. in-room s (turn s) (h s) room k p e .0);
 }
 
 request-turned : (t : Told) (s : List ℕ) → Wrongs s (requestToBinary t s)
@@ -130,7 +130,7 @@ binary-anew s = reply-wrongs s binaryLast (lit≤ tt) (readBinary s) (binary-ref
 binary-turned : (t : Told) (s : List ℕ) → Wrongs s (binaryToHttp1 t s)
 unfolding binaryToHttp1
 binary-turned t s =
-    either (Wrongs s) (isScheme (t .scheme)) (replyTo (length s) (readBinary s) (toHttp1 t)) (wrong notSupported 0)
+    either (Wrongs s) (isScheme (t .scheme)) (replyFrom (length s) (readBinary s) (toHttp1 t)) (refuses notSupported 0)
     (λ a. reply-wrongs s binaryLast (lit≤ tt) (readBinary s) (binary-refused s) (toHttp1 t) (http1-wrongs t s))
     (λ a. wrong-wrongs s notSupported 0 (lit≤ tt, lit≤ tt, omega arith))
 

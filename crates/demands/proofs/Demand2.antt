@@ -9,27 +9,27 @@ use lib.Dec.{leb}
 use lib.ListN.{length, drop}
 use Rattle.octets.specs.Refusals.{notSupported, tooLarge, noRoom, otherScheme}
 use Rattle.script.specs.Script.{Answer, accepted, refused, more, means, run}
-use Rattle.messages.specs.Told.{Told}
+use Rattle.messages.specs.declared.Told.{Told}
 use Rattle.messages.specs.Message.{FieldRead, Start, requestStart, responseStart, Message}
 use Rattle.messages.specs.Meaning.{Control, request, response, Meaning, controlMeans, meaning}
 use Rattle.messages.specs.Valid.{isScheme, ofResponse, valid}
 use Rattle.http1.specs.Read as script
 use Rattle.http1.specs.Read.{readRequest, readResponse}
 use Rattle.binary.specs.Read.{readBinary}
-use Rattle.write_binary.specs.Write.{binaryOf, binaryFits, toBinary}
-use Rattle.write_http1.specs.Write.{http1Of, http1Fits, onConnection, toHttp1}
+use Rattle.binary_writer.specs.Write.{binaryOf, binaryFits, toBinary}
+use Rattle.http1_writer.specs.Write.{http1Of, http1Fits, onConnection, toHttp1}
 use Rattle.output.specs.Splice.{splice}
-use Rattle.output.specs.Reply.{Reply, octets, wrong, answerOf, afterOf}
+use Rattle.output.specs.Reply.{Reply, writes, refuses, writtenOf, lentAfter}
 use Rattle.output.specs.declared.Written.the-variants.{Done, Refused}
 use Rattle.output.proofs.Laws.{splice-is}
 use Rattle.turn.specs.Turn as turn
 use Rattle.turn.specs.Turn.{requestToBinary, responseToBinary, binaryToBinary, binaryToHttp1}
-use Rattle.http1_laws.specs.Read.{IsRequest, IsResponse}
-use Rattle.http1_laws.proofs.Sound.{request-sound, response-sound}
+use Rattle.http1_sound.specs.Read.{IsRequest, IsResponse}
+use Rattle.http1_sound.proofs.Sound.{request-sound, response-sound}
 use Rattle.binary_sound.proofs.Sound.{binary-sound}
-use Rattle.binary_laws.proofs.Back.{round-trip-of-meanings}
-use Rattle.http1_round.specs.RoundTrip.{isRequestOf}
-use Rattle.http1_round.proofs.Back.{request-meanings, response-meanings}
+use Rattle.binary_round_trip.proofs.Back.{round-trip-of-meanings}
+use Rattle.http1_round_trip.specs.RoundTrip.{isRequestOf}
+use Rattle.http1_round_trip.proofs.Back.{request-meanings, response-meanings}
 use Rattle.demands.specs.Demand2.{Turning, http1Reader, intoBinary, requestsAsBinary, responsesAsBinary, binaryAnew, binaryAsHttp1, replyFor, replyTo, behind, Kept, Lent, Turns, Demand2}
 
 pub no : {A : Type 0} → _≡_ {A = ℕ} 0 1 → A
@@ -42,8 +42,8 @@ splice-front o b h =
     let z : 0 + length b ≡ length b = omega arith in
     splice-is o 0 b (omega arith) ∙ ap (λ (n : ℕ). b ++ drop n o) z
 
-octets-lent : (bs : List ℕ) → Lent (octets bs)
-unfolding answerOf afterOf
+octets-lent : (bs : List ℕ) → Lent (writes bs)
+unfolding writtenOf lentAfter
 octets-lent bs = record {
   done = λ o b e h. let z : bs ≡ b = cc in rw z (fit o b h);
   small = λ o b e. let z : bs ≡ b = cc in rw z ((λ g. by-test o b (leb (length b) (length o)) refl g), (λ g. rw (lt-leb (length b) (length o) g)));
@@ -63,8 +63,8 @@ octets-lent bs = record {
     kept o k p true g = no cc
     kept o k p false g = refl
 
-wrong-lent : (j q : ℕ) → Lent (wrong j q)
-unfolding answerOf afterOf
+wrong-lent : (j q : ℕ) → Lent (refuses j q)
+unfolding writtenOf lentAfter
 wrong-lent j q = record {
   done = λ o b e h. no cc;
   small = λ o b e. no cc;
@@ -73,8 +73,8 @@ wrong-lent j q = record {
 }
 
 pub lent : (y : Reply) → Lent y
-lent (octets bs) = octets-lent bs
-lent (wrong j q) = wrong-lent j q
+lent (writes bs) = octets-lent bs
+lent (refuses j q) = wrong-lent j q
 
 -- ---- any turning that replies so, and whose written messages are read back
 
@@ -82,26 +82,26 @@ module _ (w : Turning) (turn : List ℕ → Reply) (replies : (s : List ℕ) →
     (back : (s : List ℕ) (n : ℕ) (m : Message) → w .read s ≡ accepted n m → w .goes (meaning m) ≡ true → w .fits (meaning m) ≡ true
     → (rest : List ℕ) → means meaning (w .back (meaning m .control) (w .write (meaning m) ++ behind (w .streams) rest)) ≡ accepted (length (w .write (meaning m))) (meaning m)) where
   is-turned : (s : List ℕ) (n : ℕ) (m : Message) → w .told ≡ true → w .read s ≡ accepted n m → w .goes (meaning m) ≡ true → w .fits (meaning m) ≡ true
-      → turn s ≡ octets (w .write (meaning m))
+      → turn s ≡ writes (w .write (meaning m))
   is-turned s n m e r g f = replies s ∙ rw (e, r, g, f)
 
-  is-kept : (s b : List ℕ) → turn s ≡ octets b → Kept w s b
+  is-kept : (s b : List ℕ) → turn s ≡ writes b → Kept w s b
   is-kept s b e = first (w .told) (sym (replies s) ∙ e)
     where
       on : (n : ℕ) (m : Message) → w .read s ≡ accepted n m → (g f : Bool) → w .goes (meaning m) ≡ g → w .fits (meaning m) ≡ f
-          → cond g (cond f (octets (w .write (meaning m))) (wrong tooLarge 0)) (wrong otherScheme 0) ≡ octets b → Kept w s b
+          → cond g (cond f (writes (w .write (meaning m))) (refuses tooLarge 0)) (refuses otherScheme 0) ≡ writes b → Kept w s b
       on n m r true true p q h =
           let z : w .write (meaning m) ≡ b = cc in
           record { long = n; message = m; read = r; goes = p; fits = q; written = sym z; same = λ rest. rw (← z) (back s n m r p q rest) }
       on n m r true false p q h = no cc
       on n m r false f p q h = no cc
 
-      go : (x : Answer Message) → w .read s ≡ x → replyFor w (length s) x ≡ octets b → Kept w s b
+      go : (x : Answer Message) → w .read s ≡ x → replyFor w (length s) x ≡ writes b → Kept w s b
       go (accepted n m) r h = on n m r (w .goes (meaning m)) (w .fits (meaning m)) refl refl h
       go (refused k p) r h = no cc
       go more r h = no cc
 
-      first : (x : Bool) → cond x (replyFor w (length s) (w .read s)) (wrong notSupported 0) ≡ octets b → Kept w s b
+      first : (x : Bool) → cond x (replyFor w (length s) (w .read s)) (refuses notSupported 0) ≡ writes b → Kept w s b
       first true h = go (w .read s) refl h
       first false h = no cc
 
@@ -131,7 +131,7 @@ request-replies t s = go (isScheme (t .scheme)) (run (script.request t) 0 s)
   where
     go : (b : Bool) (x : Answer Message)
         → turn.replyTo (length s) (cond b x (refused notSupported 0)) toBinary
-        ≡ cond b (replyFor (requestsAsBinary t) (length s) (cond b x (refused notSupported 0))) (wrong notSupported 0)
+        ≡ cond b (replyFor (requestsAsBinary t) (length s) (cond b x (refused notSupported 0))) (refuses notSupported 0)
     go true x = binary-reply _ _ (length s) x
     go false x = refl
 
@@ -156,7 +156,7 @@ http1-reply t n more = refl
 
 http1-replies : (t : Told) (s : List ℕ) → binaryToHttp1 t s ≡ replyTo (binaryAsHttp1 t) s
 unfolding binaryToHttp1
-http1-replies t s = ap (λ (y : Reply). cond (isScheme (t .scheme)) y (wrong notSupported 0)) (http1-reply t (length s) (readBinary s))
+http1-replies t s = ap (λ (y : Reply). cond (isScheme (t .scheme)) y (refuses notSupported 0)) (http1-reply t (length s) (readBinary s))
 
 -- a valid meaning that goes on the connection and fits is read back by the reader of its kind
 http1-meanings : (t : Told) (m : Meaning) (c : Control) → m .control ≡ c → valid m ≡ true → onConnection t c ≡ true → http1Fits m ≡ true

@@ -15,22 +15,22 @@ use Rattle.script.specs.Script.{Answer, accepted, refused, more, Settled, means
 use Rattle.stream.specs.Taking.{message, waits, takeF, takeOff, onto, addOctets, addEntry, addCall, stream, entries, sent}
 use Rattle.stream.proofs.Taking as taking
 use Rattle.stream.proofs.Taking.{Within, Stable}
-use Rattle.messages.specs.Told.{Told}
+use Rattle.messages.specs.declared.Told.{Told}
 use Rattle.messages.specs.Message.{Message}
 use Rattle.messages.specs.Meaning.{Control, request, response, Meaning, meaning}
 use Rattle.messages.specs.Valid.{ofResponse, valid}
 use Rattle.sound.specs.Placed.{Each}
 use Rattle.http1.specs.Read.{readRequest}
-use Rattle.http1_laws.proofs.Front.{request-within, request-stays, request-front}
+use Rattle.http1_sound.proofs.Front.{request-within, request-stays, request-front}
 use Rattle.binary.specs.Read.{readBinary}
-use Rattle.write_http1.specs.Write.{http1Of, http1Fits, onConnection}
-use Rattle.output.specs.Reply.{Reply, octets, wrong, answerOf, afterOf, Served, ServedAt}
+use Rattle.http1_writer.specs.Write.{http1Of, http1Fits, onConnection}
+use Rattle.output.specs.Reply.{Reply, writes, refuses, writtenOf, lentAfter, Served, ServedAt}
 use Rattle.output.specs.declared.Written.{Written}
 use Rattle.output.specs.declared.Written.the-variants.{Done, Refused}
 use Rattle.output.proofs.Serve.{after-tail}
 use Rattle.turn.specs.Turn.{binaryToHttp1}
-use Rattle.http1_round.specs.RoundTrip.{isRequestOf, RequestOf}
-use Rattle.http1_round.proofs.Back.{request-meanings}
+use Rattle.http1_round_trip.specs.RoundTrip.{isRequestOf, RequestOf}
+use Rattle.http1_round_trip.proofs.Back.{request-meanings}
 use Rattle.demands.specs.Demand2.{binaryAsHttp1, Kept}
 use Rattle.demands.specs.Demand3.{Space, fresh, lentIn, answerIn, longOf, call, entryIn, calls, entriesIn, spaceOf, streamOf, entriesOf, meaningsOf, NotResponse, NoResponse, readMeaning, Demand3}
 use Rattle.demands.proofs.Demand2.{no, binary-valid, lent, demand2}
@@ -105,12 +105,12 @@ module _ {A : Type 0} (write : A → Option (List ℕ)) where
 
 -- the space with the octets `front` written
 abbrev at : List ℕ → List ℕ → Space
-at front lent = record { octets = front ++ lent; written = length front }
+at front lent = record { whole = front ++ lent; written = length front }
 
 -- what a call does to it: nothing, or it writes a meaning
 data Step (t : Told) (s front lent : List ℕ) : Type 0 where
   skips : call t (at front lent) s ≡ at front lent → entryIn t (at front lent) s ≡ [] → Step t s front lent
-  writes : (m : Meaning) → valid m ≡ true → http1Fits m ≡ true → onConnection t (m .control) ≡ true → length (http1Of m) ≤ length lent
+  adds : (m : Meaning) → valid m ≡ true → http1Fits m ≡ true → onConnection t (m .control) ≡ true → length (http1Of m) ≤ length lent
       → call t (at front lent) s ≡ at (front ++ http1Of m) (drop (length (http1Of m)) lent)
       → entryIn t (at front lent) s ≡ (length (http1Of m), m) ∷ [] → Step t s front lent
 
@@ -123,47 +123,47 @@ abbrev measured : Meaning → ℕ × Meaning
 measured m = (length (http1Of m), m)
 
 abbrev space : List ℕ → ℕ → Space
-space o n = record { octets = o; written = n }
+space o n = record { whole = o; written = n }
 
 -- an answer that is no refusal: the reply is octets, and there is room for them
 record Fitted (y : Reply) (o : List ℕ) (n : ℕ) : Type 0 where
   text : List ℕ
-  reply : y ≡ octets text
+  reply : y ≡ writes text
   long : n ≡ length text
   room : length text ≤ length o
 
-fitted : (y : Reply) (o : List ℕ) (n : ℕ) → answerOf y (length o) ≡ Done n → Fitted y o n
-unfolding answerOf
-fitted (octets b) o n e = go (leb (length b) (length o)) refl e
+fitted : (y : Reply) (o : List ℕ) (n : ℕ) → writtenOf y (length o) ≡ Done n → Fitted y o n
+unfolding writtenOf
+fitted (writes b) o n e = go (leb (length b) (length o)) refl e
   where
-    go : (x : Bool) → leb (length b) (length o) ≡ x → cond x (Done (length b)) (Refused noRoom 0) ≡ Done n → Fitted (octets b) o n
+    go : (x : Bool) → leb (length b) (length o) ≡ x → cond x (Done (length b)) (Refused noRoom 0) ≡ Done n → Fitted (writes b) o n
     go true q h = let z : length b ≡ n = cc in record { text = b; reply = refl; long = sym z; room = leb-true (length b) (length o) q }
     go false q h = no cc
-fitted (wrong k p) o n e = no cc
+fitted (refuses k p) o n e = no cc
 
 module _ (t : Told) where
   -- calls in code
   called : (z : Space) (s o′ : List ℕ) (r : Written) → Served (binaryToHttp1 t s) (lentIn z) o′ r
-      → (answerIn t z s ≡ r) × (call t z s ≡ space (take (z .written) (z .octets) ++ o′) (z .written + longOf r))
+      → (answerIn t z s ≡ r) × (call t z s ≡ space (take (z .written) (z .whole) ++ o′) (z .written + longOf r))
   unfolding call answerIn
-  called z s o′ r h = (sym (h .answer), ap₂ (λ (o : List ℕ) (w : Written). space (take (z .written) (z .octets) ++ o) (z .written + longOf w)) (sym (h .after)) (sym (h .answer)))
+  called z s o′ r h = (sym (h .answer), ap₂ (λ (o : List ℕ) (w : Written). space (take (z .written) (z .whole) ++ o) (z .written + longOf w)) (sym (h .after)) (sym (h .answer)))
 
-  called-at : (z : Space) (s o′ : List ℕ) (r : Written) → z .written ≤ length (z .octets) → ServedAt (binaryToHttp1 t s) (z .written) (z .octets) o′ r
+  called-at : (z : Space) (s o′ : List ℕ) (r : Written) → z .written ≤ length (z .whole) → ServedAt (binaryToHttp1 t s) (z .written) (z .whole) o′ r
       → (answerIn t z s ≡ r) × (call t z s ≡ space o′ (z .written + longOf r))
   unfolding call answerIn
   called-at z s o′ r k h =
       let y : Reply = binaryToHttp1 t s in
-      let e : answerOf y (length (lentIn z)) ≡ r = ap (answerOf y) (length-drop (z .written) (z .octets)) ∙ sym (h .answer) in
-      let a : take (z .written) (z .octets) ++ afterOf y (lentIn z) ≡ o′ = after-tail y (z .written) (z .octets) k ∙ sym (h .after) in
+      let e : writtenOf y (length (lentIn z)) ≡ r = ap (writtenOf y) (length-drop (z .written) (z .whole)) ∙ sym (h .answer) in
+      let a : take (z .written) (z .whole) ++ lentAfter y (lentIn z) ≡ o′ = after-tail y (z .written) (z .whole) k ∙ sym (h .after) in
       (e, ap₂ (λ (o : List ℕ) (w : Written). space o (z .written + longOf w)) a e)
 
-  unaltered : (z : Space) (s : List ℕ) (k p : ℕ) → answerIn t z s ≡ Refused k p → afterOf (binaryToHttp1 t s) (lentIn z) ≡ lentIn z
+  unaltered : (z : Space) (s : List ℕ) (k p : ℕ) → answerIn t z s ≡ Refused k p → lentAfter (binaryToHttp1 t s) (lentIn z) ≡ lentIn z
   unfolding answerIn
   unaltered z s k p e = lent (binaryToHttp1 t s) .unaltered (lentIn z) k p e
 
   refused-call : (z : Space) (s : List ℕ) (k p : ℕ) → answerIn t z s ≡ Refused k p → (call t z s ≡ z) × (entryIn t z s ≡ [])
   unfolding call entryIn
-  refused-call z s k p e = (rw (e, unaltered z s k p e) (ap₂ space (take-append-drop (z .written) (z .octets)) (omega arith)), rw e)
+  refused-call z s k p e = (rw (e, unaltered z s k p e) (ap₂ space (take-append-drop (z .written) (z .whole)) (omega arith)), rw e)
 
   record Accepted (z : Space) (s : List ℕ) (n : ℕ) : Type 0 where
     kept : Fitted (binaryToHttp1 t s) (lentIn z) n
@@ -180,7 +180,7 @@ module _ (t : Told) where
   accepted-entry z s n m k e r = rw (e, r)
 
   written-call : (front lent : List ℕ) (s : List ℕ) (n : ℕ) (b : List ℕ) → answerIn t (at front lent) s ≡ Done n → n ≡ length b
-      → afterOf (binaryToHttp1 t s) lent ≡ b ++ drop (length b) lent
+      → lentAfter (binaryToHttp1 t s) lent ≡ b ++ drop (length b) lent
       → call t (at front lent) s ≡ at (front ++ b) (drop (length b) lent)
   unfolding call
   written-call front lent s n b e l a =
@@ -201,7 +201,7 @@ module _ (t : Told) where
           let l = lent (binaryToHttp1 t s) .done rest (a .kept .text) (a .kept .reply) room in
           let y = accepted-entry (at front rest) s n (k .message) (k .long) e (k .read) in
           let c = written-call front rest s n (a .kept .text) e (a .kept .long) (l .1) in
-          writes m (binary-valid s (k .long) (k .message) (k .read)) (k .fits) (k .goes) (rw z at room) (rw z at c)
+          adds m (binary-valid s (k .long) (k .message) (k .read)) (k .fits) (k .goes) (rw z at room) (rw z at c)
           (y ∙ ap (λ (i : ℕ). (i, m) ∷ []) (a .kept .long ∙ ap length z))
 
   -- ---- a list of calls
@@ -263,7 +263,7 @@ module _ (t : Told) where
     where
       go : Step t s front rest → ((f r : List ℕ) → Left (at f r) ss f r) → Left (at front rest) (s ∷ ss) front rest
       go (skips c e) ih = left-same s ss front rest c e (ih front rest)
-      go (writes m v f g r c e) ih = left-more m (v, f, g) s ss front rest r c e (ih (front ++ http1Of m) (drop (length (http1Of m)) rest))
+      go (adds m v f g r c e) ih = left-more m (v, f, g) s ss front rest r c e (ih (front ++ http1Of m) (drop (length (http1Of m)) rest))
 
   -- ---- where no response is among them
 
@@ -294,14 +294,14 @@ module _ (t : Told) where
     abbrev text : List ℕ
     text = texts (all .ms)
 
-    untouched-all : (length (spaceOf t o ss .octets) ≡ length o) × (spaceOf t o ss .written ≤ length o)
-        × (drop (spaceOf t o ss .written) (spaceOf t o ss .octets) ≡ drop (spaceOf t o ss .written) o)
+    untouched-all : (length (spaceOf t o ss .whole) ≡ length o) × (spaceOf t o ss .written ≤ length o)
+        × (drop (spaceOf t o ss .written) (spaceOf t o ss .whole) ≡ drop (spaceOf t o ss .written) o)
     untouched-all =
         let l : length (text ++ drop (length text) o) ≡ length text + length (drop (length text) o) = length-append text (drop (length text) o) in
         let d : length (drop (length text) o) ≡ _ = length-drop (length text) o in
         let r : length text ≤ length o = all .room in
         let w : spaceOf t o ss .written ≡ length text = ap (λ (z : Space). z .written) (all .here) in
-        let c : spaceOf t o ss .octets ≡ text ++ drop (length text) o = ap (λ (z : Space). z .octets) (all .here) in
+        let c : spaceOf t o ss .whole ≡ text ++ drop (length text) o = ap (λ (z : Space). z .whole) (all .here) in
         (ap length c ∙ omega arith, omega arith, ap₂ drop w c ∙ drop-append-seam text (drop (length text) o) ∙ ap (λ (n : ℕ). drop n o) (sym w))
 
     module _ (h : NoResponse t o ss) where
@@ -310,7 +310,7 @@ module _ (t : Told) where
 
       stream-is : streamOf t o ss ≡ stream (write t) (all .ms)
       stream-is =
-          ap (λ (z : Space). take (z .written) (z .octets)) (all .here) ∙ take-append-seam text (drop (length text) o) ∙ sym (stream-texts (all .ms) requests)
+          ap (λ (z : Space). take (z .written) (z .whole)) (all .here) ∙ take-append-seam text (drop (length text) o) ∙ sym (stream-texts (all .ms) requests)
 
       entries-are : entriesOf t o ss ≡ entries (write t) (all .ms)
       entries-are = all .same ∙ sym (entries-measured (all .ms) requests)

@@ -4,51 +4,51 @@ use mathlib.Core.Path.{_≡_, refl}
 use mathlib.Core.List.{List, [], _∷_, _++_}
 use lib.ListN.{replicate}
 use Rattle.octets.specs.Ascii.{ascii}
-use Rattle.octets.specs.Refusals.{cutOff, badFraming, noRoom, otherScheme}
+use Rattle.octets.specs.Refusals.{cutOff, badIndicator, noRoom, otherScheme}
 use Rattle.octets.specs.Class.{isToken, isValue, isPath, isAuthority, classOf, hasClass, isBlank}
 use Rattle.octets.specs.Text.{spanLen, all, lowerOf, isLower, sameText, isEmpty}
 use Rattle.numbers.specs.Places.{push}
 use Rattle.numbers.specs.Integer.{extraOf, readMore, readInt}
 use Rattle.numbers.specs.Digits.{charOf, moreOf, countOf, digits}
-use Rattle.messages.specs.Told.{Told}
+use Rattle.messages.specs.declared.Told.{Told}
 use Rattle.messages.specs.Control.{isUnsupported, methodVerdict, pathVerdict, authorityVerdict, isHost, isLowerName, isTrimmedValue}
 use Rattle.messages.specs.Names.{isHopByHop, kindOf, lineKind, sameKind, linesOf, kept, areTrailers, keptTrailers}
 use Rattle.messages.specs.Rules.{authorityFrom, authorityIn, framingFrom, binaryFramingOf, mayState}
 use Rattle.messages.specs.Meaning.{request, Meaning, fieldMeans, contentOf, meaning}
 use Rattle.messages.specs.Valid.{isScheme}
-use Rattle.binary.specs.Reader.{_>>=_, integer, octets}
+use Rattle.binary.specs.Reader.{_>>=_, integer, string}
 use Rattle.binary.specs.Read.{part, partWithin, ruledPart, schemeOf, schemePart, requestControl, knownLine, knownLines, bodyLines, knownSection, section, knownContent, content, contentRule, trailerRule, trailers, padding, afterHeaders, requestMessage, message, readBinary}
-use Rattle.write_http1.specs.Write.{fieldText, sectionText, requestLine, hostField, lengthField, lengthLine, headLines, headText, bodyText, http1Of, http1Fits, toHttp1}
-use Rattle.output.specs.Reply.{answerOf, afterOf}
+use Rattle.http1_writer.specs.Write.{fieldText, sectionText, requestLine, hostField, lengthField, lengthLine, headLines, headText, bodyText, http1Of, http1Fits, toHttp1}
+use Rattle.output.specs.Reply.{writtenOf, lentAfter}
 use Rattle.output.specs.declared.Written.the-variants.{Done, Refused}
 use Rattle.turn.specs.Turn.{binaryToHttp1}
 use Rattle.demands.specs.Demand3.{Space, answerIn, call, entryIn, calls, entriesIn, entriesOf, NoResponse}
 
 unfoldable computing : Unit {0}
-unfolding isToken isValue isPath isAuthority classOf hasClass isBlank spanLen all lowerOf isLower sameText isEmpty push extraOf readMore readInt charOf moreOf countOf digits isUnsupported methodVerdict pathVerdict authorityVerdict isHost isLowerName isTrimmedValue isHopByHop kindOf lineKind sameKind linesOf kept areTrailers keptTrailers authorityFrom authorityIn framingFrom binaryFramingOf mayState fieldMeans contentOf meaning isScheme _>>=_ integer octets part partWithin ruledPart schemeOf schemePart requestControl knownLine knownLines bodyLines knownSection section knownContent content contentRule trailerRule trailers padding afterHeaders requestMessage message readBinary fieldText sectionText requestLine hostField lengthField lengthLine headLines headText bodyText http1Of http1Fits toHttp1 answerOf afterOf binaryToHttp1 answerIn call entryIn calls entriesIn
+unfolding isToken isValue isPath isAuthority classOf hasClass isBlank spanLen all lowerOf isLower sameText isEmpty push extraOf readMore readInt charOf moreOf countOf digits isUnsupported methodVerdict pathVerdict authorityVerdict isHost isLowerName isTrimmedValue isHopByHop kindOf lineKind sameKind linesOf kept areTrailers keptTrailers authorityFrom authorityIn framingFrom binaryFramingOf mayState fieldMeans contentOf meaning isScheme _>>=_ integer string part partWithin ruledPart schemeOf schemePart requestControl knownLine knownLines bodyLines knownSection section knownContent content contentRule trailerRule trailers padding afterHeaders requestMessage message readBinary fieldText sectionText requestLine hostField lengthField lengthLine headLines headText bodyText http1Of http1Fits toHttp1 writtenOf lentAfter binaryToHttp1 answerIn call entryIn calls entriesIn
 computing = tt
 
 abbrev http : Told
 http = record { scheme = 0 }
 
 -- P5 of 01, of a scheme that is named
-abbrev scanOf : List ℕ → List ℕ
-scanOf scheme = 0 ∷ 4 ∷ ascii "POST" ++ scheme ++ 1 ∷ ascii "a" ++ 2 ∷ ascii "/s" ++ 0 ∷ 3 ∷ ascii "abc" ++ 0 ∷ []
+abbrev postOf : List ℕ → List ℕ
+postOf scheme = 0 ∷ 4 ∷ ascii "POST" ++ scheme ++ 1 ∷ ascii "a" ++ 2 ∷ ascii "/s" ++ 0 ∷ 3 ∷ ascii "abc" ++ 0 ∷ []
 
-abbrev scan : List ℕ
-scan = scanOf (4 ∷ ascii "http")
+abbrev post : List ℕ
+post = postOf (4 ∷ ascii "http")
 
-abbrev scanMeans : Meaning
-scanMeans = record { control = request (ascii "POST") 0 (ascii "a") (ascii "/s"); headers = []; content = ascii "abc"; trailers = [] }
+abbrev postMeaning : Meaning
+postMeaning = record { control = request (ascii "POST") 0 (ascii "a") (ascii "/s"); headers = []; content = ascii "abc"; trailers = [] }
 
 -- in a space of 110 octets: accepted, 9 (nothing comes), 10 (framing 4), 14 (https), accepted, 13 (8 octets are left)
 abbrev inputs : List (List ℕ)
-inputs = scan ∷ [] ∷ (4 ∷ []) ∷ scanOf (5 ∷ ascii "https") ∷ scan ∷ scan ∷ []
+inputs = post ∷ [] ∷ (4 ∷ []) ∷ postOf (5 ∷ ascii "https") ∷ post ∷ post ∷ []
 
 abbrev lent : List ℕ
 lent = replicate 110 7
 
-pub accepted-two : entriesOf http lent inputs ≡ (51, scanMeans) ∷ (51, scanMeans) ∷ []
+pub accepted-two : entriesOf http lent inputs ≡ (51, postMeaning) ∷ (51, postMeaning) ∷ []
 unfolding computing
 accepted-two = refl
 
@@ -58,9 +58,9 @@ no-response = (refl, (refl, tt))
 
 -- what each call answers, where 51 octets are written, and where 102 are
 abbrev after : ℕ → Space
-after n = record { octets = lent; written = n }
+after n = record { string = lent; written = n }
 
-pub answered : (answerIn http (after 0) scan ≡ Done 51) × (answerIn http (after 51) [] ≡ Refused cutOff 0) × (answerIn http (after 51) (4 ∷ []) ≡ Refused badFraming 0)
-    × (answerIn http (after 51) (scanOf (5 ∷ ascii "https")) ≡ Refused otherScheme 0) × (answerIn http (after 102) scan ≡ Refused noRoom 0)
+pub answered : (answerIn http (after 0) post ≡ Done 51) × (answerIn http (after 51) [] ≡ Refused cutOff 0) × (answerIn http (after 51) (4 ∷ []) ≡ Refused badIndicator 0)
+    × (answerIn http (after 51) (postOf (5 ∷ ascii "https")) ≡ Refused otherScheme 0) × (answerIn http (after 102) post ≡ Refused noRoom 0)
 unfolding computing
 answered = (refl, refl, refl, refl, refl)

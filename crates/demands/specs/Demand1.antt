@@ -7,18 +7,18 @@ use mathlib.Core.List.{List}
 use lib.ListN.{length}
 use Rattle.octets.specs.Refusals.{moreNeeded}
 use Rattle.script.specs.Script.{Answer, accepted, refused, more, Settled}
-use Rattle.messages.specs.Told.{Told}
+use Rattle.messages.specs.declared.Told.{Told}
 use Rattle.messages.specs.Message.{Message}
 use Rattle.messages.specs.Answers.{readingOf, numberOf}
 use Rattle.http1.specs.Read.{readRequest, readResponse}
 use Rattle.binary.specs.Read.{readBinary}
-use Rattle.output.specs.Reply.{Reply, wrong, answerOf, writtenNumber}
+use Rattle.output.specs.Reply.{Reply, refuses, writtenOf, writtenNumber}
 use Rattle.output.specs.declared.Written.the-variants.{Done, Refused}
 use Rattle.turn.specs.Turn.{requestToBinary, responseToBinary, binaryToBinary, binaryToHttp1}
 
 -- a number from `least` to `last`, at an octet of the input s or right behind its last, where something is missing
-abbrev pub Named : ℕ → ℕ → List ℕ → ℕ → ℕ → Type 0
-Named least last s number place = (least ≤ number) × (number ≤ last) × (place ≤ length s)
+abbrev pub RefusalWithin : ℕ → ℕ → List ℕ → ℕ → ℕ → Type 0
+RefusalWithin least last s number place = (least ≤ number) × (number ≤ last) × (place ≤ length s)
 
 -- ---- reading
 
@@ -33,7 +33,7 @@ IsAccepted x = (n : ℕ) × (m : Message) × (x ≡ accepted n m)
 -- what the numbers of a reader say, where its form's refusals end with the number `last`
 pub record ReadNumbers (last : ℕ) (read : List ℕ → Answer Message) : Type 0 where
   -- every refusal
-  pub refusals : (s : List ℕ) (k p : ℕ) → read s ≡ refused k p → Named 2 last s k p
+  pub refusals : (s : List ℕ) (k p : ℕ) → read s ≡ refused k p → RefusalWithin 2 last s k p
   -- a call answers 0 exactly where the message is accepted
   pub accepts : (s : List ℕ) → (readNumber (read s) ≡ 0) ↔ IsAccepted (read s)
   -- it answers 1 exactly where more octets are needed
@@ -48,11 +48,11 @@ turnLast = 14
 -- what the numbers of a turning say
 pub record TurnNumbers (turn : List ℕ → Reply) : Type 0 where
   -- every refusal, whatever the room: the reader's, or that the message can't be written
-  pub refusals : (s : List ℕ) (k p : ℕ) → turn s ≡ wrong k p → Named 1 turnLast s k p
+  pub refusals : (s : List ℕ) (k p : ℕ) → turn s ≡ refuses k p → RefusalWithin 1 turnLast s k p
   -- every refusal in a room: these, or that the room is too small
-  pub inRoom : (s : List ℕ) (room k p : ℕ) → answerOf (turn s) room ≡ Refused k p → Named 1 turnLast s k p
+  pub inRoom : (s : List ℕ) (room k p : ℕ) → writtenOf (turn s) room ≡ Refused k p → RefusalWithin 1 turnLast s k p
   -- a call answers 0 exactly where it wrote octets
-  pub writes : (s : List ℕ) (room : ℕ) → (writtenNumber (answerOf (turn s) room) ≡ 0) ↔ ((n : ℕ) × (answerOf (turn s) room ≡ Done n))
+  pub writes : (s : List ℕ) (room : ℕ) → (writtenNumber (writtenOf (turn s) room) ≡ 0) ↔ ((n : ℕ) × (writtenOf (turn s) room ≡ Done n))
 
 -- ---- the claim
 

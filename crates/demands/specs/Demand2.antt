@@ -9,17 +9,17 @@ use mathlib.Core.List.{List, [], _++_}
 use lib.ListN.{length, drop}
 use Rattle.octets.specs.Refusals.{moreNeeded, notSupported, tooLarge, noRoom, otherScheme}
 use Rattle.script.specs.Script.{Answer, accepted, refused, more, means}
-use Rattle.messages.specs.Told.{Told}
+use Rattle.messages.specs.declared.Told.{Told}
 use Rattle.messages.specs.Message.{Message}
 use Rattle.messages.specs.Meaning.{Control, request, response, Meaning, meaning}
 use Rattle.messages.specs.Valid.{isScheme, ofResponse}
 use Rattle.http1.specs.Read.{readRequest, readResponse}
 use Rattle.binary.specs.Read.{readBinary}
-use Rattle.write_binary.specs.Write.{binaryOf, binaryFits}
-use Rattle.write_http1.specs.Write.{http1Of, http1Fits, onConnection}
-use Rattle.output.specs.Reply.{Reply, octets, wrong, answerOf, afterOf}
+use Rattle.binary_writer.specs.Write.{binaryOf, binaryFits}
+use Rattle.http1_writer.specs.Write.{http1Of, http1Fits, onConnection}
+use Rattle.output.specs.Reply.{Reply, writes, refuses, writtenOf, lentAfter}
 use Rattle.output.specs.declared.Written.the-variants.{Done, Refused}
-use Rattle.http1_round.specs.RoundTrip.{isRequestOf}
+use Rattle.http1_round_trip.specs.RoundTrip.{isRequestOf}
 use Rattle.turn.specs.Turn.{requestToBinary, responseToBinary, binaryToBinary, binaryToHttp1}
 
 -- ---- what a turning is
@@ -88,17 +88,17 @@ binaryAsHttp1 t =
 
 -- of an accepted message: 14 at 0 where it is not the connection's, 8 at 0 where a written size is passed, else it IS turned
 abbrev pub replyOn : Turning → Meaning → Reply
-replyOn w m = cond (w .goes m) (cond (w .fits m) (octets (w .write m)) (wrong tooLarge 0)) (wrong otherScheme 0)
+replyOn w m = cond (w .goes m) (cond (w .fits m) (writes (w .write m)) (refuses tooLarge 0)) (refuses otherScheme 0)
 
 -- of the reader's answer on an input of n octets: the reader's refusal stands, and where it needs more octets it is 1 at the input's length
 abbrev pub replyFor : Turning → ℕ → Answer Message → Reply
 replyFor w n (accepted k m) = replyOn w (meaning m)
-replyFor w n (refused k p) = wrong k p
-replyFor w n more = wrong moreNeeded n
+replyFor w n (refused k p) = refuses k p
+replyFor w n more = refuses moreNeeded n
 
 -- any call told a number that is no scheme's is 4 at 0, first
 abbrev pub replyTo : Turning → List ℕ → Reply
-replyTo w s = cond (w .told) (replyFor w (length s) (w .read s)) (wrong notSupported 0)
+replyTo w s = cond (w .told) (replyFor w (length s) (w .read s)) (refuses notSupported 0)
 
 -- ---- what it keeps
 
@@ -123,13 +123,13 @@ pub record Kept (w : Turning) (s b : List ℕ) : Type 0 where
 -- what a call that is to reply y answers, and what it leaves in the octets o that it is lent
 pub record Lent (y : Reply) : Type 0 where
   -- octets for which there is room are written from the first octet on, their number is answered, and all behind them stays
-  pub done : (o b : List ℕ) → y ≡ octets b → length b ≤ length o → (answerOf y (length o) ≡ Done (length b)) × (afterOf y o ≡ b ++ drop (length b) o)
+  pub done : (o b : List ℕ) → y ≡ writes b → length b ≤ length o → (writtenOf y (length o) ≡ Done (length b)) × (lentAfter y o ≡ b ++ drop (length b) o)
   -- it is 13 at 0 exactly where the octets are more than the room
-  pub small : (o b : List ℕ) → y ≡ octets b → (answerOf y (length o) ≡ Refused noRoom 0) ↔ (length o < length b)
+  pub small : (o b : List ℕ) → y ≡ writes b → (writtenOf y (length o) ≡ Refused noRoom 0) ↔ (length o < length b)
   -- a refusal stands whatever the room
-  pub stands : (o : List ℕ) (k p : ℕ) → y ≡ wrong k p → answerOf y (length o) ≡ Refused k p
+  pub stands : (o : List ℕ) (k p : ℕ) → y ≡ refuses k p → writtenOf y (length o) ≡ Refused k p
   -- on any refusal, 13 too, nothing is altered
-  pub unaltered : (o : List ℕ) (k p : ℕ) → answerOf y (length o) ≡ Refused k p → afterOf y o ≡ o
+  pub unaltered : (o : List ℕ) (k p : ℕ) → writtenOf y (length o) ≡ Refused k p → lentAfter y o ≡ o
 
 -- ---- the claim
 
@@ -139,9 +139,9 @@ pub record Turns (w : Turning) (turn : List ℕ → Reply) : Type 0 where
   pub reply : (s : List ℕ) → turn s ≡ replyTo w s
   -- whatever is accepted, goes on the connection and fits is turned: the same, said of one message
   pub turned : (s : List ℕ) (n : ℕ) (m : Message) → w .told ≡ true → w .read s ≡ accepted n m → w .goes (meaning m) ≡ true → w .fits (meaning m) ≡ true
-      → turn s ≡ octets (w .write (meaning m))
+      → turn s ≡ writes (w .write (meaning m))
   -- what is written keeps the meaning. A build that says 0 and writes nothing, or something else, is shut out
-  pub kept : (s b : List ℕ) → turn s ≡ octets b → Kept w s b
+  pub kept : (s b : List ℕ) → turn s ≡ writes b → Kept w s b
   -- what is answered and left where there is so much room
   pub room : (s : List ℕ) → Lent (turn s)
 

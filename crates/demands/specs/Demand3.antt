@@ -8,7 +8,7 @@ use mathlib.Core.List.{List, [], _∷_, _++_, map}
 use lib.ListN.{length, take, drop}
 use Rattle.script.specs.Script.{Answer, accepted, refused, more, means}
 use Rattle.stream.specs.Taking.{waits, takeF, takeOff, resume, onto}
-use Rattle.messages.specs.Told.{Told}
+use Rattle.messages.specs.declared.Told.{Told}
 use Rattle.messages.specs.Message.{Message}
 use Rattle.messages.specs.Meaning.{Meaning, meaning}
 use Rattle.messages.specs.Answers.{readingOf}
@@ -16,9 +16,9 @@ use Rattle.messages.specs.Valid.{ofResponse}
 use Rattle.messages.specs.declared.Outcome.the-variants as outcome
 use Rattle.sound.specs.Placed.{Each}
 use Rattle.http1.specs.Read.{readRequest}
-use Rattle.http1_laws.specs.Front.{answers, First}
+use Rattle.http1_sound.specs.Front.{answers, First}
 use Rattle.binary.specs.Read.{readBinary}
-use Rattle.output.specs.Reply.{answerOf, afterOf, Served, ServedAt}
+use Rattle.output.specs.Reply.{writtenOf, lentAfter, Served, ServedAt}
 use Rattle.output.specs.declared.Written.{Written}
 use Rattle.output.specs.declared.Written.the-variants.{Done, Refused}
 use Rattle.turn.specs.Turn.{binaryToHttp1}
@@ -27,20 +27,20 @@ use Rattle.turn.specs.Turn.{binaryToHttp1}
 
 -- the lent space, and how many octets of it the calls have written
 pub record Space : Type 0 where
-  pub octets : List ℕ
+  pub whole : List ℕ
   pub written : ℕ
 
 -- "starts with nothing written"
 abbrev pub fresh : List ℕ → Space
-fresh o = record { octets = o; written = 0 }
+fresh o = record { whole = o; written = 0 }
 
 -- "each call gets the lent space behind what the calls before it wrote"
 abbrev pub lentIn : Space → List ℕ
-lentIn z = drop (z .written) (z .octets)
+lentIn z = drop (z .written) (z .whole)
 
 -- what the call on the Binary input s answers, told t
 unfoldable pub answerIn : Told → Space → List ℕ → Written
-answerIn t z s = answerOf (binaryToHttp1 t s) (length (lentIn z))
+answerIn t z s = writtenOf (binaryToHttp1 t s) (length (lentIn z))
 
 -- the octets that a call says it wrote; a refused call wrote none
 abbrev pub longOf : Written → ℕ
@@ -51,7 +51,7 @@ longOf (Refused k p) = 0
 unfoldable pub call : Told → Space → List ℕ → Space
 call t z s =
     record {
-      octets = take (z .written) (z .octets) ++ afterOf (binaryToHttp1 t s) (lentIn z);
+      whole = take (z .written) (z .whole) ++ lentAfter (binaryToHttp1 t s) (lentIn z);
       written = z .written + longOf (answerIn t z s);
     }
 
@@ -85,7 +85,7 @@ spaceOf t o ss = calls t (fresh o) ss
 
 -- the octets that they wrote
 abbrev pub streamOf : Told → List ℕ → List (List ℕ) → List ℕ
-streamOf t o ss = take (spaceOf t o ss .written) (spaceOf t o ss .octets)
+streamOf t o ss = take (spaceOf t o ss .written) (spaceOf t o ss .whole)
 
 -- what they accepted: lengths and meanings
 abbrev pub entriesOf : Told → List ℕ → List (List ℕ) → List (ℕ × Meaning)
@@ -116,9 +116,9 @@ pub record Demand3 (t : Told) : Type 0 where
   -- a call that is lent this part of the space, answers r and leaves o′ there, as the writer promises (output/Reply), is the call spoken of here;
   -- so is one that is lent the whole space and the place to write from
   pub called : (z : Space) (s o′ : List ℕ) (r : Written) → Served (binaryToHttp1 t s) (lentIn z) o′ r
-      → (answerIn t z s ≡ r) × (call t z s ≡ record { octets = take (z .written) (z .octets) ++ o′; written = z .written + longOf r })
-  pub calledAt : (z : Space) (s o′ : List ℕ) (r : Written) → z .written ≤ length (z .octets) → ServedAt (binaryToHttp1 t s) (z .written) (z .octets) o′ r
-      → (answerIn t z s ≡ r) × (call t z s ≡ record { octets = o′; written = z .written + longOf r })
+      → (answerIn t z s ≡ r) × (call t z s ≡ record { whole = take (z .written) (z .whole) ++ o′; written = z .written + longOf r })
+  pub calledAt : (z : Space) (s o′ : List ℕ) (r : Written) → z .written ≤ length (z .whole) → ServedAt (binaryToHttp1 t s) (z .written) (z .whole) o′ r
+      → (answerIn t z s ≡ r) × (call t z s ≡ record { whole = o′; written = z .written + longOf r })
   -- an accepted call: the Binary reader accepted its input, and the call adds the length that it said and that input's meaning. Which calls are accepted
   -- is demand 2's `turned` and `room`: they shut out a writer that refuses everything, of which the rest here would say nothing
   pub accepts : (z : Space) (s : List ℕ) (n : ℕ) → answerIn t z s ≡ Done n
@@ -139,8 +139,8 @@ pub record Demand3 (t : Told) : Type 0 where
       → (streamOf t o ss ≡ streamOf t q rs) ↔ (meaningsOf t o ss ≡ meaningsOf t q rs)
   -- after every list of calls the space is as long as it was, what was written lies within it, and all behind is as it was lent
   pub untouched : (o : List ℕ) (ss : List (List ℕ))
-      → (length (spaceOf t o ss .octets) ≡ length o) × (spaceOf t o ss .written ≤ length o)
-      × (drop (spaceOf t o ss .written) (spaceOf t o ss .octets) ≡ drop (spaceOf t o ss .written) o)
+      → (length (spaceOf t o ss .whole) ≡ length o) × (spaceOf t o ss .written ≤ length o)
+      × (drop (spaceOf t o ss .written) (spaceOf t o ss .whole) ≡ drop (spaceOf t o ss .written) o)
   -- for every stream s of arbitrary octets, and whatever octets u are put behind it: an answer that does not ask for more stays, ranges included
   pub reading : (s u : List ℕ) → (readingOf (readRequest t s) .outcome ≡ outcome.More → ⊥) → readingOf (readRequest t (s ++ u)) ≡ readingOf (readRequest t s)
   -- taken off message by message, the answers on s alone, save a closing 1, are the first answers with u behind, ranges included

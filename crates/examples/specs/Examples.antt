@@ -12,7 +12,7 @@ use Rattle.numbers.specs.Digits.{digitOf}
 use Rattle.numbers.specs.Integer.{readInt}
 use Rattle.numbers.specs.declared.Integer.the-variants.{Value, Cut}
 use Rattle.script.specs.Script.{Answer}
-use Rattle.messages.specs.Told.{Told}
+use Rattle.messages.specs.declared.Told.{Told}
 use Rattle.messages.specs.Message.{Message}
 use Rattle.messages.specs.Answers.{readingOf, numberOf, placeOf}
 use Rattle.messages.specs.declared.Record.{Record}
@@ -21,7 +21,7 @@ use Rattle.messages.specs.declared.Outcome.the-variants as outcome
 use Rattle.http1.specs.Read.{readRequest}
 use Rattle.binary.specs.Read.{readBinary}
 use Rattle.turn.specs.Turn.{requestToBinary, binaryToBinary}
-use Rattle.output.specs.Reply.{Reply, octets, wrong}
+use Rattle.output.specs.Reply.{Reply, writes, refuses}
 
 -- ---- octets by pairs of hexadecimal digits; spaces are passed over
 
@@ -79,8 +79,8 @@ Holds (integer s v) = readInt 0 s ≡ Value v (length s)
 Holds (http1 s k p) = Answers s (readRequest http s) k p
 Holds (binary s k p) = Answers s (readBinary s) k p
 Holds (binaryHas s c t) = Counts (readingOf (readBinary s) .outcome) c t
-Holds (becomes s b) = requestToBinary http s ≡ octets b
-Holds (anew s b) = binaryToBinary s ≡ octets b
+Holds (becomes s b) = requestToBinary http s ≡ writes b
+Holds (anew s b) = binaryToBinary s ≡ writes b
 Holds (long s n) = length s ≡ n
 
 -- each row of a list holds
@@ -91,16 +91,16 @@ AllHold (e ∷ es) = Holds e × AllHold es
 -- ---- the inputs
 
 -- input A
-unfoldable pub scanPost : List ℕ
-scanPost = ascii "POST /s HTTP/1.1\r\nHost: a\r\nContent-Length: 3\r\n\r\nabc"
+unfoldable pub postText : List ℕ
+postText = ascii "POST /s HTTP/1.1\r\nHost: a\r\nContent-Length: 3\r\n\r\nabc"
 
 -- input A with Transfer-Encoding behind its length line
 unfoldable pub twoLengths : List ℕ
 twoLengths = ascii "POST /s HTTP/1.1\r\nHost: a\r\nContent-Length: 3\r\nTransfer-Encoding: chunked\r\n\r\nabc"
 
 -- what P5 becomes
-unfoldable pub scanBinary : List ℕ
-scanBinary = hex "00 04504f5354 0468747470 0161 022f73 00 03616263 00"
+unfoldable pub postBinary : List ℕ
+postBinary = hex "00 04504f5354 0468747470 0161 022f73 00 03616263 00"
 
 -- Figure 13 of document 001
 unfoldable pub figure13 : List ℕ
@@ -117,11 +117,11 @@ table =
     ∷ integer (hex "4025") 37
     ∷ integer (hex "7bbd") 15293
     -- P4: A is accepted, length 51
-    ∷ http1 scanPost 0 51
-    ∷ long scanPost 51
+    ∷ http1 postText 0 51
+    ∷ long postText 51
     -- P5: A under http becomes 22 octets
-    ∷ becomes scanPost scanBinary
-    ∷ long scanBinary 22
+    ∷ becomes postText postBinary
+    ∷ long postBinary 22
     -- P6: Figure 13 is accepted and written back identically: 48 octets, content 29, one trailer
     ∷ binary figure13 0 48
     ∷ binaryHas figure13 29 1
@@ -135,10 +135,10 @@ table =
     -- P10: two statements of its length
     ∷ http1 twoLengths 7 76
     -- P11: P5's first 17 octets are accepted, no content
-    ∷ binary (take 17 scanBinary) 0 17
-    ∷ binaryHas (take 17 scanBinary) 0 0
+    ∷ binary (take 17 postBinary) 0 17
+    ∷ binaryHas (take 17 postBinary) 0 0
     -- P12: its first 16
-    ∷ binary (take 16 scanBinary) 9 16
+    ∷ binary (take 16 postBinary) 9 16
     -- P13: Figure 13 and an octet that is not zero
     ∷ binary (figure13 ++ hex "01") 12 48
     ∷ []

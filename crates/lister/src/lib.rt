@@ -5,15 +5,15 @@ use output::Written;
 ghost use mathlib.Core.Path.{_≡_};
 ghost use lib.ListN.{length};
 ghost use Rattle.io.specs.Counts.{Counts};
-ghost use Rattle.output.specs.Reply.{octets, answerOf, afterOf};
+ghost use Rattle.output.specs.Reply.{writes, writtenOf, lentAfter};
 ghost use Rattle.listing.specs.Listing.{listingOf};
 ghost use Rattle.lister.specs.Printed.{printedOf};
 
 // How many octets the listing of a stream takes, which stand in `out` then: none where it does not fit.
 fn fill(stream: &[u8], out: &mut [u8]) -> usize
     ensures { λ r. ⌜ Counts r (now (out .exit)) ⌝ }
-    ensures { λ r. ⌜ r ≡ printedOf (answerOf (octets (listingOf (now (stream .entry)))) (length (now (out .entry)))) ⌝ }
-    ensures { λ r. ⌜ now (out .exit) ≡ afterOf (octets (listingOf (now (stream .entry)))) (now (out .entry)) ⌝ }
+    ensures { λ r. ⌜ r ≡ printedOf (writtenOf (writes (listingOf (now (stream .entry)))) (length (now (out .entry)))) ⌝ }
+    ensures { λ r. ⌜ now (out .exit) ≡ lentAfter (writes (listingOf (now (stream .entry)))) (now (out .entry)) ⌝ }
 {
     let w = listing(stream, out);
     match w {

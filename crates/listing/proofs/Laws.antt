@@ -24,15 +24,15 @@ use Rattle.messages.specs.declared.Outcome.the-variants as outcome
 use Rattle.http1.specs.Read.{readRequest}
 use Rattle.ranges.specs.Ranges.{Outcomed}
 use Rattle.ranges.proofs.Outcomes.{given-message, given-refusal, given-more}
-use Rattle.readers.specs.Readers.{told}
-use Rattle.readers.proofs.Requests.{first-more}
-use Rattle.http1_laws.proofs.Front.{request-within}
+use Rattle.http1_reader.specs.Readers.{told}
+use Rattle.http1_reader.proofs.Requests.{first-more}
+use Rattle.http1_sound.proofs.Front.{request-within}
 use Rattle.numbers.specs.Digits.{digits}
 use Rattle.numbers.proofs.DigitLaws.{digits-length}
 use Rattle.stream.specs.Taking.{Taken, message, waits, stops, next, takeOff}
 use Rattle.stream.proofs.Taking.{take-step}
 use Rattle.output.specs.Splice.{splice, Put, Left}
-use Rattle.output.specs.Reply.{octets, answerOf, Served}
+use Rattle.output.specs.Reply.{writes, writtenOf, Served}
 use Rattle.output.specs.declared.Written.{Written}
 use Rattle.output.specs.declared.Written.the-variants.{Done, Refused}
 use Rattle.output.proofs.Laws.{put-then, left-step}
@@ -192,8 +192,8 @@ unfolding listingOf
 listing-large s h = simp (lt-leb _ _ h)
 
 -- what is written fits
-pub served-fits : {bs o o′ : List ℕ} {n : ℕ} → Served (octets bs) o o′ (Done n) → n ≤ length o
-unfolding answerOf
+pub served-fits : {bs o o′ : List ℕ} {n : ℕ} → Served (writes bs) o o′ (Done n) → n ≤ length o
+unfolding writtenOf
 served-fits {bs} {o} {o′} {n} h = go (leb (length bs) (length o)) refl (h .answer)
   where
     go : (b : Bool) → leb (length bs) (length o) ≡ b → Done n ≡ cond b (Done (length bs)) (Refused noRoom 0) → n ≤ length o
@@ -201,17 +201,17 @@ served-fits {bs} {o} {o′} {n} h = go (leb (length bs) (length o)) refl (h .ans
     go false e q = let z : _≡_ {A = ℕ} 0 1 = cc in absurd (omega arith)
 
 module _ {o : List ℕ} {bs all : List ℕ} {n : ℕ} (e : title ++ bs ≡ all) where
-  pub titled-small : length bs ≡ n → length o < 45 + n → Served (octets all) o o (Refused noRoom 0)
+  pub titled-small : length bs ≡ n → length o < 45 + n → Served (writes all) o o (Refused noRoom 0)
   titled-small l h =
       let k : length (title ++ bs) ≡ 45 + length bs = length-append title bs in
       let g : length o < length (title ++ bs) = omega arith in
-      subst (λ (x : List ℕ). Served (octets x) o o (Refused noRoom 0)) e (serve-small g)
+      subst (λ (x : List ℕ). Served (writes x) o o (Refused noRoom 0)) e (serve-small g)
 
-  pub titled-done : {o₁ o₂ : List ℕ} {r₁ r₂ : ℕ} → 45 + n ≤ length o → Put o 0 title 45 o₁ r₁ → Put o₁ r₁ bs n o₂ r₂ → Served (octets all) o o₂ (Done r₂)
-  titled-done {o₁} {o₂} {r₁} {r₂} h p q = subst (λ (x : List ℕ). Served (octets x) o o₂ (Done r₂)) e (serve-done h (put-then p q))
+  pub titled-done : {o₁ o₂ : List ℕ} {r₁ r₂ : ℕ} → 45 + n ≤ length o → Put o 0 title 45 o₁ r₁ → Put o₁ r₁ bs n o₂ r₂ → Served (writes all) o o₂ (Done r₂)
+  titled-done {o₁} {o₂} {r₁} {r₂} h p q = subst (λ (x : List ℕ). Served (writes x) o o₂ (Done r₂)) e (serve-done h (put-then p q))
 
-pub served-as : {a b o o′ : List ℕ} {r : Written} → a ≡ b → Served (octets a) o o′ r → Served (octets b) o o′ r
+pub served-as : {a b o o′ : List ℕ} {r : Written} → a ≡ b → Served (writes a) o o′ r → Served (writes b) o o′ r
 served-as e h = rw e at h
 
-pub served-is : {bs o o′ : List ℕ} {r : Written} {n : ℕ} → r ≡ Done n → Served (octets bs) o o′ r → n ≤ length o
+pub served-is : {bs o o′ : List ℕ} {r : Written} {n : ℕ} → r ≡ Done n → Served (writes bs) o o′ r → n ≤ length o
 served-is e h = served-fits (rw e at h)

@@ -16,7 +16,7 @@ use Rattle.numbers.specs.declared.Number.the-variants.{Is, Not}
 use Rattle.script.specs.Script.{Answer, accepted, refused, more, Cut, cut, bad, short, Cutter, aLine, someOctets, cutBy, Script, done, stop, need, onCut, run, Word, put}
 use Rattle.script.specs.Do.{_>>=_, Piece, piece, word, tell, Judged, good, wrong}
 use Rattle.script.proofs.Made.{Made, made}
-use Rattle.messages.specs.Told.{Told}
+use Rattle.messages.specs.declared.Told.{Told}
 use Rattle.messages.specs.Message.{FieldRead, Message}
 use Rattle.messages.specs.Names.{linesOf, areTrailers}
 use Rattle.messages.specs.Rules.{authorityFrom, orBadHost, authorityIn, lengthStated, framingFrom, framingOf, requestBody}
@@ -86,12 +86,12 @@ halts-run {A} P (need c f) at s k p h e = go (cutBy c at s) (made c at s) (λ n 
 -- ---- sections
 
 -- a line's name starts at or before n
-abbrev Named : ℕ → FieldRead → Type 0
-Named n f = f .name .place ≤ n
+abbrev NameWithin : ℕ → FieldRead → Type 0
+NameWithin n f = f .name .place ≤ n
 
 record SectionTo (n : ℕ) (h : Lines) : Type 0 where
   end : h .end ≤ n
-  names : Each (Named n) (h .lines)
+  names : Each (NameWithin n) (h .lines)
 
 field-by : (l : Piece) (n : ℕ) → l .place ≤ n → By n (fieldOf l)
 unfolding fieldOf
@@ -101,18 +101,18 @@ field-by l n h = go (fieldLens (l .text))
     go (field.Of m b k) = tt
     go field.Bad = h
 
-field-named : (l : Piece) (n : ℕ) (f : FieldRead) → l .place ≤ n → fieldOf l ≡ good f → Named n f
+field-named : (l : Piece) (n : ℕ) (f : FieldRead) → l .place ≤ n → fieldOf l ≡ good f → NameWithin n f
 unfolding fieldOf
 field-named l n f h = go (fieldLens (l .text))
   where
-    go : (x : FieldLine) → onField l x ≡ good f → Named n f
+    go : (x : FieldLine) → onField l x ≡ good f → NameWithin n f
     go (field.Of m b k) e =
         let r : FieldRead = record { name = piece (l .place) (take m (l .text)); value = piece (l .place + b) (take k (drop b (l .text))) } in
         let z : r ≡ f = cc in
-        subst (Named n) z h
+        subst (NameWithin n) z h
     go field.Bad e = let z : _≡_ {A = ℕ} 0 1 = cc in absurd (omega arith)
 
-lines-halt : (f left at : ℕ) (fs : List FieldRead) → Each (Named at) fs → Halts SectionTo at (fieldLines f left fs)
+lines-halt : (f left at : ℕ) (fs : List FieldRead) → Each (NameWithin at) fs → Halts SectionTo at (fieldLines f left fs)
 unfolding fieldLines
 lines-halt zero left at fs h = omega arith
 lines-halt (suc f) left at fs h =
@@ -120,18 +120,18 @@ lines-halt (suc f) left at fs h =
     pick w (isEmpty w) (leb linesMost (length fs)) (length-append w (13 ∷ 10 ∷ [])) (λ x q. lines-halt f (less left (piece at w)) _ (fs ++ x ∷ []) q)
   where
     pick : (w : List ℕ) (a b : Bool) → length (w ++ 13 ∷ 10 ∷ []) ≡ length w + 2
-        → ((x : FieldRead) → Each (Named (at + length (w ++ 13 ∷ 10 ∷ []))) (fs ++ x ∷ [])
+        → ((x : FieldRead) → Each (NameWithin (at + length (w ++ 13 ∷ 10 ∷ []))) (fs ++ x ∷ [])
         → Halts SectionTo (at + length (w ++ 13 ∷ 10 ∷ [])) (fieldLines f (less left (piece at w)) (fs ++ x ∷ [])))
         → Halts SectionTo (at + length (w ++ 13 ∷ 10 ∷ []))
         (cond a (done (record { lines = fs; end = at + 2; left = left - 2 }))
         (cond b (stop tooLarge at) (tell (fieldOf (piece at w)) >>= λ x. fieldLines f (less left (piece at w)) (fs ++ x ∷ []))))
-    pick w true b e ih = record { end = omega (arith, e); names = each-map (Named at) (Named (at + length (w ++ 13 ∷ 10 ∷ []))) (λ x q. omega (arith, q)) fs h }
+    pick w true b e ih = record { end = omega (arith, e); names = each-map (NameWithin at) (NameWithin (at + length (w ++ 13 ∷ 10 ∷ []))) (λ x q. omega (arith, q)) fs h }
     pick w false true e ih = omega arith
     pick w false false e ih =
         halts-tell _ _ (fieldOf (piece at w)) _ (field-by (piece at w) _ (omega arith)) λ x q.
         ih x
-        (each-snoc (Named (at + length (w ++ 13 ∷ 10 ∷ []))) fs x
-        (each-map (Named at) (Named (at + length (w ++ 13 ∷ 10 ∷ []))) (λ y r. omega (arith, r)) fs h)
+        (each-snoc (NameWithin (at + length (w ++ 13 ∷ 10 ∷ []))) fs x
+        (each-map (NameWithin at) (NameWithin (at + length (w ++ 13 ∷ 10 ∷ []))) (λ y r. omega (arith, r)) fs h)
         (field-named (piece at w) _ x (omega arith) q))
 
 section-halts : (left at : ℕ) → Halts SectionTo at (section left)
@@ -213,7 +213,7 @@ StatedBy n Unstated = Unit {0}
 StatedBy n Chunked = Unit {0}
 StatedBy n Clashing = Unit {0}
 
-framing-by : (n : ℕ) (fs cs : List FieldRead) → Each (Named n) fs → StatedBy n (framingFrom fs cs)
+framing-by : (n : ℕ) (fs cs : List FieldRead) → Each (NameWithin n) fs → StatedBy n (framingFrom fs cs)
 unfolding framingFrom
 framing-by n [] [] h = tt
 framing-by n [] (c ∷ []) h = go (sameText _ _)
@@ -246,7 +246,7 @@ unfolding afterHead framingOf
 head-halts t q n h g =
     halts-tell _ n (authorityIn (h .end) (piece 0 []) (h .lines)) _ (host-by n (h .end) (h .lines) (g .end)) λ a e.
     halts-tell _ n (requestBody (h .end) (framingOf (h .lines))) _
-    (body-by n (h .end) (framingOf (h .lines)) (g .end) (framing-by n _ _ (each-of (Named n) kind.ContentLength (h .lines) (g .names)))) λ b i.
+    (body-by n (h .end) (framingOf (h .lines)) (g .end) (framing-by n _ _ (each-of (NameWithin n) kind.ContentLength (h .lines) (g .names)))) λ b i.
     halts-bind _ n (content b) _ (content-halts b n)
 
 request-by : (l : Piece) (n : ℕ) → l .place ≤ n → By n (requestOf l)

@@ -11,7 +11,7 @@ use Rattle.octets.specs.Refusals.{moreNeeded, tooLarge}
 use Rattle.numbers.specs.Digits.{digits}
 use Rattle.messages.specs.Message.{Message}
 use Rattle.messages.specs.Meaning.{Meaning, meaning}
-use Rattle.messages.specs.Told.{Told}
+use Rattle.messages.specs.declared.Told.{Told}
 use Rattle.http1.specs.Read.{readRequest}
 use Rattle.stream.specs.Taking.{Taken, message, waits, stops, takeOff}
 

@@ -12,7 +12,7 @@ use Rattle.stream.specs.Taking.{takeOff}
 use Rattle.messages.specs.Message.{Message}
 use Rattle.messages.specs.Meaning.{meaning}
 use Rattle.http1.specs.Read.{readRequest}
-use Rattle.readers.specs.Readers.{told}
+use Rattle.http1_reader.specs.Readers.{told}
 use Rattle.listing.specs.Listing.{lf, column, rows}
 use Rattle.listing.specs.declared.Row.{Row}
 use Rattle.listing.specs.declared.Row.the-variants as row

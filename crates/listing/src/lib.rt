@@ -1,4 +1,5 @@
 // The listing of a request stream.
+use http1_reader::request::request_in;
 use messages::Outcome;
 use numbers::digit_count;
 use octets::Limits;
@@ -8,7 +9,6 @@ use output::Written;
 use output::put_decimal;
 use output::put_octet;
 use output::put_text;
-use readers::request::request_in;
 ghost use mathlib.Core.Path.{_≡_};
 ghost use Prim.Native.Nat.{_+_, _≤_};
 ghost use mathlib.Core.List.{_++_};
@@ -17,7 +17,7 @@ ghost use Rattle.octets.specs.Table.{classes};
 ghost use Rattle.octets.specs.Limits.{listingMost};
 ghost use Rattle.octets.specs.Refusals.{tooLarge};
 ghost use Rattle.output.specs.Splice.{Put};
-ghost use Rattle.output.specs.Reply.{octets, Served};
+ghost use Rattle.output.specs.Reply.{writes, Served};
 ghost use Rattle.listing.specs.Listing.{column, endLine, title, listingOf};
 ghost use Rattle.listing.specs.Rows.{rowAt, rowsAt, countsText, rowText, columnSize, threeSize, rowSize, endSize};
 
@@ -206,7 +206,7 @@ fn put_title(out: &mut [u8]) -> usize
 // The listing of a stream that is not too large.
 fn put_stream(s: &[u8], out: &mut [u8]) -> Written
     requires { ⌜ length (now s) ≤ listingMost ⌝ }
-    ensures { λ r. ⌜ Served (octets (listingOf (now (s .entry)))) (now (out .entry)) (now (out .exit)) r ⌝ }
+    ensures { λ r. ⌜ Served (writes (listingOf (now (s .entry)))) (now (out .entry)) (now (out .exit)) r ⌝ }
 {
     let t = class_table();
     let n = rows_size(&t, s);
@@ -223,7 +223,7 @@ fn put_stream(s: &[u8], out: &mut [u8]) -> Written
 
 // The listing of a stream that is too large.
 fn put_large(out: &mut [u8]) -> Written
-    ensures { λ r. ⌜ Served (octets (title ++ endLine listingMost tooLarge)) (now (out .entry)) (now (out .exit)) r ⌝ }
+    ensures { λ r. ⌜ Served (writes (title ++ endLine listingMost tooLarge)) (now (out .entry)) (now (out .exit)) r ⌝ }
 {
     let n = end_size(Limits::LISTING, Refusals::TOO_LARGE);
     if out.len() < 45 + n {
@@ -239,7 +239,7 @@ fn put_large(out: &mut [u8]) -> Written
 
 // The listing of a stream; 13 at 0 where it does not fit, and nothing is written then.
 pub fn listing(s: &[u8], out: &mut [u8]) -> Written
-    ensures { λ r. ⌜ Served (octets (listingOf (now (s .entry)))) (now (out .entry)) (now (out .exit)) r ⌝ }
+    ensures { λ r. ⌜ Served (writes (listingOf (now (s .entry)))) (now (out .entry)) (now (out .exit)) r ⌝ }
 {
     if s.len() <= Limits::LISTING {
         return put_stream(s, out);

@@ -14,20 +14,20 @@ use Rattle.output.proofs.Laws.{splice-lend}
 use borrow.Author.Tests.{le-leb, lt-leb, leb-true, leb-false}
 use Rattle.octets.specs.Refusals.{noRoom}
 use Rattle.output.specs.Splice.{splice, Put}
-use Rattle.output.specs.Reply.{Reply, octets, wrong, answerOf, afterOf, Served, afterAt, ServedAt}
+use Rattle.output.specs.Reply.{Reply, writes, refuses, writtenOf, lentAfter, Served, lentAfterAt, ServedAt}
 use Rattle.output.specs.declared.Written.{Written}
 use Rattle.output.specs.declared.Written.the-variants.{Done, Refused}
 
-pub serve-wrong : (o : List ℕ) (k p : ℕ) → Served (wrong k p) o o (Refused k p)
-unfolding answerOf afterOf
+pub serve-wrong : (o : List ℕ) (k p : ℕ) → Served (refuses k p) o o (Refused k p)
+unfolding writtenOf lentAfter
 serve-wrong o k p = record { answer = refl; after = refl }
 
-pub serve-small : {o bs : List ℕ} → length o < length bs → Served (octets bs) o o (Refused noRoom 0)
-unfolding answerOf afterOf
+pub serve-small : {o bs : List ℕ} → length o < length bs → Served (writes bs) o o (Refused noRoom 0)
+unfolding writtenOf lentAfter
 serve-small {o} {bs} h = record { answer = simp (lt-leb _ _ h); after = simp (lt-leb _ _ h) }
 
-pub serve-done : {o bs o′ : List ℕ} {n r : ℕ} → n ≤ length o → Put o 0 bs n o′ r → Served (octets bs) o o′ (Done r)
-unfolding answerOf afterOf
+pub serve-done : {o bs o′ : List ℕ} {n r : ℕ} → n ≤ length o → Put o 0 bs n o′ r → Served (writes bs) o o′ (Done r)
+unfolding writtenOf lentAfter
 serve-done {o} {bs} {o′} {n} {r} h p =
     let k : length bs ≤ length o = omega (arith, p .size) in
     let e : r ≡ length bs = omega (arith, p .size, p .next) in
@@ -57,10 +57,10 @@ tail-case bs k o false h e =
     let m : length o < k + length bs = omega arith in
     simp (lt-leb _ _ m) (take-append-drop k o)
 
-pub after-tail : (y : Reply) (k : ℕ) (o : List ℕ) → k ≤ length o → take k o ++ afterOf y (drop k o) ≡ afterAt y k o
-unfolding afterOf afterAt
-after-tail (octets bs) k o h = tail-case bs k o (leb (length bs) (length (drop k o))) h refl
-after-tail (wrong n p) k o h = take-append-drop k o
+pub after-tail : (y : Reply) (k : ℕ) (o : List ℕ) → k ≤ length o → take k o ++ lentAfter y (drop k o) ≡ lentAfterAt y k o
+unfolding lentAfter lentAfterAt
+after-tail (writes bs) k o h = tail-case bs k o (leb (length bs) (length (drop k o))) h refl
+after-tail (refuses n p) k o h = take-append-drop k o
 
 pub serve-tail : {y : Reply} {k : ℕ} {o e : List ℕ} {r : Written} → k ≤ length o
     → Served y (take (length o - k) (drop k o)) e r → ServedAt y k o (putMid k (length o - k) o e) r

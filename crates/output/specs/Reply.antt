@@ -13,33 +13,33 @@ use Rattle.output.specs.declared.Written.the-variants.{Done, Refused}
 
 -- what is to be written, whatever the room: octets, or a refusal with its number and its place
 pub data Reply : Type 0 where
-  octets : List ℕ → Reply
-  wrong : ℕ → ℕ → Reply
+  writes : List ℕ → Reply
+  refuses : ℕ → ℕ → Reply
 
 -- the answer where there is room for so many octets
-unfoldable pub answerOf : Reply → ℕ → Written
-answerOf (octets bs) room = cond (leb (length bs) room) (Done (length bs)) (Refused noRoom 0)
-answerOf (wrong number place) room = Refused number place
+unfoldable pub writtenOf : Reply → ℕ → Written
+writtenOf (writes bs) room = cond (leb (length bs) room) (Done (length bs)) (Refused noRoom 0)
+writtenOf (refuses number place) room = Refused number place
 
 -- the lent octets afterwards
-unfoldable pub afterOf : Reply → List ℕ → List ℕ
-afterOf (octets bs) o = cond (leb (length bs) (length o)) (splice o 0 bs) o
-afterOf (wrong number place) o = o
+unfoldable pub lentAfter : Reply → List ℕ → List ℕ
+lentAfter (writes bs) o = cond (leb (length bs) (length o)) (splice o 0 bs) o
+lentAfter (refuses number place) o = o
 
 -- a writer that was lent o leaves o′ and answers r
 pub record Served (y : Reply) (o o′ : List ℕ) (r : Written) : Type 0 where
-  pub answer : r ≡ answerOf y (length o)
-  pub after : o′ ≡ afterOf y o
+  pub answer : r ≡ writtenOf y (length o)
+  pub after : o′ ≡ lentAfter y o
 
 -- the octets afterwards where the writer was lent those from the place k on
-unfoldable pub afterAt : Reply → ℕ → List ℕ → List ℕ
-afterAt (octets bs) k o = cond (leb (k + length bs) (length o)) (splice o k bs) o
-afterAt (wrong number place) k o = o
+unfoldable pub lentAfterAt : Reply → ℕ → List ℕ → List ℕ
+lentAfterAt (writes bs) k o = cond (leb (k + length bs) (length o)) (splice o k bs) o
+lentAfterAt (refuses number place) k o = o
 
 -- the same of a writer that was lent o from the place k on
 pub record ServedAt (y : Reply) (k : ℕ) (o o′ : List ℕ) (r : Written) : Type 0 where
-  pub answer : r ≡ answerOf y (length o - k)
-  pub after : o′ ≡ afterAt y k o
+  pub answer : r ≡ writtenOf y (length o - k)
+  pub after : o′ ≡ lentAfterAt y k o
 
 -- 01's number for each case of a writer's answer
 abbrev pub writtenNumber : Written → ℕ

@@ -13,7 +13,7 @@ use Rattle.script.specs.Do.{Piece}
 use Rattle.script.proofs.Places.{lies-in}
 use Rattle.output.proofs.Laws.{elements-take, elements-length}
 use Rattle.messages.specs.Message.{FieldRead, Start, requestStart, responseStart, isResponse, Message}
-use Rattle.messages.specs.Told.{Told}
+use Rattle.messages.specs.declared.Told.{Told}
 use Rattle.messages.specs.Names.{kept}
 use Rattle.messages.specs.Answers.{recordFrom, recordOf, informationalIn}
 use Rattle.messages.specs.declared.Record.{Record}
@@ -22,7 +22,7 @@ use Rattle.messages.specs.declared.Outcome.the-variants as outcome
 use Rattle.sound.specs.Placed.{Each, OfLine, Lying}
 use Rattle.sound.specs.Sound.{Sound}
 use Rattle.http1.specs.Read.{readRequest, readResponse}
-use Rattle.http1_laws.proofs.Sound.{request-sound, response-sound}
+use Rattle.http1_sound.proofs.Sound.{request-sound, response-sound}
 use Rattle.binary.specs.Read.{readBinary}
 use Rattle.binary_sound.proofs.Sound.{binary-sound}
 use Rattle.ranges.specs.Ranges.{Outcomed, Held}

@@ -1,13 +1,13 @@
 // The field question: the first kept header value of a name, of the final head in a response, as a part of the message; else the default.
 use binary_reader::whole::binary_in;
+use http1_reader::request::request_in;
+use http1_reader::response::response_in;
 use messages::Outcome;
 use octets::Refusals;
 use octets::class_table;
 use octets::same;
 use ranges::fields_before;
 use ranges::number_at;
-use readers::request::request_in;
-use readers::response::response_in;
 ghost use mathlib.Core.Path.{_≡_};
 ghost use mathlib.Core.List.{map};
 ghost use Prim.Native.Nat.{_+_, _*_, _≤_};
@@ -15,7 +15,7 @@ ghost use denote.Ref.{ptr};
 ghost use lib.ListN.{length};
 ghost use Rattle.octets.specs.Text.{lowerOf, sameText};
 ghost use Rattle.ranges.specs.Entries.{fieldIn, EntryWithin, FieldsWithin};
-ghost use Rattle.readers.specs.Readers.{told};
+ghost use Rattle.http1_reader.specs.Readers.{told};
 ghost use Rattle.turn.specs.Question.{requestQuestion, responseQuestion, binaryQuestion};
 ghost use Rattle.question.specs.Asking.{askedOf, valuePart, foundIn, OutcomeWithin, askedFrom, octetsOr, pointsTo, FoundWithin, Answered};
 

@@ -16,7 +16,7 @@ use Rattle.script.proofs.Places.{lies-part, lies-at, lies-in}
 use Rattle.output.specs.Splice.{part}
 use Rattle.output.proofs.Laws.{elements-take}
 use Rattle.messages.specs.Message.{FieldRead, InformationalRead, Start, requestStart, responseStart, isResponse, Message}
-use Rattle.messages.specs.Names.{lineKind, travels, kept, keptTrailers}
+use Rattle.messages.specs.Names.{lineKind, isEndToEnd, kept, keptTrailers}
 use Rattle.messages.specs.Meaning.{Informational, Control, Meaning, fieldMeans, informationalMeans, controlMeans, contentOf, meaning}
 use Rattle.messages.specs.Answers.{fieldNumbers, fieldsNumbers, chunksNumbers, informationalNumbers, informationalLines, informationalIn, recordFrom, recordOf}
 use Rattle.messages.proofs.Noting.{kept-few}
@@ -190,7 +190,7 @@ module _ (s cs : List ℕ) where
 pub each-kept : (P : FieldRead → Type 0) (host : Bool) (fs : List FieldRead) → Each P fs → Each P (kept host fs)
 unfolding kept
 each-kept P host [] h = tt
-each-kept P host (f ∷ fs) h = go (travels host (lineKind f)) (each-kept P host fs (h .1))
+each-kept P host (f ∷ fs) h = go (isEndToEnd host (lineKind f)) (each-kept P host fs (h .1))
   where
     go : (b : Bool) → Each P (kept host fs) → Each P (cond b (f ∷ kept host fs) (kept host fs))
     go true ih = (h .0, ih)

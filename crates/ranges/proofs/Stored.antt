@@ -9,13 +9,13 @@ use Rattle.output.specs.Splice.{splice}
 use Rattle.output.proofs.Laws.{splice-append}
 use Rattle.script.specs.Do.{Piece}
 use Rattle.messages.specs.Message.{FieldRead}
-use Rattle.messages.specs.Names.{kept, travels, lineKind}
+use Rattle.messages.specs.Names.{kept, isEndToEnd, lineKind}
 use Rattle.messages.specs.Answers.{fieldsNumbers, chunksNumbers}
 
 pub kept-append : (host : Bool) (a b : List FieldRead) → kept host (a ++ b) ≡ kept host a ++ kept host b
 unfolding kept
 kept-append host [] b = refl
-kept-append host (f ∷ a) b = go (travels host (lineKind f)) (kept-append host a b)
+kept-append host (f ∷ a) b = go (isEndToEnd host (lineKind f)) (kept-append host a b)
   where
     go : (t : Bool) → kept host (a ++ b) ≡ kept host a ++ kept host b
         → cond t (f ∷ kept host (a ++ b)) (kept host (a ++ b)) ≡ cond t (f ∷ kept host a) (kept host a) ++ kept host b

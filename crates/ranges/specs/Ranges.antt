@@ -23,9 +23,9 @@ abbrev pub placesEnd : ℕ
 placesEnd = 4294967296
 
 -- the numbers of a field are stored as the entry k of o, or nothing is
-pub record Kept (travels : Bool) (k : ℕ) (numbers o o′ : List ℕ) (r : ℕ) : Type 0 where
-  pub count : r ≡ cond travels (k + 1) k
-  pub stored : o′ ≡ cond travels (splice o (k * 4) numbers) o
+pub record StoredIf (keeps : Bool) (k : ℕ) (numbers o o′ : List ℕ) (r : ℕ) : Type 0 where
+  pub count : r ≡ cond keeps (k + 1) k
+  pub stored : o′ ≡ cond keeps (splice o (k * 4) numbers) o
 
 -- ---- what a reader leaves
 

@@ -9,7 +9,7 @@ ghost use mathlib.Core.List.{[], _∷_};
 ghost use Prim.Native.Nat.{_+_, _*_, _≤_, _<_};
 ghost use lib.ListN.{length, getD};
 ghost use Rattle.output.specs.Splice.{splice};
-ghost use Rattle.ranges.specs.Ranges.{placesEnd, Kept, readingFrom};
+ghost use Rattle.ranges.specs.Ranges.{placesEnd, StoredIf, readingFrom};
 ghost use Rattle.ranges.specs.Entries.{fieldsBefore};
 
 // Two numbers are stored as the entry k: start and length of a chunk, or status and number of kept fields of an informational head.
@@ -22,20 +22,20 @@ pub fn store(out: &mut [u32], k: usize, a: u32, b: u32)
     out[at + 1] = b;
 }
 
-// A field that travels is stored as the entry k: start and length of its name, start and length of its value.
+// A field that is kept is stored as the entry k: start and length of its name, start and length of its value.
 pub fn keep(
     out: &mut [u32],
     k: usize,
-    travels: bool,
+    keeps: bool,
     name: u32,
     nlen: u32,
     value: u32,
     vlen: u32,
 ) -> usize
     requires { ⌜ k * 4 + 4 ≤ length (now out) ⌝ }
-    ensures { λ r. ⌜ Kept travels k (name ∷ nlen ∷ value ∷ vlen ∷ []) (now (out .entry)) (now (out .exit)) r ⌝ }
+    ensures { λ r. ⌜ StoredIf keeps k (name ∷ nlen ∷ value ∷ vlen ∷ []) (now (out .entry)) (now (out .exit)) r ⌝ }
 {
-    if travels {
+    if keeps {
         let at = k * 4;
         out[at] = name;
         out[at + 1] = nlen;

@@ -8,24 +8,24 @@ use lib.ListN.{length, length-map}
 use Rattle.octets.specs.Limits.{linesMost}
 use Rattle.messages.specs.Message.{FieldRead, InformationalRead}
 use Rattle.messages.specs.Control.{statusVerdict, isInformational}
-use Rattle.messages.specs.Names.{lineKind, travels, kept}
+use Rattle.messages.specs.Names.{lineKind, isEndToEnd, kept}
 use Rattle.messages.proofs.Noting.{kept-few}
 use Rattle.messages.specs.Meaning.{fieldMeans, informationalMeans}
 use Rattle.messages.specs.Valid.{validField, validFields, validSection, validInformational, validHeads}
 use Rattle.sound.specs.Placed.{Each}
 use Rattle.sound.specs.Sound.{GoodLine, GoodSection}
 
--- a line that travels means a field that is valid
-pub field-valid : (host : Bool) (f : FieldRead) → GoodLine f → travels host (lineKind f) ≡ true → validField host (fieldMeans f) ≡ true
+-- an end-to-end line means a field that is valid
+pub field-valid : (host : Bool) (f : FieldRead) → GoodLine f → isEndToEnd host (lineKind f) ≡ true → validField host (fieldMeans f) ≡ true
 unfolding validField fieldMeans lineKind
 field-valid host f g e = rw (g .name, g .value, e)
 
 pub fields-valid : (host : Bool) (fs : List FieldRead) → Each GoodLine fs → validFields host (map fieldMeans (kept host fs)) ≡ true
 unfolding validFields kept
 fields-valid host [] h = refl
-fields-valid host (f ∷ fs) h = go (travels host (lineKind f)) refl (fields-valid host fs (h .1))
+fields-valid host (f ∷ fs) h = go (isEndToEnd host (lineKind f)) refl (fields-valid host fs (h .1))
   where
-    go : (b : Bool) → travels host (lineKind f) ≡ b → validFields host (map fieldMeans (kept host fs)) ≡ true
+    go : (b : Bool) → isEndToEnd host (lineKind f) ≡ b → validFields host (map fieldMeans (kept host fs)) ≡ true
         → validFields host (map fieldMeans (cond b (f ∷ kept host fs) (kept host fs))) ≡ true
     go true e ih = rw (field-valid host f (h .0) e, ih)
     go false e ih = ih

@@ -11,6 +11,8 @@ use Rattle.script.specs.Do.{Piece}
 use Rattle.messages.specs.Message.{FieldRead, Start, requestStart, responseStart, Message}
 use Rattle.messages.specs.Control.{isLowerName, isTrimmedValue}
 use Rattle.messages.specs.Names.{areTrailers}
+use Rattle.messages.specs.Rules.{agrees}
+use Rattle.messages.specs.declared.Framing.{Framing}
 use Rattle.messages.specs.Meaning.{contentOf, meaning}
 use Rattle.messages.specs.Valid.{valid}
 use Rattle.sound.specs.Placed.{Each, OfParts, Inside, Placed}
@@ -40,6 +42,10 @@ pub record GoodChunks (cs : List Piece) : Type 0 where
   pub full : Each (λ c. 0 < length (c .text)) cs
   pub few : length cs ≤ chunksMost
   pub sum : lengths cs ≡ length (contentOf cs)
+
+-- one statement of the length at most, and where it is a number it is the content's length; what a head states is read by the rules of its form
+abbrev pub LengthAgrees : Framing → Message → Type 0
+LengthAgrees f m = agrees f (length (contentOf (m .chunks))) ≡ true
 
 -- a message m that is accepted from the input s
 pub record Sound (s : List ℕ) (m : Message) : Type 0 where

@@ -9,7 +9,7 @@ use Rattle.octets.specs.Refusals.{moreNeeded}
 use Rattle.octets.specs.Text.{lowerOf, sameText}
 use Rattle.script.specs.Script.{Answer, accepted, refused, more}
 use Rattle.script.specs.Do.{Piece}
-use Rattle.messages.specs.Told.{Told}
+use Rattle.messages.specs.declared.Told.{Told}
 use Rattle.messages.specs.Message.{FieldRead, isResponse, Message}
 use Rattle.messages.specs.Names.{kept}
 use Rattle.http1.specs.Read.{readRequest, readResponse}

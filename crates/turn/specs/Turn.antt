@@ -6,36 +6,36 @@ use mathlib.Core.List.{List, [], _∷_}
 use lib.ListN.{length}
 use Rattle.octets.specs.Refusals.{moreNeeded, notSupported}
 use Rattle.script.specs.Script.{Answer, accepted, refused, more}
-use Rattle.messages.specs.Told.{Told}
+use Rattle.messages.specs.declared.Told.{Told}
 use Rattle.messages.specs.Message.{Message}
 use Rattle.messages.specs.Meaning.{Meaning, meaning}
 use Rattle.messages.specs.Valid.{isScheme}
 use Rattle.http1.specs.Read.{readRequest, readResponse}
 use Rattle.binary.specs.Read.{readBinary}
-use Rattle.write_binary.specs.Write.{toBinary}
-use Rattle.write_http1.specs.Write.{toHttp1}
-use Rattle.output.specs.Reply.{Reply, octets, wrong}
+use Rattle.binary_writer.specs.Write.{toBinary}
+use Rattle.http1_writer.specs.Write.{toHttp1}
+use Rattle.output.specs.Reply.{Reply, writes, refuses}
 
 -- what is written of a reader's answer on an input of n octets: the reader's refusal goes first
-abbrev pub replyTo : ℕ → Answer Message → (Meaning → Reply) → Reply
-replyTo n (accepted k m) write = write (meaning m)
-replyTo n (refused k p) write = wrong k p
-replyTo n more write = wrong moreNeeded n
+abbrev pub replyFrom : ℕ → Answer Message → (Meaning → Reply) → Reply
+replyFrom n (accepted k m) write = write (meaning m)
+replyFrom n (refused k p) write = refuses k p
+replyFrom n more write = refuses moreNeeded n
 
 -- ---- the four turnings of an input
 
 -- an HTTP/1.1 request of the scheme told, as Binary
 unfoldable pub requestToBinary : Told → List ℕ → Reply
-requestToBinary t s = replyTo (length s) (readRequest t s) toBinary
+requestToBinary t s = replyFrom (length s) (readRequest t s) toBinary
 
 -- an HTTP/1.1 response as Binary
 unfoldable pub responseToBinary : List ℕ → Reply
-responseToBinary s = replyTo (length s) (readResponse s) toBinary
+responseToBinary s = replyFrom (length s) (readResponse s) toBinary
 
 -- Binary written anew
 unfoldable pub binaryToBinary : List ℕ → Reply
-binaryToBinary s = replyTo (length s) (readBinary s) toBinary
+binaryToBinary s = replyFrom (length s) (readBinary s) toBinary
 
 -- Binary as HTTP/1.1 on a connection of the scheme told; told another number it is 4 at 0, first
 unfoldable pub binaryToHttp1 : Told → List ℕ → Reply
-binaryToHttp1 t s = cond (isScheme (t .scheme)) (replyTo (length s) (readBinary s) (toHttp1 t)) (wrong notSupported 0)
+binaryToHttp1 t s = cond (isScheme (t .scheme)) (replyFrom (length s) (readBinary s) (toHttp1 t)) (refuses notSupported 0)

@@ -6,13 +6,13 @@ use mathlib.Core.Bool.{true}
 use mathlib.Core.List.{List}
 use lib.ListN.{length}
 use Rattle.script.specs.Script.{Answer, accepted, means}
-use Rattle.messages.specs.Told.{Told}
+use Rattle.messages.specs.declared.Told.{Told}
 use Rattle.messages.specs.Message.{Message}
 use Rattle.messages.specs.Meaning.{meaning}
 use Rattle.http1.specs.Read.{readRequest, readResponse}
 use Rattle.binary.specs.Read.{readBinary}
-use Rattle.write_binary.specs.Write.{binaryOf, binaryFits}
-use Rattle.output.specs.Reply.{octets}
+use Rattle.binary_writer.specs.Write.{binaryOf, binaryFits}
+use Rattle.output.specs.Reply.{writes}
 use Rattle.turn.specs.Turn.{requestToBinary, responseToBinary, binaryToBinary}
 
 -- a reader's answer x is a message, b is its meaning as Binary, and the Binary reader takes that meaning from b, to its last octet
@@ -32,14 +32,14 @@ ReadsAnew = (s : List ℕ) (n : ℕ) (m : Message) → readBinary s ≡ accepted
 -- the claims on the three turnings into Binary
 pub record ToBinary : Type 0 where
   -- each turning into Binary keeps the meaning
-  pub requests : (t : Told) (s b : List ℕ) → requestToBinary t s ≡ octets b → Turned (readRequest t s) b
-  pub responses : (s b : List ℕ) → responseToBinary s ≡ octets b → Turned (readResponse s) b
-  pub binaries : (s b : List ℕ) → binaryToBinary s ≡ octets b → Turned (readBinary s) b
+  pub requests : (t : Told) (s b : List ℕ) → requestToBinary t s ≡ writes b → Turned (readRequest t s) b
+  pub responses : (s b : List ℕ) → responseToBinary s ≡ writes b → Turned (readResponse s) b
+  pub binaries : (s b : List ℕ) → binaryToBinary s ≡ writes b → Turned (readBinary s) b
   pub anew : ReadsAnew
   -- writing anew twice is writing anew once
-  pub once : (s b : List ℕ) → binaryToBinary s ≡ octets b → binaryToBinary b ≡ octets b
+  pub once : (s b : List ℕ) → binaryToBinary s ≡ writes b → binaryToBinary b ≡ writes b
   -- two Binary messages are written anew alike exactly when they mean the same
   pub alike : (r s : List ℕ) (k n : ℕ) (l m : Message) → readBinary r ≡ accepted k l → readBinary s ≡ accepted n m → meaning l ≡ meaning m
       → binaryToBinary r ≡ binaryToBinary s
-  pub apart : (r s b : List ℕ) (k n : ℕ) (l m : Message) → readBinary r ≡ accepted k l → readBinary s ≡ accepted n m → binaryToBinary r ≡ octets b
-      → binaryToBinary s ≡ octets b → meaning l ≡ meaning m
+  pub apart : (r s b : List ℕ) (k n : ℕ) (l m : Message) → readBinary r ≡ accepted k l → readBinary s ≡ accepted n m → binaryToBinary r ≡ writes b
+      → binaryToBinary s ≡ writes b → meaning l ≡ meaning m

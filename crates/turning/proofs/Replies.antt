@@ -12,7 +12,7 @@ use Rattle.output.specs.Reply.{Reply, Served}
 use Rattle.output.specs.declared.Written.{Written}
 use Rattle.output.specs.declared.Written.the-variants.{Refused}
 use Rattle.output.proofs.Serve.{serve-wrong}
-use Rattle.messages.specs.Told.{Told}
+use Rattle.messages.specs.declared.Told.{Told}
 use Rattle.messages.specs.Valid.{isScheme}
 use Rattle.messages.specs.declared.Record.{Record}
 use Rattle.messages.specs.declared.Outcome.{Outcome}
@@ -21,18 +21,18 @@ use Rattle.binary.specs.Read.{readBinary}
 use Rattle.binary_sound.proofs.Sound.{binary-sound}
 use Rattle.ranges.specs.Ranges.{Responded}
 use Rattle.ranges.proofs.Outcomes.{IsHeld, held}
-use Rattle.turn.specs.Turn.{replyTo, binaryToHttp1}
+use Rattle.turn.specs.Turn.{replyFrom, binaryToHttp1}
 use Rattle.turning.specs.Behind.{readToHttp1}
 
 module _ {x : Answer Message} (n : ℕ) (write : Meaning → Reply) where
-  pub turned-more : (o : List ℕ) → x ≡ more → Served (replyTo n x write) o o (Refused moreNeeded n)
-  turned-more o e = subst (λ (y : Answer Message). Served (replyTo n y write) o o (Refused moreNeeded n)) (sym e) (serve-wrong o moreNeeded n)
+  pub turned-more : (o : List ℕ) → x ≡ more → Served (replyFrom n x write) o o (Refused moreNeeded n)
+  turned-more o e = subst (λ (y : Answer Message). Served (replyFrom n y write) o o (Refused moreNeeded n)) (sym e) (serve-wrong o moreNeeded n)
 
-  pub turned-refused : (o : List ℕ) (k p : ℕ) → x ≡ refused k p → Served (replyTo n x write) o o (Refused k p)
-  turned-refused o k p e = subst (λ (y : Answer Message). Served (replyTo n y write) o o (Refused k p)) (sym e) (serve-wrong o k p)
+  pub turned-refused : (o : List ℕ) (k p : ℕ) → x ≡ refused k p → Served (replyFrom n x write) o o (Refused k p)
+  turned-refused o k p e = subst (λ (y : Answer Message). Served (replyFrom n y write) o o (Refused k p)) (sym e) (serve-wrong o k p)
 
-  pub turned : {o o′ : List ℕ} {w : Written} (k : ℕ) (m : Message) → x ≡ accepted k m → Served (write (meaning m)) o o′ w → Served (replyTo n x write) o o′ w
-  turned {o} {o′} {w} k m e h = subst (λ (y : Answer Message). Served (replyTo n y write) o o′ w) (sym e) h
+  pub turned : {o o′ : List ℕ} {w : Written} (k : ℕ) (m : Message) → x ≡ accepted k m → Served (write (meaning m)) o o′ w → Served (replyFrom n x write) o o′ w
+  turned {o} {o′} {w} k m e h = subst (λ (y : Answer Message). Served (replyFrom n y write) o o′ w) (sym e) h
 
 -- a Binary message that was read is held
 pub binary-held : (s : List ℕ) {hs hs′ ns ns′ cs cs′ ts ts′ : List ℕ} {o : Outcome} {r : Record} → Responded (readBinary s) hs hs′ ns ns′ cs cs′ ts ts′ o

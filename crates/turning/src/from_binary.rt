@@ -10,7 +10,7 @@ ghost use Prim.Native.Nat.{_≤_};
 ghost use lib.ListN.{length};
 ghost use Rattle.octets.specs.Table.{classes};
 ghost use Rattle.output.specs.Reply.{Served};
-ghost use Rattle.readers.specs.Readers.{told};
+ghost use Rattle.http1_reader.specs.Readers.{told};
 ghost use Rattle.turn.specs.Turn.{binaryToBinary, binaryToHttp1};
 ghost use Rattle.turning.specs.Behind.{readToHttp1};
 
@@ -34,7 +34,7 @@ fn turn_anew(
             place: input.len(),
         },
         Outcome::Refusal { number, place } => return Written::Refused { number, place },
-        Outcome::Message(r) => return write_binary::write_message(
+        Outcome::Message(r) => return binary_writer::write_message(
             input,
             r,
             headers,
@@ -87,7 +87,7 @@ fn turn_http1(
             place: input.len(),
         },
         Outcome::Refusal { number, place } => return Written::Refused { number, place },
-        Outcome::Message(r) => return write_http1::write_message(
+        Outcome::Message(r) => return http1_writer::write_message(
             input,
             scheme,
             r,

@@ -1,17 +1,17 @@
 // HTTP/1.1 into Binary HTTP.
+use binary_writer::write_message;
+use http1_reader::request::request_in;
+use http1_reader::response::response_in;
 use messages::Outcome;
 use octets::Refusals;
 use octets::class_table;
 use output::Written;
-use readers::request::request_in;
-use readers::response::response_in;
-use write_binary::write_message;
 ghost use mathlib.Core.Path.{_≡_};
 ghost use Prim.Native.Nat.{_≤_};
 ghost use lib.ListN.{length};
 ghost use Rattle.octets.specs.Table.{classes};
 ghost use Rattle.output.specs.Reply.{Served};
-ghost use Rattle.readers.specs.Readers.{told};
+ghost use Rattle.http1_reader.specs.Readers.{told};
 ghost use Rattle.turn.specs.Turn.{requestToBinary, responseToBinary};
 
 // The same through working space for the ranges.

@@ -7,7 +7,7 @@ use Rattle.listing.proofs.next_row.Statement.{statement}
 use Rattle.listing.proofs.next_row.Tie as tie
 use Rattle.listing.proofs.next_row.Reads as reads
 use Rattle.listing.proofs.next_row.Lts as lts
-use Rattle.readers.proofs.request.request_in.Reads as request-in-reads
+use Rattle.http1_reader.proofs.request.request_in.Reads as request-in-reads
 
 -- src/lib.rt:29:9
 returns : tie.Need-returns

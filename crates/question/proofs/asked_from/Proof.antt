@@ -1,6 +1,6 @@
 use borrow.Author.Needs.{needs}
 use mathlib.Core.Path.{_≡_, refl, sym, ap, subst, _∙_}
-use Rattle.write_binary.proofs.Steps.{within-as}
+use Rattle.binary_writer.proofs.Steps.{within-as}
 use Rattle.question.proofs.Laws.{asked-when, asked-message}
 use Rattle.question.proofs.asked_from.Statement.{statement}
 use Rattle.question.proofs.asked_from.Tie as tie

@@ -1,7 +1,7 @@
 use borrow.Author.Needs.{needs}
 use mathlib.Core.Path.{_≡_, refl, sym, ap, _∙_}
-use Rattle.readers.specs.Readers.{told}
-use Rattle.readers.proofs.Values.{request-held}
+use Rattle.http1_reader.specs.Readers.{told}
+use Rattle.http1_reader.proofs.Values.{request-held}
 use Rattle.turn.specs.Question.{requestQuestion}
 use Rattle.question.proofs.Laws.{outcome-within, asked-is}
 use Rattle.question.proofs.request_found.Statement.{statement}

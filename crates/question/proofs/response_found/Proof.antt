@@ -1,7 +1,7 @@
 use borrow.Author.Needs.{needs}
 use mathlib.Core.Path.{_≡_, refl, sym, ap, _∙_}
 use Rattle.ranges.proofs.Outcomes.{response-outcomed}
-use Rattle.readers.proofs.Values.{response-held}
+use Rattle.http1_reader.proofs.Values.{response-held}
 use Rattle.turn.specs.Question.{responseQuestion}
 use Rattle.question.proofs.Laws.{outcome-within, asked-is}
 use Rattle.question.proofs.response_found.Statement.{statement}

@@ -4,7 +4,7 @@ use Rattle.binary_reader.proofs.heads.final_head.Statement.{statement}
 use Rattle.binary_reader.proofs.heads.final_head.Tie as tie
 use Rattle.binary_reader.proofs.heads.final_head.Reads as reads
 use Rattle.binary_reader.proofs.heads.final_head.Lts as lts
-use Rattle.read_binary.proofs.lines.read_section.Reads as read-section-reads
+use Rattle.binary_parts.proofs.lines.read_section.Reads as read-section-reads
 
 -- src/heads.rt:54:9
 read-section-requires : tie.Need-read-section-requires

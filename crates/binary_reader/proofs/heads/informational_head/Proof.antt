@@ -6,7 +6,7 @@ use Rattle.binary_reader.proofs.heads.informational_head.Tie as tie
 use Rattle.binary_reader.proofs.heads.informational_head.Reads as reads
 use Rattle.binary_reader.proofs.heads.informational_head.Lts as lts
 use Rattle.messages.proofs.sections.nothing_stated.Reads as nothing-stated-reads
-use Rattle.read_binary.proofs.lines.read_section.Reads as read-section-reads
+use Rattle.binary_parts.proofs.lines.read_section.Reads as read-section-reads
 
 -- src/heads.rt:27:9
 read-section-requires : tie.Need-read-section-requires

@@ -7,7 +7,7 @@ use Rattle.binary_reader.proofs.request.request_head.Tie as tie
 use Rattle.binary_reader.proofs.request.request_head.Reads as reads
 use Rattle.binary_reader.proofs.request.request_head.Lts as lts
 use Rattle.binary_reader.proofs.request.request_rest.Reads as request-rest-reads
-use Rattle.read_binary.proofs.lines.read_section.Reads as read-section-reads
+use Rattle.binary_parts.proofs.lines.read_section.Reads as read-section-reads
 
 -- src/request.rt:143:9
 read-section-requires : tie.Need-read-section-requires

@@ -1,5 +1,5 @@
 use native.Mathlib.Omega.{arith}
-use Rattle.read_binary.proofs.Controls.{control-no, control-done}
+use Rattle.binary_parts.proofs.Controls.{control-no, control-done}
 use Rattle.binary_reader.proofs.RequestLaws.{requested-as, control-refused, control-then}
 use borrow.Author.Needs.{needs}
 use Rattle.binary_reader.proofs.request.request_in.Statement.{statement}
@@ -7,7 +7,7 @@ use Rattle.binary_reader.proofs.request.request_in.Tie as tie
 use Rattle.binary_reader.proofs.request.request_in.Reads as reads
 use Rattle.binary_reader.proofs.request.request_in.Lts as lts
 use Rattle.binary_reader.proofs.request.request_head.Reads as request-head-reads
-use Rattle.read_binary.proofs.control.request_control.Reads as request-control-reads
+use Rattle.binary_parts.proofs.control.request_control.Reads as request-control-reads
 
 -- src/request.rt:176:9
 request-control-requires : tie.Need-request-control-requires

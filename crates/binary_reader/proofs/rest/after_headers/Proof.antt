@@ -1,5 +1,5 @@
 use native.Mathlib.Omega.{arith}
-use Rattle.read_binary.proofs.Contents.{content-done}
+use Rattle.binary_parts.proofs.Contents.{content-done}
 use Rattle.binary_reader.proofs.RestLaws.{rested-no, rested-bad, rested-on}
 use borrow.Author.Needs.{needs}
 use Rattle.binary_reader.proofs.rest.after_headers.Statement.{statement}
@@ -7,8 +7,8 @@ use Rattle.binary_reader.proofs.rest.after_headers.Tie as tie
 use Rattle.binary_reader.proofs.rest.after_headers.Reads as reads
 use Rattle.binary_reader.proofs.rest.after_headers.Lts as lts
 use Rattle.binary_reader.proofs.rest.behind_content.Reads as behind-content-reads
-use Rattle.read_binary.proofs.content.content_agrees.Reads as content-agrees-reads
-use Rattle.read_binary.proofs.content.read_content.Reads as read-content-reads
+use Rattle.binary_parts.proofs.content.content_agrees.Reads as content-agrees-reads
+use Rattle.binary_parts.proofs.content.read_content.Reads as read-content-reads
 
 -- src/rest.rt:115:9
 read-content-requires : tie.Need-read-content-requires

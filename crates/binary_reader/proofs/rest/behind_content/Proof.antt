@@ -7,7 +7,7 @@ use Rattle.binary_reader.proofs.rest.behind_content.Tie as tie
 use Rattle.binary_reader.proofs.rest.behind_content.Reads as reads
 use Rattle.binary_reader.proofs.rest.behind_content.Lts as lts
 use Rattle.binary_reader.proofs.rest.read_trailers.Reads as read-trailers-reads
-use Rattle.read_binary.proofs.content.check_padding.Reads as check-padding-reads
+use Rattle.binary_parts.proofs.content.check_padding.Reads as check-padding-reads
 
 -- src/rest.rt:80:9
 read-trailers-requires : tie.Need-read-trailers-requires

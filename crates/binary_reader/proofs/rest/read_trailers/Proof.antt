@@ -7,7 +7,7 @@ use Rattle.binary_reader.proofs.rest.read_trailers.Tie as tie
 use Rattle.binary_reader.proofs.rest.read_trailers.Reads as reads
 use Rattle.binary_reader.proofs.rest.read_trailers.Lts as lts
 use Rattle.binary_reader.proofs.rest.trailers_agree.Reads as trailers-agree-reads
-use Rattle.read_binary.proofs.lines.read_section.Reads as read-section-reads
+use Rattle.binary_parts.proofs.lines.read_section.Reads as read-section-reads
 
 -- src/rest.rt:49:9
 returns : tie.Need-returns

@@ -1,7 +1,7 @@
 use mathlib.Core.Path.{_≡_, refl, sym, ap, _∙_}
 use native.Mathlib.Omega.{arith}
 use lib.ListN.{length}
-use Rattle.readers.specs.Readers.{told}
+use Rattle.http1_reader.specs.Readers.{told}
 use Rattle.ranges.proofs.Outcomes.{given-message, given-refusal, given-more}
 use Rattle.capi.proofs.Entering.{entered-refused, entered-more}
 use Rattle.capi.proofs.RequestEntry.{request-small, request-room, request-entered}
@@ -11,7 +11,7 @@ use Rattle.capi.proofs.entries.enter_request.Tie as tie
 use Rattle.capi.proofs.entries.enter_request.Reads as reads
 use Rattle.capi.proofs.entries.enter_request.Lts as lts
 use Rattle.capi.proofs.numbers_out.give_message.Reads as give-message-reads
-use Rattle.readers.proofs.request.request_in.Reads as request-in-reads
+use Rattle.http1_reader.proofs.request.request_in.Reads as request-in-reads
 
 -- src/entries.rt:28:9
 request-in-requires : tie.Need-request-in-requires

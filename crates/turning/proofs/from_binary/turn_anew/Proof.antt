@@ -2,7 +2,7 @@ use borrow.Author.Needs.{needs}
 use mathlib.Core.Path.{_≡_, refl, sym, ap, _∙_}
 use lib.ListN.{length}
 use Rattle.ranges.proofs.Outcomes.{given-refusal, given-more, response-outcomed}
-use Rattle.write_binary.specs.Write.{toBinary}
+use Rattle.binary_writer.specs.Write.{toBinary}
 use Rattle.turn.specs.Turn.{binaryToBinary}
 use Rattle.turning.proofs.Replies.{turned-more, turned-refused, turned, binary-held}
 use Rattle.turning.proofs.from_binary.turn_anew.Statement.{statement}

@@ -1,9 +1,9 @@
 use mathlib.Core.Path.{_≡_, refl, sym, ap, _∙_}
 use lib.ListN.{length}
 use Rattle.ranges.proofs.Outcomes.{given-refusal, given-more}
-use Rattle.readers.specs.Readers.{told}
-use Rattle.readers.proofs.Values.{request-held}
-use Rattle.write_binary.specs.Write.{toBinary}
+use Rattle.http1_reader.specs.Readers.{told}
+use Rattle.http1_reader.proofs.Values.{request-held}
+use Rattle.binary_writer.specs.Write.{toBinary}
 use Rattle.turning.proofs.Replies.{turned-more, turned-refused, turned}
 use Rattle.turn.specs.Turn.{requestToBinary}
 use borrow.Author.Needs.{needs}
@@ -11,8 +11,8 @@ use Rattle.turning.proofs.to_binary.turn_request.Statement.{statement}
 use Rattle.turning.proofs.to_binary.turn_request.Tie as tie
 use Rattle.turning.proofs.to_binary.turn_request.Reads as reads
 use Rattle.turning.proofs.to_binary.turn_request.Lts as lts
-use Rattle.readers.proofs.request.request_in.Reads as request-in-reads
-use Rattle.write_binary.proofs.write_message.Reads as write-message-reads
+use Rattle.http1_reader.proofs.request.request_in.Reads as request-in-reads
+use Rattle.binary_writer.proofs.write_message.Reads as write-message-reads
 
 -- src/to_binary.rt:30:9
 request-in-requires : tie.Need-request-in-requires

@@ -1,8 +1,8 @@
 use mathlib.Core.Path.{_≡_, refl, sym, ap, _∙_}
 use lib.ListN.{length}
 use Rattle.ranges.proofs.Outcomes.{given-refusal, given-more, response-outcomed}
-use Rattle.readers.proofs.Values.{response-held}
-use Rattle.write_binary.specs.Write.{toBinary}
+use Rattle.http1_reader.proofs.Values.{response-held}
+use Rattle.binary_writer.specs.Write.{toBinary}
 use Rattle.turn.specs.Turn.{responseToBinary}
 use Rattle.turning.proofs.Replies.{turned-more, turned-refused, turned}
 use borrow.Author.Needs.{needs}
@@ -10,8 +10,8 @@ use Rattle.turning.proofs.to_binary.turn_response.Statement.{statement}
 use Rattle.turning.proofs.to_binary.turn_response.Tie as tie
 use Rattle.turning.proofs.to_binary.turn_response.Reads as reads
 use Rattle.turning.proofs.to_binary.turn_response.Lts as lts
-use Rattle.readers.proofs.response.response_in.Reads as response-in-reads
-use Rattle.write_binary.proofs.write_message.Reads as write-message-reads
+use Rattle.http1_reader.proofs.response.response_in.Reads as response-in-reads
+use Rattle.binary_writer.proofs.write_message.Reads as write-message-reads
 
 -- src/to_binary.rt:76:9
 response-in-requires : tie.Need-response-in-requires

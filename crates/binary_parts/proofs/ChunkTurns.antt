@@ -1,0 +1,63 @@
+-- One chunk, by what its length and its octets are.
+use Prim.Native.Nat.{ℕ, suc, _+_, _-_, _<_, _≤_}
+use mathlib.Core.Path.{_≡_, refl, sym, ap, _∙_}
+use mathlib.Core.List.{List, [], _∷_, _++_}
+use mathlib.Core.Bool.{true, false, cond}
+use native.Mathlib.Omega.{arith}
+use borrow.Author.Tests.{eq-eqb, ne-eqb, le-leb, lt-leb, lt-ltb, le-ltb}
+use lib.ListN.{length, take, drop}
+use Rattle.octets.specs.Limits.{chunksMost, contentMost}
+use Rattle.octets.specs.Refusals.{cutOff, tooLarge}
+use Rattle.numbers.specs.Integer.{readInt}
+use Rattle.numbers.specs.declared.Integer.the-variants.{Value, Cut}
+use Rattle.numbers.proofs.IntegerLaws.{int-within}
+use Rattle.script.specs.Do.{Piece, piece}
+use Rattle.binary.specs.Reader.{Got, got, no, _>>=_}
+use Rattle.binary.specs.Read.{openChunks}
+use Rattle.binary_parts.specs.Content.{ChunkSays, ChunkLies, Chunked}
+use Rattle.binary_parts.specs.declared.ChunkRead.{ChunkRead}
+use Rattle.binary_parts.specs.declared.ChunkRead.the-variants as chunk-is
+use Rattle.binary_parts.proofs.Places.{integer-cut, integer-got, octets-cut, octets-got}
+
+module _ (s : List ℕ) (i count total : ℕ) where
+  pub chunk-none : readInt i (drop i s) ≡ Cut → Chunked s i count total (chunk-is.Refused cutOff i)
+  unfolding openChunks _>>=_
+  chunk-none e = record { says = λ f cs c. rw (integer-cut s i cutOff i e); lies = tt }
+
+  module _ {n next : ℕ} (e : readInt i (drop i s) ≡ Value n next) where
+    pub chunk-last : n ≡ 0 → Chunked s i count total (chunk-is.Last next)
+    unfolding openChunks _>>=_
+    chunk-last z = record { says = λ f cs c. rw (integer-got s i cutOff i e, eq-eqb n 0 z); lies = int-within s i e .1 }
+
+    module _ (z : n ≡ 0 → ⊥) where
+      pub chunk-many : chunksMost ≤ count → Chunked s i count total (chunk-is.Refused tooLarge i)
+      unfolding openChunks _>>=_
+      chunk-many m = record { says = λ f cs c. rw (integer-got s i cutOff i e, ne-eqb n 0 z, c, le-leb chunksMost count m); lies = tt }
+
+      module _ (m : count < chunksMost) where
+        pub chunk-large : contentMost < total + n → Chunked s i count total (chunk-is.Refused tooLarge i)
+        unfolding openChunks _>>=_
+        chunk-large g =
+            record {
+              says = λ f cs c. rw (integer-got s i cutOff i e, ne-eqb n 0 z, c, lt-leb chunksMost count m, lt-ltb contentMost (total + n) g);
+              lies = tt;
+            }
+
+        module _ (g : total + n ≤ contentMost) where
+          pub chunk-short : length s - next < n → Chunked s i count total (chunk-is.Refused cutOff i)
+          unfolding openChunks _>>=_
+          chunk-short h =
+              record {
+                says = λ f cs c.
+                    rw (integer-got s i cutOff i e, ne-eqb n 0 z, c, lt-leb chunksMost count m, le-ltb contentMost (total + n) g, octets-cut s next n cutOff i h);
+                lies = tt;
+              }
+
+          pub chunk-next : n ≤ length s - next → Chunked s i count total (chunk-is.Next next n)
+          unfolding openChunks _>>=_
+          chunk-next h =
+              record {
+                says = λ f cs c.
+                    rw (integer-got s i cutOff i e, ne-eqb n 0 z, c, lt-leb chunksMost count m, le-ltb contentMost (total + n) g, octets-got s next n cutOff i h);
+                lies = (omega (arith, int-within s i e), g, m);
+              }

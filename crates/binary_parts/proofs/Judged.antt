@@ -1,0 +1,101 @@
+-- Parts of control data that are judged when they are in.
+use Prim.Native.Nat.{ℕ, _+_, _-_, _<_, _≤_}
+use mathlib.Core.Path.{_≡_, refl, sym, ap, _∙_, subst}
+use mathlib.Core.List.{List}
+use mathlib.Core.Bool.{true, false, cond}
+use native.Mathlib.Omega.{arith}
+use borrow.Author.Tests.{ne-eqb}
+use lib.ListN.{length, take, drop}
+use Rattle.octets.specs.Ascii.{ascii}
+use Rattle.octets.specs.Text.{sameText}
+use Rattle.octets.specs.Refusals.{notSupported}
+use Rattle.script.specs.Do.{Piece, piece, good, wrong}
+use Rattle.binary.specs.Reader.{Got, got, no, _>>=_}
+use Rattle.binary.specs.Read.{part, partWithin, ruledPart, schemeOf, schemePart}
+use Rattle.binary_parts.specs.Control.{Parted, SchemeSays, Schemed}
+use Rattle.binary_parts.specs.declared.PartRead.{PartRead}
+use Rattle.binary_parts.specs.declared.PartRead.the-variants.{Is, Refused}
+use Rattle.binary_parts.specs.declared.SchemeRead.{SchemeRead}
+use Rattle.binary_parts.specs.declared.SchemeRead.the-variants as scheme-is
+use Rattle.binary_parts.proofs.Places.{parted-as, parted-no, parted-got, part-no, part-got}
+
+-- the part that code takes out of s
+pub taken-part : (s : List ℕ) (a n : ℕ) → take (a + n - a) (drop a s) ≡ take n (drop a s)
+taken-part s a n = let z : a + n - a ≡ n = omega arith in rw z
+
+-- ---- a rule by its number
+
+module _ (s : List ℕ) (from most : ℕ) (verdict : List ℕ → ℕ) {m : ℕ} (k : m ≡ most) {r : PartRead} (h : Parted s (partWithin m from (drop from s)) r) where
+  within : Parted s (partWithin most from (drop from s)) r
+  within = subst (λ (y : ℕ). Parted s (partWithin y from (drop from s)) r) k h
+
+  pub ruled-no : {n p : ℕ} → r ≡ Refused n p → Parted s (ruledPart most verdict from (drop from s)) r
+  unfolding ruledPart _>>=_
+  ruled-no e = subst (λ (y : PartRead). Parted s (ruledPart most verdict from (drop from s)) y) (sym e) (parted-no (rw (part-no within e)))
+
+  module _ {a n v : ℕ} (e : r ≡ Is a n) (q : v ≡ verdict (take (a + n - a) (drop a s))) where
+    judged : verdict (take n (drop a s)) ≡ v
+    judged = ap verdict (sym (taken-part s a n)) ∙ sym q
+
+    pub ruled-good : v ≡ 0 → Parted s (ruledPart most verdict from (drop from s)) (Is a n)
+    unfolding ruledPart _>>=_
+    ruled-good z = parted-got s a n (part-got within e .1) (rw (part-got within e .0, judged, z))
+
+    pub ruled-bad : (v ≡ 0 → ⊥) → Parted s (ruledPart most verdict from (drop from s)) (Refused v from)
+    unfolding ruledPart _>>=_
+    ruled-bad z = parted-no (rw (part-got within e .0, judged, ne-eqb v 0 z))
+
+-- ---- the scheme
+
+schemed-as : {s : List ℕ} {x y : Got ℕ} {r : SchemeRead} → x ≡ y → Schemed s y r → Schemed s x r
+schemed-as {s} {r = r} e h = subst (λ (z : Got ℕ). Schemed s z r) (sym e) h
+
+schemed-refused : {s : List ℕ} {x : Got ℕ} {n p : ℕ} → x ≡ no n p → Schemed s x (scheme-is.Refused n p)
+schemed-refused e = schemed-as e (record { says = refl })
+
+schemed-found : {s : List ℕ} {x : Got ℕ} {v e : ℕ} → v < 2 → e ≤ length s → x ≡ got v e (drop e s) → Schemed s x (scheme-is.Is v e)
+schemed-found g h q = schemed-as q (record { says = (refl, g, (h, refl)) })
+
+module _ (s : List ℕ) (from : ℕ) {r : PartRead} (h : Parted s (part from (drop from s)) r) where
+  pub scheme-no : {n p : ℕ} → r ≡ Refused n p → Schemed s (schemePart from (drop from s)) (scheme-is.Refused n p)
+  unfolding schemePart _>>=_
+  scheme-no e = schemed-refused (rw (part-no h e))
+
+  module _ {a n : ℕ} (e : r ≡ Is a n) where
+    pub scheme-http : sameText (take (a + n - a) (drop a s)) (ascii "http") ≡ true → Schemed s (schemePart from (drop from s)) (scheme-is.Is 0 (a + n))
+    unfolding schemePart _>>=_ schemeOf
+    scheme-http q = let q′ = rw (taken-part s a n) at q in
+        schemed-found (omega arith) (part-got h e .1) (rw (part-got h e .0, q′))
+
+    module _ (o : sameText (take (a + n - a) (drop a s)) (ascii "http") ≡ false) where
+      pub scheme-https : sameText (take (a + n - a) (drop a s)) (ascii "https") ≡ true → Schemed s (schemePart from (drop from s)) (scheme-is.Is 1 (a + n))
+      unfolding schemePart _>>=_ schemeOf
+      scheme-https q = let o′ = rw (taken-part s a n) at o in let q′ = rw (taken-part s a n) at q in
+          schemed-found (omega arith) (part-got h e .1) (rw (part-got h e .0, o′, q′))
+
+      pub scheme-other : sameText (take (a + n - a) (drop a s)) (ascii "https") ≡ false
+          → Schemed s (schemePart from (drop from s)) (scheme-is.Refused notSupported from)
+      unfolding schemePart _>>=_ schemeOf
+      scheme-other q = let o′ = rw (taken-part s a n) at o in let q′ = rw (taken-part s a n) at q in
+          schemed-refused (rw (part-got h e .0, o′, q′))
+
+-- what the caller learns
+module _ {s : List ℕ} {x : Got ℕ} {r : SchemeRead} (h : Schemed s x r) where
+  pub schemed-no : {n p : ℕ} → r ≡ scheme-is.Refused n p → x ≡ no n p
+  schemed-no {n} {p} e = go x (h .says)
+    where
+      go : (y : Got ℕ) → SchemeSays s y r → y ≡ no n p
+      go (got v i l) q = let d = q .0 in cc
+      go (no m k) q = cc
+
+  pub schemed-got : {v i : ℕ} → r ≡ scheme-is.Is v i → (x ≡ got v i (drop i s)) × (v < 2) × (i ≤ length s)
+  schemed-got {v} {i} e = go x (h .says)
+    where
+      go : (y : Got ℕ) → SchemeSays s y r → (y ≡ got v i (drop i s)) × (v < 2) × (i ≤ length s)
+      go (got w j l) q =
+          let d = q .0 in
+          let a : w ≡ v = cc in
+          let b : j ≡ i = cc in
+          let l′ : l ≡ drop i s = q .2 .1 ∙ rw b in
+          (rw (a, b, l′), omega (arith, q .1, a), omega (arith, q .2 .0, b))
+      go (no m k) q = let z : _≡_ {A = ℕ} 0 1 = cc in absurd (omega arith)

@@ -1,0 +1,116 @@
+-- Readers of Binary HTTP at a place of the input, by what stands there; and parts, by their outcome.
+use Prim.Native.Nat.{ℕ, _+_, _-_, _<_, _≤_}
+use mathlib.Core.Path.{_≡_, refl, sym, ap, ap₂, _∙_, subst}
+use mathlib.Core.List.{List}
+use mathlib.Core.Bool.{true, false, cond}
+use native.Mathlib.Omega.{arith}
+use borrow.Author.Tests.{le-leb, lt-leb, lt-ltb, le-ltb}
+use lib.ListN.{length, take, drop, length-drop}
+use lib.Seq.{length-take-le, drop-drop}
+use Rattle.octets.specs.Refusals.{cutOff, tooLarge}
+use Rattle.numbers.specs.Integer.{readInt}
+use Rattle.numbers.specs.declared.Integer.{Integer}
+use Rattle.numbers.specs.declared.Integer.the-variants.{Value, Cut}
+use Rattle.numbers.proofs.IntegerLaws.{int-within}
+use Rattle.script.specs.Do.{Piece, piece}
+use Rattle.binary.specs.Reader.{Got, got, no, Reader, onGot, _>>=_, give, refuse, here, onInteger, integer, string}
+use Rattle.binary.specs.Read.{part, partWithin}
+use Rattle.binary_parts.specs.Control.{StandsIn, GoesOn, PartSays, Parted}
+use Rattle.binary_parts.specs.declared.PartRead.{PartRead}
+use Rattle.binary_parts.specs.declared.PartRead.the-variants.{Is, Refused}
+
+-- ---- integers and octets
+
+module _ (s : List ℕ) (at : ℕ) where
+  pub integer-cut : (k p : ℕ) → readInt at (drop at s) ≡ Cut → integer k p at (drop at s) ≡ no k p
+  unfolding integer
+  integer-cut k p e = rw e
+
+  pub integer-got : (k p : ℕ) {v next : ℕ} → readInt at (drop at s) ≡ Value v next → integer k p at (drop at s) ≡ got v next (drop next s)
+  unfolding integer
+  integer-got k p {v} {next} e =
+      let z : at + (next - at) ≡ next = omega (arith, int-within s at e) in
+      rw (e, drop-drop (next - at) at s, z)
+
+  pub octets-cut : (n k p : ℕ) → length s - at < n → string n k p at (drop at s) ≡ no k p
+  unfolding string
+  octets-cut n k p h = rw (length-drop at s, lt-ltb (length s - at) n h)
+
+  pub octets-got : (n k p : ℕ) → n ≤ length s - at → string n k p at (drop at s) ≡ got (piece at (take n (drop at s))) (at + n) (drop (at + n) s)
+  unfolding string
+  octets-got n k p h = rw (length-drop at s, le-ltb (length s - at) n h, drop-drop n at s)
+
+-- ---- a part, by what was found
+
+pub parted-as : {s : List ℕ} {x y : Got Piece} {r : PartRead} → x ≡ y → Parted s y r → Parted s x r
+parted-as {s} {r = r} e h = subst (λ (z : Got Piece). Parted s z r) (sym e) h
+
+pub parted-no : {s : List ℕ} {x : Got Piece} {n p : ℕ} → x ≡ no n p → Parted s x (Refused n p)
+parted-no e = parted-as e (record { says = refl })
+
+module _ (s : List ℕ) (at n : ℕ) (h : at + n ≤ length s) where
+  pub part-length : length (take n (drop at s)) ≡ n
+  part-length = length-take-le n (drop at s) (omega (arith, length-drop at s))
+
+  pub stands-in : StandsIn s (piece at (take n (drop at s)))
+  stands-in = record { inside = rw part-length h; taken = rw part-length }
+
+  pub parted-got : {x : Got Piece} → x ≡ got (piece at (take n (drop at s))) (at + n) (drop (at + n) s) → Parted s x (Is at n)
+  parted-got e = parted-as e (record { says = (rw part-length, stands-in, rw part-length, (h, refl)) })
+
+module _ (s : List ℕ) (place at n : ℕ) (within : at ≤ length s) where
+  pub octets-short : length s - at < n → Parted s (string n cutOff place at (drop at s)) (Refused cutOff place)
+  octets-short h = parted-no (octets-cut s at n cutOff place h)
+
+  pub octets-in : n ≤ length s - at → Parted s (string n cutOff place at (drop at s)) (Is at n)
+  octets-in h = parted-got s at n (omega arith) (octets-got s at n cutOff place h)
+
+-- ---- parts of any size, and within one
+
+module _ (s : List ℕ) (from : ℕ) where
+  pub part-cut : readInt from (drop from s) ≡ Cut → Parted s (part from (drop from s)) (Refused cutOff from)
+  unfolding part _>>=_
+  part-cut e = parted-no (rw (integer-cut s from cutOff from e))
+
+  pub within-cut : (most : ℕ) → readInt from (drop from s) ≡ Cut → Parted s (partWithin most from (drop from s)) (Refused cutOff from)
+  unfolding partWithin _>>=_
+  within-cut most e = parted-no (rw (integer-cut s from cutOff from e))
+
+  module _ {v next : ℕ} (e : readInt from (drop from s) ≡ Value v next) where
+    pub part-octets : {r : PartRead} → Parted s (string v cutOff from next (drop next s)) r → Parted s (part from (drop from s)) r
+    unfolding part _>>=_
+    part-octets h = parted-as (rw (integer-got s from cutOff from e)) h
+
+    pub within-octets : {most : ℕ} {r : PartRead} → v ≤ most → Parted s (string v cutOff from next (drop next s)) r
+        → Parted s (partWithin most from (drop from s)) r
+    unfolding partWithin _>>=_
+    within-octets {most} g h = parted-as (rw (integer-got s from cutOff from e, le-leb v most g)) h
+
+    pub within-large : {most : ℕ} → most < v → Parted s (partWithin most from (drop from s)) (Refused tooLarge from)
+    unfolding partWithin _>>=_
+    within-large {most} g = parted-no (rw (integer-got s from cutOff from e, lt-leb v most g))
+
+-- ---- what the caller learns
+
+module _ {s : List ℕ} {x : Got Piece} {r : PartRead} (h : Parted s x r) where
+  pub part-no : {n p : ℕ} → r ≡ Refused n p → x ≡ no n p
+  part-no {n} {p} e = go x (h .says)
+    where
+      go : (y : Got Piece) → PartSays s y r → y ≡ no n p
+      go (got w i l) q = let d = q .0 in cc
+      go (no m k) q = cc
+
+  pub part-got : {a n : ℕ} → r ≡ Is a n → (x ≡ got (piece a (take n (drop a s))) (a + n) (drop (a + n) s)) × (a + n ≤ length s)
+  part-got {a} {n} e = go x (h .says)
+    where
+      go : (y : Got Piece) → PartSays s y r → (y ≡ got (piece a (take n (drop a s))) (a + n) (drop (a + n) s)) × (a + n ≤ length s)
+      go (got w i l) q =
+          let d = q .0 in
+          let a′ : w .place ≡ a = cc in
+          let n′ : length (w .text) ≡ n = cc in
+          let t : w .text ≡ take n (drop a s) = q .1 .taken ∙ rw (a′, n′) in
+          let i′ : i ≡ a + n = omega (arith, q .2, a′, n′) in
+          let l′ : l ≡ drop (a + n) s = q .3 .1 ∙ rw i′ in
+          let w′ : w ≡ piece a (take n (drop a s)) = ap₂ piece a′ t in
+          (rw (w′, i′, l′), omega (arith, q .3 .0, i′))
+      go (no m k) q = let z : _≡_ {A = ℕ} 0 1 = cc in absurd (omega arith)

@@ -1,0 +1,107 @@
+-- The rest of a line behind its name length, as the code reads it, and what a caller learns of a line.
+use Prim.Native.Nat.{ℕ, _+_, _-_, _<_, _≤_}
+use mathlib.Core.Path.{_≡_, refl, sym, subst}
+use mathlib.Core.List.{List}
+use mathlib.Core.Bool.{Bool, true, false, cond}
+use native.Mathlib.Omega.{arith}
+use lib.ListN.{length, take, drop, length-take, length-drop}
+use lib.Seq.{length-take-le}
+use Rattle.octets.specs.Refusals.{badSyntax}
+use Rattle.numbers.specs.Integer.{readInt}
+use Rattle.numbers.specs.declared.Integer.the-variants.{Value, Cut}
+use Rattle.numbers.proofs.IntegerLaws.{int-within}
+use Rattle.script.specs.Do.{Piece, piece, Judged, good, wrong}
+use Rattle.messages.specs.Message.{FieldRead}
+use Rattle.messages.specs.Control.{isLowerName, isTrimmedValue}
+use Rattle.binary.specs.Reader.{Got, no, _>>=_, tell}
+use Rattle.binary.specs.Read.{judgedLine}
+use Rattle.binary_parts.specs.Section.{cutNumber, cutPlace, restLine, JudgedSays, JudgedLine, EndsAt, LineSays, Lined}
+use Rattle.binary_parts.specs.declared.LineRead.{LineRead}
+use Rattle.binary_parts.specs.declared.LineRead.the-variants as read
+use Rattle.binary_parts.proofs.Steps.{integer-cut, integer-in, octets-cut, octets-in}
+
+-- ---- the value of a line
+
+-- the judged line, where it is good, has the value v
+abbrev OfValue : Piece → Judged FieldRead → Type 0
+OfValue v (good f) = f .value ≡ v
+OfValue v (wrong x p) = Unit {0}
+
+line-value : (p : ℕ) (w v : Piece) → OfValue v (judgedLine p w v)
+unfolding judgedLine
+line-value p w v = go (isLowerName (w .text)) (isTrimmedValue (v .text))
+  where
+    go : (x y : Bool) → OfValue v (cond x (cond y (good (record { name = w; value = v })) (wrong badSyntax p)) (wrong badSyntax p))
+    go true true = refl
+    go true false = tt
+    go false y = tt
+
+value-ends : (s : List ℕ) (a next len : ℕ) → next + len ≤ length s → EndsAt s a (next + len) (piece (a + next) (take len (drop next s)))
+value-ends s a next len h =
+    let y : length (take len (drop next s)) ≡ len = length-take-le len (drop next s) (omega (arith, length-drop next s)) in
+    let z : next + len - len ≡ next = omega arith in
+    record { long = omega (arith, y); place = rw (y, z); text = rw (y, z) }
+
+-- ---- what a line promises
+
+module _ {s : List ℕ} {a : ℕ} {host : Bool} {k : ℕ} {o o′ : List ℕ} {r : LineRead} where
+  -- an answer that equals another promises the same
+  pub lined-as : {x y : Got FieldRead} → x ≡ y → Lined s a y host k o o′ r → Lined s a x host k o o′ r
+  lined-as {x} {y} e h = record { says = subst (λ (z : Got FieldRead). LineSays s a z host k o o′ r) (sym e) (h .says) }
+
+  -- a refusal
+  pub lined-no : {x : Got FieldRead} {number place : ℕ} → x ≡ no number place → r ≡ read.Refused number place → Lined s a x host k o o′ r
+  lined-no {x} {number} {place} e h = lined-as {y = no number place} e (record { says = h })
+
+  -- a line that was judged, read up to `end`
+  lined-judged : (p : ℕ) (w v : Piece) {end : ℕ} → end ≤ length s → EndsAt s a end v → JudgedLine (judgedLine p w v) end host k o o′ r
+      → Lined s a (tell (judgedLine p w v) (a + end) (drop end s)) host k o o′ r
+  lined-judged p w v {end} b u h = record { says = go (judgedLine p w v) (line-value p w v) (h .says) }
+    where
+      go : (j : Judged FieldRead) → OfValue v j → JudgedSays j end host k o o′ r → LineSays s a (tell j (a + end) (drop end s)) host k o o′ r
+      go (good f) e q = (end, q .0, q .1, subst (EndsAt s a end) (sym e) u, refl, b, refl)
+      go (wrong x p) e q = q
+
+-- the part from i to e is no longer than that
+pub part-short : (s : List ℕ) (i e : ℕ) → length (take (e - i) (drop i s)) ≤ e - i
+part-short s i e = simp (length-take) (omega arith)
+
+module _ (known : Bool) (p a : ℕ) (s : List ℕ) (at n : ℕ) where
+  pub rest-name-cut : length s - at < n → restLine known p n (a + at) (drop at s) ≡ no (cutNumber known) p
+  unfolding restLine _>>=_
+  rest-name-cut h = rw (octets-cut a s at (cutNumber known) p n h)
+
+  module _ (h : n ≤ length s - at) where
+    pub rest-length-cut : readInt (at + n) (drop (at + n) s) ≡ Cut
+        → restLine known p n (a + at) (drop at s) ≡ no (cutNumber known) (cutPlace known p (a + (at + n)))
+    unfolding restLine _>>=_
+    rest-length-cut e =
+        rw (octets-in a s at (cutNumber known) p n h, integer-cut a s (at + n) (cutNumber known) (cutPlace known p (a + (at + n))) e)
+
+    module _ {len next : ℕ} (e : readInt (at + n) (drop (at + n) s) ≡ Value len next) where
+      pub rest-value-cut : length s - next < len → restLine known p n (a + at) (drop at s) ≡ no (cutNumber known) (cutPlace known p (a + (at + n)))
+      unfolding restLine _>>=_
+      rest-value-cut g =
+          let k = cutNumber known in
+          let q = cutPlace known p (a + (at + n)) in
+          rw (octets-in a s at k p n h, integer-in a s (at + n) k q e, octets-cut a s next k q len g)
+
+      pub rest-in : len ≤ length s - next
+          → restLine known p n (a + at) (drop at s)
+          ≡ tell (judgedLine p (piece (a + at) (take n (drop at s))) (piece (a + next) (take len (drop next s)))) (a + (next + len)) (drop (next + len) s)
+      unfolding restLine _>>=_
+      rest-in g =
+          let k = cutNumber known in
+          let q = cutPlace known p (a + (at + n)) in
+          rw (octets-in a s at k p n h, integer-in a s (at + n) k q e, octets-in a s next k q len g)
+
+      -- both halves are in
+      pub rest-judged : {host : Bool} {k : ℕ} {o o′ : List ℕ} {r : LineRead} → len ≤ length s - next
+          → JudgedLine (judgedLine p (piece (a + at) (take (at + n - at) (drop at s))) (piece (a + next) (take (next + len - next) (drop next s)))) (next + len) host k o o′ r
+          → Lined s a (restLine known p n (a + at) (drop at s)) host k o o′ r
+      rest-judged {host} {k} {o} {o′} {r} g j =
+          let x : at + n - at ≡ n = omega arith in
+          let y : next + len - next ≡ len = omega arith in
+          let b : next + len ≤ length s = omega (arith, int-within s (at + n) e) in
+          let i : JudgedLine (judgedLine p (piece (a + at) (take n (drop at s))) (piece (a + next) (take len (drop next s)))) (next + len) host k o o′ r = rw (x, y) at j in
+          lined-as (rest-in g) (lined-judged p _ _ b (value-ends s a next len b) i)

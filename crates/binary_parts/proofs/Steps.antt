@@ -1,0 +1,82 @@
+-- The readers' steps at the index i of a part s whose first octet is at the place a, as code takes them.
+use Prim.Native.Nat.{ℕ, zero, suc, _+_, _-_, _*_, _<_, _≤_}
+use mathlib.Core.Path.{_≡_, refl}
+use mathlib.Core.List.{List, [], _∷_}
+use native.Mathlib.Omega.{arith}
+use borrow.Author.Tests.{lt-ltb, le-ltb}
+use lib.ListN.{length, take, drop, length-drop}
+use lib.Seq.{drop-drop}
+use Rattle.numbers.specs.Integer.{readInt, readMore}
+use Rattle.numbers.specs.declared.Integer.{Integer}
+use Rattle.numbers.specs.declared.Integer.the-variants.{Value, Cut}
+use Rattle.numbers.proofs.IntegerLaws.{int-within}
+use Rattle.script.specs.Do.{piece}
+use Rattle.binary.specs.Reader.{got, no, integer, string}
+
+-- ---- an integer further on
+
+-- an integer's answer with its place moved on
+abbrev moved : ℕ → Integer → Integer
+moved a (Value v next) = Value v (a + next)
+moved a Cut = Cut
+
+more-moved : (n v a at : ℕ) (s : List ℕ) → readMore n v (a + at) s ≡ moved a (readMore n v at s)
+unfolding readMore
+more-moved zero v a at s = refl
+more-moved (suc n) v a at [] = refl
+more-moved (suc n) v a at (b ∷ s) =
+    let e : a + at + 1 ≡ a + (at + 1) = omega arith in
+    rw e (more-moved n (v * 256 + b) a (at + 1) s)
+
+int-moved : (a at : ℕ) (s : List ℕ) → readInt (a + at) s ≡ moved a (readInt at s)
+unfolding readInt
+int-moved a at [] = refl
+int-moved a at (b ∷ s) =
+    let e : a + at + 1 ≡ a + (at + 1) = omega arith in
+    rw e (more-moved _ _ a (at + 1) s)
+
+-- ---- the steps
+
+module _ (a : ℕ) (s : List ℕ) (i k p : ℕ) where
+  pub integer-cut : readInt i (drop i s) ≡ Cut → integer k p (a + i) (drop i s) ≡ no k p
+  unfolding integer
+  integer-cut e = rw (int-moved a i (drop i s), e)
+
+  pub integer-in : {v next : ℕ} → readInt i (drop i s) ≡ Value v next → integer k p (a + i) (drop i s) ≡ got v (a + next) (drop next s)
+  unfolding integer
+  integer-in {v} {next} e =
+      let w = int-within s i e in
+      let z : a + next - (a + i) ≡ next - i = omega arith in
+      let y : i + (next - i) ≡ next = omega (arith, w) in
+      rw (int-moved a i (drop i s), e, z, drop-drop (next - i) i s, y)
+
+  pub octets-cut : (n : ℕ) → length s - i < n → string n k p (a + i) (drop i s) ≡ no k p
+  unfolding string
+  octets-cut n h = rw (lt-ltb (length (drop i s)) n (omega (arith, length-drop i s)))
+
+  pub octets-in : (n : ℕ) → n ≤ length s - i → string n k p (a + i) (drop i s) ≡ got (piece (a + i) (take n (drop i s))) (a + (i + n)) (drop (i + n) s)
+  unfolding string
+  octets-in n h =
+      let z : a + i + n ≡ a + (i + n) = omega arith in
+      rw (le-ltb (length (drop i s)) n (omega (arith, length-drop i s)), z, drop-drop n i s)
+
+-- the same in the whole input
+module _ (s : List ℕ) (i k p : ℕ) where
+  pub integer-cut-here : readInt i (drop i s) ≡ Cut → integer k p i (drop i s) ≡ no k p
+  unfolding integer
+  integer-cut-here e = rw e
+
+  pub integer-here : {v next : ℕ} → readInt i (drop i s) ≡ Value v next → integer k p i (drop i s) ≡ got v next (drop next s)
+  integer-here {v} {next} e =
+      let y : 0 + i ≡ i = omega arith in
+      let z : 0 + next ≡ next = omega arith in
+      rw (y, z) at (integer-in 0 s i k p e)
+
+  pub octets-cut-here : (n : ℕ) → length s - i < n → string n k p i (drop i s) ≡ no k p
+  octets-cut-here n h = let z : 0 + i ≡ i = omega arith in rw z at (octets-cut 0 s i k p n h)
+
+  pub octets-here : (n : ℕ) → n ≤ length s - i → string n k p i (drop i s) ≡ got (piece i (take n (drop i s))) (i + n) (drop (i + n) s)
+  octets-here n h =
+      let y : 0 + i ≡ i = omega arith in
+      let z : 0 + (i + n) ≡ i + n = omega arith in
+      rw (y, z) at (octets-in 0 s i k p n h)

@@ -1,0 +1,182 @@
+-- One line of a section, and one turn of each section loop, by what comes next.
+use Prim.Native.Nat.{ℕ, suc, _+_, _-_, _*_, _<_, _≤_}
+use mathlib.Core.Path.{_≡_, refl, sym, ap, _∙_}
+use mathlib.Core.List.{List, [], _∷_, _++_}
+use mathlib.Core.Bool.{Bool, true, false}
+use native.Mathlib.Omega.{arith}
+use borrow.Author.Tests.{eq-eqb, ne-eqb, le-leb, lt-leb}
+use lib.ListN.{length, take, drop, length-drop}
+use Rattle.octets.specs.Text.{isEmpty}
+use Rattle.octets.specs.Limits.{linesMost}
+use Rattle.octets.specs.Refusals.{badSection, cutOff, tooLarge}
+use Rattle.numbers.specs.Integer.{readInt}
+use Rattle.numbers.specs.declared.Integer.the-variants.{Value, Cut}
+use Rattle.output.specs.Splice.{splice}
+use Rattle.output.proofs.Laws.{splice-length}
+use Rattle.script.specs.Do.{Piece}
+use Rattle.messages.specs.Message.{FieldRead}
+use Rattle.messages.specs.Names.{lineKind, kept}
+use Rattle.messages.specs.Notes.{isNoted, noteOf, noteLine}
+use Rattle.messages.specs.Answers.{fieldsNumbers}
+use Rattle.messages.specs.declared.Kind.{Kind}
+use Rattle.messages.specs.declared.Notes.{Notes}
+use Rattle.messages.proofs.Noting.{noted-nothing}
+use Rattle.binary.specs.Reader.{Got, got, no, onGot, _>>=_, tell, integer, string}
+use Rattle.binary.specs.Read.{part, judgedLine, knownLine, knownLines, openLine, openLines}
+use Rattle.binary_parts.specs.Section.{restLine, LineSays, Lined}
+use Rattle.binary_parts.specs.declared.LineRead.{LineRead}
+use Rattle.binary_parts.specs.declared.LineRead.the-variants as read
+use Rattle.binary_parts.proofs.Steps.{integer-cut, integer-in, integer-cut-here, integer-here}
+
+-- ---- a line by its name length
+
+module _ (a : ℕ) (s : List ℕ) (at : ℕ) where
+  pub known-cut : readInt at (drop at s) ≡ Cut → knownLine (a + at) (drop at s) ≡ no badSection (a + at)
+  unfolding knownLine _>>=_
+  known-cut e = rw (integer-cut a s at badSection (a + at) e)
+
+  module _ {n next : ℕ} (e : readInt at (drop at s) ≡ Value n next) where
+    pub known-none : n ≡ 0 → knownLine (a + at) (drop at s) ≡ no badSection (a + at)
+    unfolding knownLine _>>=_
+    known-none h = rw (integer-in a s at badSection (a + at) e, eq-eqb n 0 h)
+
+    pub known-rest : (n ≡ 0 → ⊥) → knownLine (a + at) (drop at s) ≡ restLine true (a + at) n (a + next) (drop next s)
+    unfolding knownLine restLine _>>=_
+    known-rest h = rw (integer-in a s at badSection (a + at) e, ne-eqb n 0 h)
+
+-- a line of an indeterminate section: its value is a part of its own
+open-rest : (p n at : ℕ) (s : List ℕ) → openLine p n at s ≡ restLine false p n at s
+unfolding openLine restLine part _>>=_
+open-rest p n at s = go (string n cutOff p at s)
+  where
+    within : (w : Piece) (q : ℕ) (x : Got ℕ)
+        → onGot (onGot x (λ b. string b cutOff q)) (λ v. tell (judgedLine p w v)) ≡ onGot x (λ b i l. onGot (string b cutOff q i l) (λ v. tell (judgedLine p w v)))
+    within w q (got b i l) = refl
+    within w q (no k m) = refl
+
+    go : (x : Got Piece)
+        → onGot x (λ w i l. onGot (onGot (integer cutOff i i l) (λ b. string b cutOff i)) (λ v. tell (judgedLine p w v)))
+        ≡ onGot x (λ w i l. onGot (integer cutOff i i l) (λ b j m. onGot (string b cutOff i j m) (λ v. tell (judgedLine p w v))))
+    go (got w i l) = within w i (integer cutOff i i l)
+    go (no k m) = refl
+
+-- ---- what the caller learns of a line
+
+-- a line that was read in the part s at the place a, up to `end`: c fields are kept with it; its kind, the place of its name, the size of its value
+pub record NextLine (s : List ℕ) (a : ℕ) (x : Got FieldRead) (host : Bool) (k : ℕ) (o o′ : List ℕ) (end c : ℕ) (kind : Kind) (name len : ℕ) : Type 0 where
+  pub line : FieldRead
+  pub is : x ≡ got line (a + end) (drop end s)
+  pub within : end ≤ length s
+  pub count : c ≡ k + length (kept host (line ∷ []))
+  pub kind-is : kind ≡ lineKind line
+  pub name-at : name ≡ line .name .place
+  pub long : len ≤ end
+  pub value-at : line .value .place ≡ a + (end - len)
+  pub value-is : line .value .text ≡ take len (drop (end - len) s)
+  pub stored : o′ ≡ splice o (k * 4) (fieldsNumbers (kept host (line ∷ [])))
+  pub same : length o′ ≡ length o
+
+module _ {s : List ℕ} {a : ℕ} {x : Got FieldRead} {host : Bool} {k : ℕ} {o o′ : List ℕ} {end c : ℕ} {kind : Kind} {name len : ℕ}
+    (f : NextLine s a x host k o o′ end c kind name len) (n : Notes) where
+  -- a line that was noted, and one of which nothing is noted
+  pub note-taken : {noted : Notes} {v : ℕ} → v ≡ a + (end - len) → noted ≡ noteOf false n kind name v (take (end - (end - len)) (drop (end - len) s))
+      → noted ≡ noteLine false n (f .line)
+  note-taken e q = let z : end - (end - len) ≡ len = omega (arith, f .long) in
+      q ∙ rw (z, e, ← f .value-at, ← f .value-is, f .kind-is, f .name-at)
+
+  pub note-passed : isNoted kind ≡ false → n ≡ noteLine false n (f .line)
+  note-passed q =
+      sym (noted-nothing false n kind (f .line .name .place) (f .line .value .place) (f .line .value .text) q)
+      ∙ ap (λ (k : Kind). noteOf false n k (f .line .name .place) (f .line .value .place) (f .line .value .text)) (f .kind-is)
+
+module _ {s : List ℕ} {a : ℕ} {x : Got FieldRead} {host : Bool} {k : ℕ} {o o′ : List ℕ} {r : LineRead} (h : Lined s a x host k o o′ r) where
+  pub lined-next : {end c : ℕ} {kind : Kind} {name len : ℕ} → r ≡ read.Next end c kind name len → NextLine s a x host k o o′ end c kind name len
+  lined-next {end} {c} {kind} {name} {len} e = go x (h .says)
+    where
+      go : (y : Got FieldRead) → LineSays s a y host k o o′ r → NextLine s a y host k o o′ end c kind name len
+      go (got f i l) q =
+          let z : q .0 ≡ end = cc in
+          let u : c ≡ k + length (kept host (f ∷ [])) = cc in
+          let v : kind ≡ lineKind f = cc in
+          let w : name ≡ f .name .place = cc in
+          let y : length (f .value .text) ≡ len = cc in
+          record {
+            line = f;
+            is = rw (q .4, q .6, z);
+            within = rw z at (q .5);
+            count = u;
+            kind-is = v;
+            name-at = w;
+            long = rw (y, z) at (q .3 .long);
+            value-at = q .3 .place ∙ rw (y, z);
+            value-is = q .3 .text ∙ rw (y, z);
+            stored = q .2;
+            same = ap length (q .2) ∙ splice-length o (k * 4) (fieldsNumbers (kept host (f ∷ [])));
+          }
+      go (no y p) q = let z : _≡_ {A = ℕ} 0 1 = cc in absurd (omega arith)
+
+  pub lined-refused : {y p : ℕ} → r ≡ read.Refused y p → x ≡ no y p
+  lined-refused {y} {p} e = go x (h .says)
+    where
+      go : (z : Got FieldRead) → LineSays s a z host k o o′ r → z ≡ no y p
+      go (got f i l) q = let z : _≡_ {A = ℕ} 0 1 = cc in absurd (omega arith)
+      go (no u v) q = cc
+
+-- ---- the lines of a known-length section
+
+module _ (a : ℕ) (s : List ℕ) (i f : ℕ) (fs : List FieldRead) where
+  pub known-done : length s ≤ i → knownLines (suc f) fs (a + i) (drop i s) ≡ got fs (a + i) (drop i s)
+  unfolding knownLines _>>=_ isEmpty
+  known-done h = rw (eq-eqb (length (drop i s)) 0 (omega (arith, length-drop i s)))
+
+  module _ (h : i < length s) where
+    some-left : isEmpty (drop i s) ≡ false
+    unfolding isEmpty
+    some-left = ne-eqb _ _ (λ (q : length (drop i s) ≡ 0). omega (arith, length-drop i s, q))
+
+    pub known-full : linesMost ≤ length fs → knownLines (suc f) fs (a + i) (drop i s) ≡ no tooLarge (a + i)
+    unfolding knownLines _>>=_
+    known-full g = rw (some-left, le-leb _ _ g)
+
+    module _ (g : length fs < linesMost) where
+      pub known-wrong : {n p : ℕ} → knownLine (a + i) (drop i s) ≡ no n p → knownLines (suc f) fs (a + i) (drop i s) ≡ no n p
+      unfolding knownLines _>>=_
+      known-wrong e = rw (some-left, lt-leb _ _ g, e)
+
+      pub known-next : {x : FieldRead} (end g′ : ℕ) → f ≡ suc g′ → knownLine (a + i) (drop i s) ≡ got x (a + end) (drop end s)
+          → knownLines (suc f) fs (a + i) (drop i s) ≡ knownLines (suc g′) (fs ++ x ∷ []) (a + end) (drop end s)
+      unfolding knownLines _>>=_
+      known-next end g′ z e = rw (some-left, lt-leb _ _ g, e, z)
+
+-- ---- the lines of an indeterminate section
+
+module _ (s : List ℕ) (i f : ℕ) (fs : List FieldRead) where
+  pub open-cut : readInt i (drop i s) ≡ Cut → openLines (suc f) fs i (drop i s) ≡ no cutOff i
+  unfolding openLines _>>=_
+  open-cut e = rw (integer-cut-here s i cutOff i e)
+
+  module _ {n next : ℕ} (e : readInt i (drop i s) ≡ Value n next) where
+    pub open-done : n ≡ 0 → openLines (suc f) fs i (drop i s) ≡ got fs next (drop next s)
+    unfolding openLines _>>=_
+    open-done h = rw (integer-here s i cutOff i e, eq-eqb n 0 h)
+
+    module _ (h : n ≡ 0 → ⊥) where
+      pub open-full : linesMost ≤ length fs → openLines (suc f) fs i (drop i s) ≡ no tooLarge i
+      unfolding openLines _>>=_
+      open-full g = rw (integer-here s i cutOff i e, ne-eqb n 0 h, le-leb _ _ g)
+
+      module _ (g : length fs < linesMost) where
+        -- the rest of a line counts its places from 0 on
+        as-rest : openLine i n next (drop next s) ≡ restLine false i n (0 + next) (drop next s)
+        as-rest = let z : 0 + next ≡ next = omega arith in rw z (open-rest i n next (drop next s))
+
+        pub open-wrong : {k p : ℕ} → restLine false i n (0 + next) (drop next s) ≡ no k p → openLines (suc f) fs i (drop i s) ≡ no k p
+        unfolding openLines _>>=_
+        open-wrong q = rw (integer-here s i cutOff i e, ne-eqb n 0 h, lt-leb _ _ g, as-rest, q)
+
+        pub open-next : {x : FieldRead} (end g′ : ℕ) → f ≡ suc g′ → restLine false i n (0 + next) (drop next s) ≡ got x (0 + end) (drop end s)
+            → openLines (suc f) fs i (drop i s) ≡ openLines (suc g′) (fs ++ x ∷ []) end (drop end s)
+        unfolding openLines _>>=_
+        open-next end g′ z q =
+            let y : 0 + end ≡ end = omega arith in
+            rw (integer-here s i cutOff i e, ne-eqb n 0 h, lt-leb _ _ g, as-rest, q, z, y)

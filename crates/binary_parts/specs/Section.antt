@@ -1,0 +1,99 @@
+-- What the code that reads field sections promises, in terms of `section`, `knownLines` and `openLines` (binary/specs/Read; 01, "Binary HTTP as we take it").
+use Prim.Native.Nat.{ℕ, _+_, _-_, _*_, _≤_}
+use mathlib.Core.Path.{_≡_}
+use mathlib.Core.Bool.{Bool, false, cond}
+use mathlib.Core.List.{List, [], _∷_}
+use lib.ListN.{length, take, drop}
+use Rattle.octets.specs.Refusals.{cutOff, badSection}
+use Rattle.script.specs.Do.{Piece, Judged, good, wrong}
+use Rattle.output.specs.Splice.{splice}
+use Rattle.messages.specs.Message.{FieldRead, Section}
+use Rattle.messages.specs.Names.{lineKind, kept}
+use Rattle.messages.specs.Notes.{notesOf}
+use Rattle.messages.specs.Answers.{fieldsNumbers}
+use Rattle.binary.specs.Reader.{Got, got, no, Reader, _>>=_, here, tell, integer, string}
+use Rattle.binary.specs.Read.{judgedLine}
+use Rattle.binary_parts.specs.declared.LineRead.{LineRead}
+use Rattle.binary_parts.specs.declared.LineRead.the-variants as line
+use Rattle.binary_parts.specs.declared.Section as answer
+use Rattle.binary_parts.specs.declared.Section.the-variants as section
+
+-- ---- one line
+
+-- the number of a cut off line: in a known-length section it crosses the section
+abbrev pub cutNumber : Bool → ℕ
+cutNumber known = cond known badSection cutOff
+
+-- the place of a cut off value, which is q: in a known-length section it is the line's place p
+abbrev pub cutPlace : Bool → ℕ → ℕ → ℕ
+cutPlace known p q = cond known p q
+
+-- what both kinds of section share: the rest of a line that starts at the place p and whose name has n octets
+unfoldable pub restLine : Bool → ℕ → ℕ → Reader FieldRead
+restLine known p n = do
+  w ← string n (cutNumber known) p
+  q ← here
+  b ← integer (cutNumber known) (cutPlace known p q)
+  v ← string b (cutNumber known) (cutPlace known p q)
+  tell (judgedLine p w v)
+
+-- a good line f as the code answers it, where k fields are kept before it and the reading goes on at `end`
+abbrev pub nextLine : FieldRead → ℕ → Bool → ℕ → LineRead
+nextLine f end host k = line.Next end (k + length (kept host (f ∷ []))) (lineKind f) (f .name .place) (length (f .value .text))
+
+-- a line that was judged: where it is kept it is stored behind the k entries of o; the reading goes on at `end`
+abbrev pub JudgedSays : Judged FieldRead → ℕ → Bool → ℕ → List ℕ → List ℕ → LineRead → Type 0
+JudgedSays (good f) end host k o o′ r = (r ≡ nextLine f end host k) × (o′ ≡ splice o (k * 4) (fieldsNumbers (kept host (f ∷ []))))
+JudgedSays (wrong x p) end host k o o′ r = r ≡ line.Refused x p
+
+-- what a judged line promises, as one fact
+pub record JudgedLine (j : Judged FieldRead) (end : ℕ) (host : Bool) (k : ℕ) (o o′ : List ℕ) (r : LineRead) : Type 0 where
+  pub says : JudgedSays j end host k o o′ r
+
+-- the piece v ends at the index `end` of the part s, whose first octet is at the place a
+pub record EndsAt (s : List ℕ) (a end : ℕ) (v : Piece) : Type 0 where
+  pub long : length (v .text) ≤ end
+  pub place : v .place ≡ a + (end - length (v .text))
+  pub text : v .text ≡ take (length (v .text)) (drop (end - length (v .text)) s)
+
+-- a line that was read in the part s, whose first octet is at the place a: the answer's `end` is counted in the part
+abbrev pub LineSays : List ℕ → ℕ → Got FieldRead → Bool → ℕ → List ℕ → List ℕ → LineRead → Type 0
+LineSays s a (got f e l) host k o o′ r =
+    (end : ℕ)
+    × (r ≡ nextLine f end host k)
+    × (o′ ≡ splice o (k * 4) (fieldsNumbers (kept host (f ∷ []))))
+    × EndsAt s a end (f .value)
+    × (e ≡ a + end)
+    × (end ≤ length s)
+    × (l ≡ drop end s)
+LineSays s a (no x p) host k o o′ r = r ≡ line.Refused x p
+
+-- what a line that was read promises, as one fact
+pub record Lined (s : List ℕ) (a : ℕ) (x : Got FieldRead) (host : Bool) (k : ℕ) (o o′ : List ℕ) (r : LineRead) : Type 0 where
+  pub says : LineSays s a x host k o o′ r
+
+-- ---- sections
+
+-- the lines of a section's body, behind the k entries of o; the section ends at `end`
+abbrev pub BodySays : Got (List FieldRead) → ℕ → Bool → ℕ → List ℕ → List ℕ → answer.Section → Type 0
+BodySays (got fs e l) end host k o o′ r =
+    (r ≡ section.Done end (k + length (kept host fs)) (notesOf false fs)) × (o′ ≡ splice o (k * 4) (fieldsNumbers (kept host fs)))
+BodySays (no n p) end host k o o′ r = r ≡ section.Refused n p
+
+-- what the lines of a body promise, as one fact
+pub record Bodied (x : Got (List FieldRead)) (end : ℕ) (host : Bool) (k : ℕ) (o o′ : List ℕ) (r : answer.Section) : Type 0 where
+  pub says : BodySays x end host k o o′ r
+
+-- a section that was read behind the k entries of o; the caller can read on behind it
+abbrev pub SectionSays : List ℕ → Got Section → Bool → ℕ → List ℕ → List ℕ → answer.Section → Type 0
+SectionSays s (got h e l) host k o o′ r =
+    (r ≡ section.Done e (k + length (kept host (h .lines))) (notesOf false (h .lines)))
+    × (o′ ≡ splice o (k * 4) (fieldsNumbers (kept host (h .lines))))
+    × (h .end ≡ e)
+    × (e ≤ length s)
+    × (l ≡ drop e s)
+SectionSays s (no n p) host k o o′ r = r ≡ section.Refused n p
+
+-- what a section that was read promises, as one fact
+pub record Sectioned (s : List ℕ) (x : Got Section) (host : Bool) (k : ℕ) (o o′ : List ℕ) (r : answer.Section) : Type 0 where
+  pub says : SectionSays s x host k o o′ r

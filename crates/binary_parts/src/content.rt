@@ -1,0 +1,161 @@
+// Content of known length or in chunks, and the padding behind a message.
+use crate::ChunkRead;
+use crate::ContentRead;
+use crate::Padding;
+use crate::PartRead;
+use crate::control::part_within;
+use messages::Framing;
+use messages::sections::does_agree;
+use numbers::Integer;
+use numbers::read_int;
+use octets::Limits;
+use octets::Refusals;
+use ranges::store;
+ghost use mathlib.Core.Path.{_≡_};
+ghost use Prim.Native.Nat.{_≤_, _<_};
+ghost use lib.ListN.{length, drop};
+ghost use Rattle.octets.specs.Limits.{contentMost};
+ghost use Rattle.ranges.specs.Ranges.{placesEnd};
+ghost use Rattle.binary.specs.Read.{knownContent, content, padding};
+ghost use Rattle.binary_parts.specs.Content.{Chunked, openContent, Contented, contentAgrees, Padded};
+
+// The zero octets from `from` on, to the end of the input.
+pub fn check_padding(s: &[u8], from: usize) -> Padding
+    requires { ⌜ from ≤ length (now s) ⌝ }
+    ensures { λ r. ⌜ Padded (now (s .entry)) (padding from (drop from (now (s .entry)))) r ⌝ }
+{
+    let mut i = from;
+    while i < s.len() {
+        if s[i] == 0 {
+            i += 1;
+        } else {
+            return Padding::Bad { place: i };
+        }
+    }
+    Padding::Clean
+}
+
+// The chunk whose length stands at i, behind `count` chunks of `total` octets.
+fn open_chunk(s: &[u8], i: usize, count: usize, total: usize) -> ChunkRead
+    requires { ⌜ total ≤ contentMost ⌝ }
+    ensures { λ r. ⌜ Chunked (now (s .entry)) i count total r ⌝ }
+{
+    let v = read_int(s, i);
+    let Integer::Value { value, next } = v else {
+        return ChunkRead::Refused {
+            number: Refusals::CUT_OFF,
+            place: i,
+        };
+    };
+    if value == 0 {
+        return ChunkRead::Last { end: next };
+    }
+    if Limits::CHUNKS <= count {
+        return ChunkRead::Refused {
+            number: Refusals::TOO_LARGE,
+            place: i,
+        };
+    }
+    if Limits::CONTENT < total + value {
+        return ChunkRead::Refused {
+            number: Refusals::TOO_LARGE,
+            place: i,
+        };
+    }
+    if s.len() - next < value {
+        return ChunkRead::Refused {
+            number: Refusals::CUT_OFF,
+            place: i,
+        };
+    }
+    ChunkRead::Next {
+        start: next,
+        len: value,
+    }
+}
+
+// Chunks from `from` on, up to a length of zero.
+fn open_content(s: &[u8], from: usize, out: &mut [u32]) -> ContentRead
+    requires { ⌜ (from ≤ length (now s)) × (length (now s) < placesEnd) × (512 ≤ length (now out)) ⌝ }
+    ensures { λ r. ⌜ Contented (now (s .entry)) (openContent from (drop from (now (s .entry)))) (now (out .entry)) (now (out .exit)) r ⌝ }
+{
+    let mut i = from;
+    let mut count: usize = 0;
+    let mut total: usize = 0;
+    loop {
+        let c = open_chunk(s, i, count, total);
+        match c {
+            ChunkRead::Refused { number, place } => return ContentRead::Refused { number, place },
+            ChunkRead::Last { end } => return ContentRead::Done {
+                end,
+                chunks: count,
+                total,
+            },
+            ChunkRead::Next { start, len } => {
+                store(out, count, start as u32, len as u32);
+                count += 1;
+                total += len;
+                i = start + len;
+            }
+        }
+    }
+}
+
+// Content of known length at `from`: one chunk, or none.
+fn known_content(s: &[u8], from: usize, out: &mut [u32]) -> ContentRead
+    requires { ⌜ (length (now s) < placesEnd) × (512 ≤ length (now out)) ⌝ }
+    ensures { λ r. ⌜ Contented (now (s .entry)) (knownContent from (drop from (now (s .entry)))) (now (out .entry)) (now (out .exit)) r ⌝ }
+{
+    let w = part_within(s, from, Limits::CONTENT);
+    match w {
+        PartRead::Refused { number, place } => return ContentRead::Refused { number, place },
+        PartRead::Is { start, len } => {
+            let end = start + len;
+            if len == 0 {
+                return ContentRead::Done {
+                    end,
+                    chunks: 0,
+                    total: 0,
+                };
+            }
+            store(out, 0, start as u32, len as u32);
+            return ContentRead::Done {
+                end,
+                chunks: 1,
+                total: len,
+            };
+        }
+    }
+}
+
+// The content from `from` on, of known length or in chunks; where the message ends before it there is none.
+pub fn read_content(s: &[u8], from: usize, known: bool, out: &mut [u32]) -> ContentRead
+    requires { ⌜ (from ≤ length (now s)) × (length (now s) < placesEnd) × (512 ≤ length (now out)) ⌝ }
+    ensures { λ r. ⌜ Contented (now (s .entry)) (content known from (drop from (now (s .entry)))) (now (out .entry)) (now (out .exit)) r ⌝ }
+{
+    if s.len() <= from {
+        return ContentRead::Done {
+            end: from,
+            chunks: 0,
+            total: 0,
+        };
+    }
+    if known {
+        return known_content(s, from, out);
+    } else {
+        return open_content(s, from, out);
+    }
+}
+
+// Whether `total` octets of content agree with the length stated, and with a message that may have content or not.
+pub fn content_agrees(framing: Framing, body: bool, total: usize) -> bool
+    ensures { λ r. ⌜ r ≡ contentAgrees framing body total ⌝ }
+{
+    if does_agree(framing, total) {
+        if body {
+            return true;
+        }
+        return total == 0;
+    }
+    false
+}

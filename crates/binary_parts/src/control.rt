@@ -1,0 +1,190 @@
+// The control data of a request: parts, each a length and what it counts.
+use crate::ControlRead;
+use crate::PartRead;
+use crate::Ruled;
+use crate::SchemeRead;
+use crate::Span;
+use messages::parts::authority_verdict;
+use messages::parts::method_verdict;
+use messages::parts::path_verdict;
+use numbers::Integer;
+use numbers::read_int;
+use octets::Limits;
+use octets::Refusals;
+ghost use mathlib.Core.Path.{_≡_};
+ghost use Prim.Native.Nat.{_+_, _≤_, _<_};
+ghost use lib.ListN.{length, drop};
+ghost use Rattle.octets.specs.Refusals.{cutOff};
+ghost use Rattle.octets.specs.Table.{classes};
+ghost use Rattle.binary.specs.Reader.{string};
+ghost use Rattle.binary.specs.Read.{part, partWithin, ruledPart, schemePart, requestControl};
+ghost use Rattle.binary_parts.specs.Control.{Parted, mostOf, verdictOf, Schemed, pieceOf, controlRest, Controlled};
+
+// The n octets from `at` on of a part that starts at `place`.
+pub fn part_octets(s: &[u8], place: usize, at: usize, n: usize) -> PartRead
+    requires { ⌜ at ≤ length (now s) ⌝ }
+    ensures { λ r. ⌜ Parted (now (s .entry)) (string n cutOff place at (drop at (now (s .entry)))) r ⌝ }
+{
+    if s.len() - at < n {
+        return PartRead::Refused {
+            number: Refusals::CUT_OFF,
+            place,
+        };
+    }
+    PartRead::Is { start: at, len: n }
+}
+
+// The part at `from`, of any size.
+pub fn part_at(s: &[u8], from: usize) -> PartRead
+    ensures { λ r. ⌜ Parted (now (s .entry)) (part from (drop from (now (s .entry)))) r ⌝ }
+{
+    let v = read_int(s, from);
+    let Integer::Value { value, next } = v else {
+        return PartRead::Refused {
+            number: Refusals::CUT_OFF,
+            place: from,
+        };
+    };
+    part_octets(s, from, next, value)
+}
+
+// The part at `from`, of at most so many octets.
+pub fn part_within(s: &[u8], from: usize, most: usize) -> PartRead
+    ensures { λ r. ⌜ Parted (now (s .entry)) (partWithin most from (drop from (now (s .entry)))) r ⌝ }
+{
+    let v = read_int(s, from);
+    let Integer::Value { value, next } = v else {
+        return PartRead::Refused {
+            number: Refusals::CUT_OFF,
+            place: from,
+        };
+    };
+    if value <= most {
+        return part_octets(s, from, next, value);
+    }
+    PartRead::Refused {
+        number: Refusals::TOO_LARGE,
+        place: from,
+    }
+}
+
+// The most octets of a part that has a rule.
+fn most_of(what: Ruled) -> usize
+    ensures { λ r. ⌜ r ≡ mostOf what ⌝ }
+{
+    match what {
+        Ruled::Method => Limits::METHOD,
+        Ruled::Authority => Limits::AUTHORITY,
+        Ruled::Path => Limits::PATH,
+    }
+}
+
+// What the rule of a part says of its octets.
+fn verdict_of(t: &[u8; 256], what: Ruled, w: &[u8]) -> u32
+    requires { ⌜ now t ≡ classes ⌝ }
+    ensures { λ r. ⌜ r ≡ verdictOf what (now (w .entry)) ⌝ }
+{
+    match what {
+        Ruled::Method => method_verdict(t, w),
+        Ruled::Authority => authority_verdict(t, w),
+        Ruled::Path => path_verdict(t, w),
+    }
+}
+
+// The part at `from`, judged by its size and then by its rule.
+fn ruled_part(t: &[u8; 256], s: &[u8], from: usize, what: Ruled) -> PartRead
+    requires { ⌜ now t ≡ classes ⌝ }
+    ensures { λ r. ⌜ Parted (now (s .entry)) (ruledPart (mostOf what) (verdictOf what) from (drop from (now (s .entry)))) r ⌝ }
+{
+    let most = most_of(what);
+    let w = part_within(s, from, most);
+    let PartRead::Is { start, len } = w else {
+        return w;
+    };
+    let end = start + len;
+    let v = verdict_of(t, what, &s[start..end]);
+    if v == 0 {
+        return w;
+    }
+    PartRead::Refused {
+        number: v,
+        place: from,
+    }
+}
+
+// The scheme at `from`, by its number.
+fn scheme_part(s: &[u8], from: usize) -> SchemeRead
+    ensures { λ r. ⌜ Schemed (now (s .entry)) (schemePart from (drop from (now (s .entry)))) r ⌝ }
+{
+    let w = part_at(s, from);
+    match w {
+        PartRead::Refused { number, place } => return SchemeRead::Refused { number, place },
+        PartRead::Is { start, len } => {
+            let end = start + len;
+            if octets::equal(&s[start..end], b"http") {
+                return SchemeRead::Is { scheme: 0, end };
+            }
+            if octets::equal(&s[start..end], b"https") {
+                return SchemeRead::Is { scheme: 1, end };
+            }
+            return SchemeRead::Refused {
+                number: Refusals::NOT_SUPPORTED,
+                place: from,
+            };
+        }
+    }
+}
+
+// Authority and path from `from` on, behind a method and a scheme.
+fn control_rest(t: &[u8; 256], s: &[u8], from: usize, method: Span, scheme: u32) -> ControlRead
+    requires { ⌜ (now t ≡ classes) × (method .start + method .len ≤ length (now s)) × (scheme < 2) ⌝ }
+    ensures { λ r. ⌜ Controlled (now (s .entry)) (controlRest (pieceOf (now (s .entry)) method) scheme from (drop from (now (s .entry)))) r ⌝ }
+{
+    let a = ruled_part(t, s, from, Ruled::Authority);
+    match a {
+        PartRead::Refused { number, place } => return ControlRead::Refused { number, place },
+        PartRead::Is { start, len } => {
+            let p = ruled_part(t, s, start + len, Ruled::Path);
+            match p {
+                PartRead::Refused { number, place } => return ControlRead::Refused {
+                    number,
+                    place,
+                },
+                PartRead::Is { start: at, len: n } => return ControlRead::Done {
+                    method,
+                    scheme,
+                    authority: Span { start, len },
+                    path: Span { start: at, len: n },
+                    end: at + n,
+                },
+            }
+        }
+    }
+}
+
+// The control data of a request from `from` on: method, scheme, authority, path, each judged before the next is read.
+pub fn request_control(t: &[u8; 256], s: &[u8], from: usize) -> ControlRead
+    requires { ⌜ now t ≡ classes ⌝ }
+    ensures { λ r. ⌜ Controlled (now (s .entry)) (requestControl from (drop from (now (s .entry)))) r ⌝ }
+{
+    let m = ruled_part(t, s, from, Ruled::Method);
+    match m {
+        PartRead::Refused { number, place } => return ControlRead::Refused { number, place },
+        PartRead::Is { start, len } => {
+            let c = scheme_part(s, start + len);
+            match c {
+                SchemeRead::Refused { number, place } => return ControlRead::Refused {
+                    number,
+                    place,
+                },
+                SchemeRead::Is { scheme, end } => return control_rest(
+                    t,
+                    s,
+                    end,
+                    Span { start, len },
+                    scheme,
+                ),
+            }
+        }
+    }
+}

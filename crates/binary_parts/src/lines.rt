@@ -1,0 +1,329 @@
+// Field lines and field sections, of known and of indeterminate length.
+use crate::LineRead;
+use crate::Section;
+use messages::parts::is_end_to_end;
+use messages::parts::is_lower_name;
+use messages::parts::is_trimmed_value;
+use messages::parts::kind_of;
+use messages::sections::is_noted;
+use messages::sections::no_notes;
+use messages::sections::note;
+use numbers::Integer;
+use numbers::read_int;
+use octets::Limits;
+use octets::Refusals;
+use ranges::keep;
+ghost use mathlib.Core.Path.{_≡_};
+ghost use mathlib.Core.Bool.{cond, true, false};
+ghost use mathlib.Core.List.{[]};
+ghost use Prim.Native.Nat.{suc, _+_, _*_, _≤_, _<_};
+ghost use lib.ListN.{length, drop};
+ghost use Rattle.octets.specs.Table.{classes};
+ghost use Rattle.octets.specs.Limits.{linesMost};
+ghost use Rattle.script.specs.Do.{piece};
+ghost use Rattle.messages.specs.Control.{isLowerName, isTrimmedValue};
+ghost use Rattle.ranges.specs.Ranges.{placesEnd};
+ghost use Rattle.binary.specs.Read.{judgedLine, knownLine, knownLines, section};
+ghost use Rattle.binary_parts.specs.Section.{cutNumber, cutPlace, restLine, JudgedLine, Lined, Bodied, Sectioned};
+
+// The number of a line that is cut off.
+fn cut_number(known: bool) -> u32
+    ensures { λ r. ⌜ r ≡ cutNumber known ⌝ }
+{
+    if known {
+        return Refusals::BAD_SECTION;
+    }
+    Refusals::CUT_OFF
+}
+
+// The place of a value that is cut off: of the line at p, or of the value's part at q.
+fn cut_place(known: bool, p: usize, q: usize) -> usize
+    ensures { λ r. ⌜ r ≡ cutPlace known p q ⌝ }
+{
+    if known {
+        return p;
+    }
+    q
+}
+
+fn is_line(t: &[u8; 256], name: &[u8], value: &[u8]) -> bool
+    requires { ⌜ now t ≡ classes ⌝ }
+    ensures { λ r. ⌜ r ≡ cond (isLowerName (now (name .entry))) (isTrimmedValue (now (value .entry))) false ⌝ }
+{
+    if is_lower_name(t, name) {
+        return is_trimmed_value(t, value);
+    }
+    false
+}
+
+// The line at the place p whose halves are in, the name at the place n and the value at the place v: judged and, where it is kept, stored.
+fn store_line(
+    t: &[u8; 256],
+    p: usize,
+    n: usize,
+    name: &[u8],
+    v: usize,
+    value: &[u8],
+    end: usize,
+    host: bool,
+    kept: usize,
+    out: &mut [u32],
+) -> LineRead
+    requires { ⌜ (now t ≡ classes) × (n + length (now name) < placesEnd) × (v + length (now value) < placesEnd) × (kept * 4 + 4 ≤ length (now out)) ⌝ }
+    ensures { λ r. ⌜ JudgedLine (judgedLine p (piece n (now (name .entry))) (piece v (now (value .entry)))) end host kept (now (out .entry)) (now (out .exit)) r ⌝ }
+{
+    if is_line(t, name, value) {
+        let kind = kind_of(name);
+        let k = keep(
+            out,
+            kept,
+            is_end_to_end(kind, host),
+            n as u32,
+            name.len() as u32,
+            v as u32,
+            value.len() as u32,
+        );
+        return LineRead::Next {
+            end,
+            kept: k,
+            kind,
+            name: n,
+            len: value.len(),
+        };
+    } else {
+        return LineRead::Refused {
+            number: Refusals::BAD_SYNTAX,
+            place: p,
+        };
+    }
+}
+
+// The rest of the line at the place p, from its name of n octets on: `at` is counted in the part s, whose first octet is at the place a.
+fn rest_line(
+    t: &[u8; 256],
+    s: &[u8],
+    a: usize,
+    p: usize,
+    at: usize,
+    n: usize,
+    known: bool,
+    host: bool,
+    kept: usize,
+    out: &mut [u32],
+) -> LineRead
+    requires { ⌜ (now t ≡ classes) × (at ≤ length (now s)) × (a + length (now s) < placesEnd) × (kept * 4 + 4 ≤ length (now out)) ⌝ }
+    ensures { λ r. ⌜ Lined (now (s .entry)) a (restLine known p n (a + at) (drop at (now (s .entry)))) host kept (now (out .entry)) (now (out .exit)) r ⌝ }
+{
+    let number = cut_number(known);
+    if s.len() - at < n {
+        return LineRead::Refused { number, place: p };
+    }
+    let m = at + n;
+    let place = cut_place(known, p, a + m);
+    let Integer::Value { value: len, next } = read_int(s, m) else {
+        return LineRead::Refused { number, place };
+    };
+    if s.len() - next < len {
+        return LineRead::Refused { number, place };
+    }
+    let end = next + len;
+    store_line(
+        t,
+        p,
+        a + at,
+        &s[at..m],
+        a + next,
+        &s[next..end],
+        end,
+        host,
+        kept,
+        out,
+    )
+}
+
+// The line at the index `at` of a known-length section's body s, whose first octet is at the place a.
+fn known_line(
+    t: &[u8; 256],
+    s: &[u8],
+    a: usize,
+    at: usize,
+    host: bool,
+    kept: usize,
+    out: &mut [u32],
+) -> LineRead
+    requires { ⌜ (now t ≡ classes) × (at ≤ length (now s)) × (a + length (now s) < placesEnd) × (kept * 4 + 4 ≤ length (now out)) ⌝ }
+    ensures { λ r. ⌜ Lined (now (s .entry)) a (knownLine (a + at) (drop at (now (s .entry)))) host kept (now (out .entry)) (now (out .exit)) r ⌝ }
+{
+    let p = a + at;
+    let Integer::Value { value: n, next } = read_int(s, at) else {
+        return LineRead::Refused {
+            number: Refusals::BAD_SECTION,
+            place: p,
+        };
+    };
+    if n == 0 {
+        return LineRead::Refused {
+            number: Refusals::BAD_SECTION,
+            place: p,
+        };
+    }
+    rest_line(t, s, a, p, next, n, true, host, kept, out)
+}
+
+// The lines that fill the body s of a known-length section, whose first octet is at the place a: at most 64 of them. Kept fields are stored behind
+// the `base` fields that stand in `out`.
+fn known_lines(
+    t: &[u8; 256],
+    s: &[u8],
+    a: usize,
+    host: bool,
+    base: usize,
+    out: &mut [u32],
+) -> Section
+    requires { ⌜ (now t ≡ classes) × (a + length (now s) < placesEnd) × (base * 4 + 256 ≤ length (now out)) ⌝ }
+    ensures { λ r. ⌜ Bodied (knownLines (suc linesMost) [] a (now (s .entry))) (a + length (now (s .entry))) host base (now (out .entry)) (now (out .exit)) r ⌝ }
+{
+    let mut i: usize = 0;
+    let mut lines: usize = 0;
+    let mut count = base;
+    let mut notes = no_notes();
+    loop {
+        if s.len() <= i {
+            return Section::Done {
+                end: a + s.len(),
+                kept: count,
+                notes,
+            };
+        }
+        if Limits::LINES <= lines {
+            return Section::Refused {
+                number: Refusals::TOO_LARGE,
+                place: a + i,
+            };
+        }
+        let line = known_line(t, s, a, i, host, count, out);
+        match line {
+            LineRead::Refused { number, place } => return Section::Refused { number, place },
+            LineRead::Next {
+                end,
+                kept,
+                kind,
+                name,
+                len,
+            } => {
+                count = kept;
+                lines += 1;
+                i = end;
+                if is_noted(kind) {
+                    let v = end - len;
+                    notes = note(notes, kind, name, a + v, &s[v..end], false);
+                }
+            }
+        }
+    }
+}
+
+// A known-length section: its length, then its body, which is handed on by itself.
+fn known_section(
+    t: &[u8; 256],
+    s: &[u8],
+    from: usize,
+    host: bool,
+    base: usize,
+    out: &mut [u32],
+) -> Section
+    requires { ⌜ (now t ≡ classes) × (from ≤ length (now s)) × (length (now s) < placesEnd) × (base * 4 + 256 ≤ length (now out)) ⌝ }
+    ensures { λ r. ⌜ Sectioned (now (s .entry)) (section true from (drop from (now (s .entry)))) host base (now (out .entry)) (now (out .exit)) r ⌝ }
+{
+    let Integer::Value { value: n, next } = read_int(s, from) else {
+        return Section::Refused {
+            number: Refusals::CUT_OFF,
+            place: from,
+        };
+    };
+    if s.len() - next < n {
+        return Section::Refused {
+            number: Refusals::CUT_OFF,
+            place: from,
+        };
+    }
+    known_lines(t, &s[next..next + n], next, host, base, out)
+}
+
+// An indeterminate section: at most 64 lines, up to a name length of zero.
+fn open_section(
+    t: &[u8; 256],
+    s: &[u8],
+    from: usize,
+    host: bool,
+    base: usize,
+    out: &mut [u32],
+) -> Section
+    requires { ⌜ (now t ≡ classes) × (from ≤ length (now s)) × (length (now s) < placesEnd) × (base * 4 + 256 ≤ length (now out)) ⌝ }
+    ensures { λ r. ⌜ Sectioned (now (s .entry)) (section false from (drop from (now (s .entry)))) host base (now (out .entry)) (now (out .exit)) r ⌝ }
+{
+    let mut i = from;
+    let mut lines: usize = 0;
+    let mut count = base;
+    let mut notes = no_notes();
+    loop {
+        let Integer::Value { value: n, next } = read_int(s, i) else {
+            return Section::Refused {
+                number: Refusals::CUT_OFF,
+                place: i,
+            };
+        };
+        if n == 0 {
+            return Section::Done {
+                end: next,
+                kept: count,
+                notes,
+            };
+        }
+        if Limits::LINES <= lines {
+            return Section::Refused {
+                number: Refusals::TOO_LARGE,
+                place: i,
+            };
+        }
+        let line = rest_line(t, s, 0, i, next, n, false, host, count, out);
+        match line {
+            LineRead::Refused { number, place } => return Section::Refused { number, place },
+            LineRead::Next {
+                end,
+                kept,
+                kind,
+                name,
+                len,
+            } => {
+                count = kept;
+                lines += 1;
+                i = end;
+                if is_noted(kind) {
+                    let v = end - len;
+                    notes = note(notes, kind, name, v, &s[v..end], false);
+                }
+            }
+        }
+    }
+}
+
+// The field section from `from` on, of known or of indeterminate length. Kept fields are stored behind the `base` fields that stand in `out`.
+pub fn read_section(
+    t: &[u8; 256],
+    s: &[u8],
+    from: usize,
+    known: bool,
+    host: bool,
+    base: usize,
+    out: &mut [u32],
+) -> Section
+    requires { ⌜ (now t ≡ classes) × (from ≤ length (now s)) × (length (now s) < placesEnd) × (base * 4 + 256 ≤ length (now out)) ⌝ }
+    ensures { λ r. ⌜ Sectioned (now (s .entry)) (section known from (drop from (now (s .entry)))) host base (now (out .entry)) (now (out .exit)) r ⌝ }
+{
+    if known {
+        return known_section(t, s, from, host, base, out);
+    } else {
+        return open_section(t, s, from, host, base, out);
+    }
+}

@@ -1,0 +1,159 @@
+-- The round trip of Binary HTTP, and what follows from it. Assumes nothing.
+use mathlib.Core.Path.{_≡_, refl, sym, ap, _∙_, subst}
+use mathlib.Core.Bool.{true, false}
+use mathlib.Core.List.{List, [], _++_, append-assoc, append-nil}
+use Prim.Native.Nat.{ℕ, suc, _+_, _≤_, _<_}
+use native.Mathlib.Omega.{arith}
+use borrow.Author.Tests.{leb-true, lt-ltb}
+use lib.Dec.{lit<}
+use lib.ListN.{length, length-append}
+use Rattle.octets.specs.Limits.{binaryMost, informationalMost}
+use Rattle.octets.specs.Refusals.{cutOff}
+use Rattle.numbers.specs.Integer.{intLen, intBytes}
+use Rattle.numbers.proofs.IntegerLaws.{int-length}
+use Rattle.script.specs.Script.{Answer, accepted, refused, more, means}
+use Rattle.messages.specs.Message.{isResponse}
+use Rattle.messages.specs.Names.{keptTrailers}
+use Rattle.messages.specs.Meaning.{Control, request, response, controlMeans, Meaning, meaning}
+use Rattle.messages.specs.Valid.{validControl, ofResponse, hasBody, valid}
+use Rattle.messages.proofs.Valid.{section-fields, response-ok, meaning-ok}
+use Rattle.messages.proofs.ValidLines.{content-back}
+use Rattle.binary.specs.Reader.{got, Reader, _>>=_, integer}
+use Rattle.binary.specs.Read.{message, readBinary}
+use Rattle.binary_writer.specs.Write.{counted, sectionBytes, schemeBytes, informationalBytes, controlBytes, binaryOf, binaryFits}
+use Rattle.binary_round_trip.specs.RoundTrip.{startOf, placedFrom, placedBinary, RoundTrip, RoundTripOfMeanings, Unique}
+use Rattle.binary_round_trip.proofs.Judgement.{Reads, reads-integer, reads-bind}
+use Rattle.binary_round_trip.proofs.Lines.{both-fit}
+use Rattle.binary_round_trip.proofs.Keeping.{fields-back, heads-back}
+use Rattle.binary_round_trip.proofs.Messages.{TailOk, tailBytes, requestBytes, reads-request-message, reads-response}
+
+-- ---- the framing
+
+framing-length : (v : ℕ) → v < 64 → length (intBytes v) ≡ 1
+unfolding intLen
+framing-length v h = int-length v ∙ rw (lt-ltb v 64 h)
+
+reads-framing : {A : Type 0} (v : ℕ) (k : ℕ → Reader A) {y rest : List ℕ} {b : A} → v < 64 → Reads (k v) 1 y rest b
+    → Reads (integer cutOff 0 >>= k) 0 (intBytes v ++ y) rest b
+reads-framing v k {y} {rest} {b} h g =
+    let f = framing-length v h in
+    let e : 1 ≡ 0 + length (intBytes v) = omega arith in
+    reads-bind k (reads-integer cutOff 0 0 v _ (omega arith)) (subst (λ (z : ℕ). Reads (k v) z y rest b) e g)
+
+-- ---- control data
+
+-- what stands behind the framing, its parts grouped to the right
+abbrev behindIndicator : Control → List ℕ
+behindIndicator (request m s a p) = requestBytes m s a p
+behindIndicator (response hs s) = informationalBytes hs ++ intBytes s
+
+abbrev framing : Control → ℕ
+framing (request m s a p) = 0
+framing (response hs s) = 1
+
+control-bytes : (c : Control) → controlBytes c ≡ intBytes (framing c) ++ behindIndicator c
+unfolding controlBytes
+control-bytes (request m s a p) =
+    rw (
+      append-assoc (intBytes 0 ++ counted m ++ counted (schemeBytes s)) (counted a) (counted p),
+      append-assoc (intBytes 0 ++ counted m) (counted (schemeBytes s)) (counted a ++ counted p),
+      append-assoc (intBytes 0) (counted m) (counted (schemeBytes s) ++ (counted a ++ counted p)),
+    )
+control-bytes (response hs s) = append-assoc (intBytes 1) (informationalBytes hs) (intBytes s)
+
+framing-small : (c : Control) → framing c < 64
+framing-small (request m s a p) = lit< tt
+framing-small (response hs s) = lit< tt
+
+control-length : (c : Control) → 1 + length (behindIndicator c) ≡ length (controlBytes c)
+control-length c =
+    let l : length (intBytes (framing c) ++ behindIndicator c) ≡ length (intBytes (framing c)) + length (behindIndicator c) = length-append (intBytes (framing c)) (behindIndicator c) in
+    let f = framing-length (framing c) (framing-small c) in
+    rw (control-bytes c) (omega arith)
+
+control-back : (c : Control) (w : Meaning) → validControl c ≡ true → TailOk (ofResponse c) (hasBody c) w → length (behindIndicator c) ≤ binaryMost
+    → Reads message 0 (intBytes (framing c) ++ (behindIndicator c ++ tailBytes w)) [] (placedFrom (startOf c) (1 + length (behindIndicator c)) w)
+unfolding message startOf
+control-back (request m s a p) w v ok h = reads-framing 0 _ (lit< tt) (reads-request-message w m a p s 1 v ok)
+control-back (response hs s) w v ok h =
+    let o = response-ok hs s v in
+    let few = o .few in
+    let b = both-fit (informationalBytes hs) (intBytes s) h in
+    rw (append-assoc (informationalBytes hs) (intBytes s) (tailBytes w))
+    (reads-framing 1 _ (lit< tt)
+    (reads-response w s (o .status) (o .late) ok hs (suc informationalMost) 1 [] (o .heads) (omega arith) (omega arith) (b .0)))
+
+-- ---- the message
+
+binary-bytes : (m : Meaning) → binaryOf m ≡ intBytes (framing (m .control)) ++ (behindIndicator (m .control) ++ tailBytes m)
+unfolding binaryOf
+binary-bytes m =
+    let c : List ℕ = controlBytes (m .control) in
+    let h : List ℕ = sectionBytes (m .headers) in
+    let b : List ℕ = counted (m .content) in
+    let t : List ℕ = sectionBytes (m .trailers) in
+    append-assoc (c ++ h) b t ∙ append-assoc c h (b ++ t) ∙ ap (λ (z : List ℕ). z ++ (h ++ (b ++ t))) (control-bytes (m .control))
+    ∙ append-assoc (intBytes (framing (m .control))) (behindIndicator (m .control)) (h ++ (b ++ t))
+
+message-back : (m : Meaning) → valid m ≡ true → length (binaryOf m) ≤ binaryMost → Reads message 0 (binaryOf m) [] (placedBinary m)
+unfolding placedBinary
+message-back m v h =
+    let o = meaning-ok m v in
+    let g : length (intBytes (framing (m .control)) ++ (behindIndicator (m .control) ++ tailBytes m)) ≤ binaryMost = rw (binary-bytes m) at h in
+    let f1 = both-fit (intBytes (framing (m .control))) (behindIndicator (m .control) ++ tailBytes m) g in
+    let f2 = both-fit (behindIndicator (m .control)) (tailBytes m) (f1 .1) in
+    let f3 = both-fit (sectionBytes (m .headers)) (counted (m .content) ++ sectionBytes (m .trailers)) (f2 .1) in
+    let f4 = both-fit (counted (m .content)) (sectionBytes (m .trailers)) (f3 .1) in
+    let t : TailOk (ofResponse (m .control)) (hasBody (m .control)) m = record {
+      headers = o .headers;
+      headersFit = f3 .0;
+      content = o .content;
+      trailers = o .trailers;
+      trailersFit = f4 .1;
+      bodyRule = o .body;
+    } in
+    rw (binary-bytes m, ← control-length (m .control)) (control-back (m .control) m (o .control) t (f2 .0))
+
+-- ---- its meaning
+
+control-means : (c : Control) → validControl c ≡ true → (controlMeans (startOf c) ≡ c) × (isResponse (startOf c) ≡ ofResponse c)
+unfolding startOf
+control-means (request m s a p) v = (refl, refl)
+control-means (response hs s) v = (rw (heads-back hs 1 (response-ok hs s v .heads)), refl)
+
+pub meaning-back : (m : Meaning) → valid m ≡ true → meaning (placedBinary m) ≡ m
+unfolding meaning placedBinary placedFrom keptTrailers
+meaning-back m v =
+    let o = meaning-ok m v in
+    let c = control-means (m .control) (o .control) in
+    rw (
+      c .0,
+      c .1,
+      fields-back (ofResponse (m .control)) (m .headers) _ (section-fields _ (m .headers) (o .headers)),
+      content-back _ (m .content),
+      fields-back false (m .trailers) _ (section-fields false (m .trailers) (o .trailers)),
+    )
+
+-- ---- the claims
+
+pub round-trip : RoundTrip
+unfolding readBinary binaryFits
+round-trip = λ m v f.
+    let h = leb-true (length (binaryOf m)) binaryMost f in
+    let r : message 0 (binaryOf m) ≡ got (placedBinary m) (0 + length (binaryOf m)) [] = rw append-nil at (message-back m v h .go) in
+    let e : 0 + length (binaryOf m) ≡ length (binaryOf m) = omega arith in
+    (rw (f, r, e), meaning-back m v)
+
+pub round-trip-of-meanings : RoundTripOfMeanings
+round-trip-of-meanings = λ m v f. let r = round-trip m v f in rw (r .0, r .1)
+
+abbrev valueOf : Meaning → Answer Meaning → Meaning
+valueOf m (accepted n a) = a
+valueOf m (refused k p) = m
+valueOf m more = m
+
+pub unique : Unique
+unique = λ l m vl fl vm fm e.
+    let a = round-trip-of-meanings l vl fl in
+    let b = round-trip-of-meanings m vm fm in
+    ap (valueOf l) (sym a ∙ ap (λ (s : List ℕ). means meaning (readBinary s)) e ∙ b)

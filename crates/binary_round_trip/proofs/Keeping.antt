@@ -1,0 +1,54 @@
+-- Valid fields are kept, in order, with their names as they are; none states a length, and in requests none names a host (messages/proofs/ValidLines).
+use mathlib.Core.Path.{_≡_, refl, _∙_}
+use mathlib.Core.Bool.{Bool, true, false}
+use mathlib.Core.List.{List, [], _∷_, _++_, map}
+use Prim.Native.Nat.{ℕ, _+_}
+use lib.ListN.{length}
+use Rattle.messages.specs.Names.{linesOf, kept, areTrailers}
+use Rattle.messages.specs.declared.Kind.the-variants as kind
+use Rattle.messages.specs.declared.Framing.the-variants.{Unstated}
+use Rattle.messages.specs.Rules.{binaryFramingOf}
+use Rattle.messages.specs.Meaning.{Field, fieldMeans, Informational, informationalMeans}
+use Rattle.messages.specs.Valid.{validFields, validHeads, noFields}
+use Rattle.messages.proofs.Valid.{section-fields, head-ok}
+use Rattle.messages.proofs.ValidLines as laws
+use Rattle.binary.specs.Read.{noLines}
+use Rattle.binary_writer.specs.Write.{fieldBytes, sectionBytes}
+use Rattle.numbers.specs.Integer.{intBytes}
+use Rattle.binary_round_trip.specs.RoundTrip.{linesAt, headsAt}
+
+lines-say : (fs : List Field) (at : ℕ) → map laws.said (linesAt at fs) ≡ fs
+unfolding linesAt
+lines-say [] at = refl
+lines-say (f ∷ fs) at = rw (lines-say fs (at + length (fieldBytes f)))
+
+module _ (host : Bool) (fs : List Field) (at : ℕ) (v : validFields host fs ≡ true) where
+  lines-valid : validFields host (map laws.said (linesAt at fs)) ≡ true
+  lines-valid = rw (lines-say fs at) v
+
+  pub unstated : binaryFramingOf (linesAt at fs) ≡ Unstated
+  unstated = laws.unstated-binary host (linesAt at fs) lines-valid
+
+  pub kept-all : kept host (linesAt at fs) ≡ linesAt at fs
+  kept-all = laws.kept-all host (linesAt at fs) lines-valid
+
+  pub fields-back : map fieldMeans (kept host (linesAt at fs)) ≡ fs
+  fields-back = laws.fields-back host (linesAt at fs) lines-valid ∙ lines-say fs at
+
+pub no-hosts : (fs : List Field) (at : ℕ) → validFields false fs ≡ true → linesOf kind.Host (linesAt at fs) ≡ []
+no-hosts fs at v = laws.no-hosts (linesAt at fs) (lines-valid false fs at v)
+
+pub are-trailers : (fs : List Field) (at : ℕ) → validFields false fs ≡ true → areTrailers (linesAt at fs) ≡ true
+are-trailers fs at v = laws.are-trailers (linesAt at fs) (lines-valid false fs at v)
+
+pub as-many : (fs : List Field) (at : ℕ) → noLines (linesAt at fs) ≡ noFields fs
+unfolding linesAt
+as-many [] at = refl
+as-many (f ∷ fs) at = refl
+
+pub heads-back : (hs : List Informational) (at : ℕ) → validHeads hs ≡ true → map informationalMeans (headsAt at hs) ≡ hs
+unfolding headsAt informationalMeans
+heads-back [] at v = refl
+heads-back (h ∷ hs) at v =
+    let o = head-ok h hs v in
+    rw (fields-back true (h .fields) _ (section-fields true (h .fields) (o .0 .fields)), heads-back hs (at + length (intBytes (h .status) ++ sectionBytes (h .fields))) (o .1))

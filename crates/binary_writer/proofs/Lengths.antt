@@ -1,0 +1,100 @@
+-- What is written is as long as the numbers say.
+use Prim.Native.Nat.{ℕ, zero, suc, _+_, _*_}
+use mathlib.Core.Path.{_≡_, refl, _∙_}
+use mathlib.Core.Bool.{Bool, true, false, cond}
+use mathlib.Core.List.{List, _++_, map}
+use lib.Dec.{eqb}
+use lib.ListN.{length, getD, length-append, length-map}
+use Rattle.octets.specs.Text.{lowerOf}
+use Rattle.octets.specs.Ascii.{ascii}
+use Rattle.numbers.specs.Integer.{intLen, tagOf, intBytes}
+use Rattle.numbers.specs.Places.{push}
+use Rattle.numbers.proofs.IntegerLaws.{int-length}
+use Rattle.output.specs.Splice.{part}
+use Rattle.output.proofs.Laws.{elements-length}
+use Rattle.messages.specs.Meaning.{fieldMeans}
+use Rattle.messages.specs.declared.Part.{Part}
+use Rattle.messages.specs.declared.Record.{Record}
+use Rattle.ranges.specs.Entries.{fieldIn, fieldsIn, headsIn, partIn, controlIn, meaningIn, MessageWithin}
+use Rattle.binary_writer.specs.Write.{counted, fieldBytes, fieldsBytes, sectionBytes, schemeBytes, informationalBytes, controlBytes, binaryOf}
+use Rattle.binary_writer.specs.Sizes.{countedSize, entrySize, fieldsSize, sectionSize, headsSize, schemeSize, controlSize, messageSize}
+
+counted-length : (w : List ℕ) (n : ℕ) → length w ≡ n → length (counted w) ≡ countedSize n
+unfolding counted
+counted-length w n e = rw (length-append, int-length, e)
+
+-- octets with their count in front
+pub counted-is : (w : List ℕ) (n : ℕ) → length w ≡ n → intBytes n ++ w ≡ counted w
+unfolding counted
+counted-is w n e = rw e
+
+pub part-length : (s : List ℕ) (from n : ℕ) → length (part s from n) ≡ n
+part-length s from n = elements-length 0 s from n
+
+pub lower-length : (s : List ℕ) (from n : ℕ) → length (map lowerOf (part s from n)) ≡ n
+lower-length s from n = length-map (part s from n) lowerOf ∙ part-length s from n
+
+module _ (s ranges : List ℕ) where
+  field-length : (k : ℕ) → length (fieldBytes (fieldMeans (fieldIn s ranges k))) ≡ entrySize ranges k
+  unfolding fieldBytes fieldMeans
+  field-length k =
+      let n : List ℕ = map lowerOf (part s (getD ranges (k * 4) 0) (getD ranges (k * 4 + 1) 0)) in
+      let v : List ℕ = part s (getD ranges (k * 4 + 2) 0) (getD ranges (k * 4 + 3) 0) in
+      let e : length (counted n) ≡ countedSize (getD ranges (k * 4 + 1) 0) = counted-length n _ (lower-length s _ _) in
+      let d : length (counted v) ≡ countedSize (getD ranges (k * 4 + 3) 0) = counted-length v _ (part-length s _ _) in
+      length-append (counted n) (counted v) ∙ rw (e, d)
+
+  pub fields-length : (k n : ℕ) → length (fieldsBytes (map fieldMeans (fieldsIn s ranges k n))) ≡ fieldsSize ranges k n
+  unfolding fieldsBytes fieldsIn fieldsSize
+  fields-length k zero = refl
+  fields-length k (suc n) = rw (length-append, field-length k, fields-length (k + 1) n)
+
+  pub section-length : (k n : ℕ) → length (sectionBytes (map fieldMeans (fieldsIn s ranges k n))) ≡ sectionSize ranges k n
+  unfolding sectionBytes
+  section-length k n = counted-length _ _ (fields-length k n)
+
+pub heads-length : (s hs ns : List ℕ) (i n : ℕ) → length (informationalBytes (headsIn s hs ns i n)) ≡ headsSize hs ns i n
+unfolding informationalBytes headsIn headsSize
+heads-length s hs ns i zero = refl
+heads-length s hs ns i (suc n) = rw (length-append, length-append, int-length, section-length s hs, heads-length s hs ns (i + 1) n)
+
+scheme-length : (n : ℕ) → length (counted (schemeBytes n)) ≡ schemeSize n
+unfolding schemeBytes schemeSize counted intBytes intLen tagOf push
+scheme-length n = go (eqb n 0)
+  where
+    go : (b : Bool) → length (counted (cond b (ascii "http") (ascii "https"))) ≡ cond b 5 6
+    go true = refl
+    go false = refl
+
+part-counted : (s : List ℕ) (p : Part) → length (counted (partIn s p)) ≡ countedSize (p .len)
+part-counted s p = counted-length (partIn s p) (p .len) (part-length s (p .start) (p .len))
+
+control-length : (x : Bool) (s : List ℕ) (r : Record) (hs ns : List ℕ) → length (controlBytes (controlIn x s r hs ns)) ≡ controlSize x r hs ns
+unfolding controlBytes controlSize intLen
+control-length true s r hs ns = rw (length-append, length-append, int-length, int-length, heads-length s hs ns) refl
+control-length false s r hs ns =
+    rw (
+      length-append,
+      length-append,
+      length-append,
+      length-append,
+      int-length,
+      part-counted s (r .method),
+      scheme-length,
+      part-counted s (r .authority),
+      part-counted s (r .path),
+    )
+    refl
+
+pub message-length : {s : List ℕ} {r : Record} {hs ns cs ts : List ℕ} → MessageWithin s r hs ns cs ts → length (binaryOf (meaningIn s r hs ns cs ts)) ≡ messageSize r hs ns ts
+unfolding binaryOf meaningIn messageSize
+message-length {s} {r} {hs} {ns} {cs} {ts} w =
+    rw (
+      length-append,
+      length-append,
+      length-append,
+      control-length (r .response) s r hs ns,
+      section-length s hs,
+      counted-length _ _ (w .content),
+      section-length s ts,
+    )

@@ -1,0 +1,76 @@
+-- How long a message is in Binary, by its numbers alone (no octet of its source is looked at): the length of `binaryOf` (Write; 01, "How we write", "Sizes").
+-- And what the code of the writer promises, in terms of `toBinary`.
+use Prim.Native.Nat.{ℕ, zero, suc, _+_, _*_}
+use mathlib.Core.Bool.{Bool, true, false, cond}
+use mathlib.Core.List.{List}
+use lib.Dec.{eqb}
+use lib.ListN.{getD}
+use Rattle.numbers.specs.Integer.{intLen}
+use Rattle.messages.specs.Message.{Message}
+use Rattle.messages.specs.Meaning.{meaning}
+use Rattle.messages.specs.declared.Record.{Record}
+use Rattle.output.specs.Reply.{Served}
+use Rattle.output.specs.declared.Written.{Written}
+use Rattle.ranges.specs.Ranges.{Held}
+use Rattle.ranges.specs.Entries.{fieldsBefore}
+use Rattle.binary_writer.specs.Write.{toBinary}
+
+-- so many octets with their count in front
+abbrev pub countedSize : ℕ → ℕ
+countedSize n = intLen n + n
+
+-- the field of the entry k
+abbrev pub entrySize : List ℕ → ℕ → ℕ
+entrySize ranges k = countedSize (getD ranges (k * 4 + 1) 0) + countedSize (getD ranges (k * 4 + 3) 0)
+
+-- the fields of n entries from the entry k on
+unfoldable pub fieldsSize : List ℕ → ℕ → ℕ → ℕ
+fieldsSize ranges k zero = 0
+fieldsSize ranges k (suc n) = entrySize ranges k + fieldsSize ranges (k + 1) n
+
+-- a section of them
+abbrev pub sectionSize : List ℕ → ℕ → ℕ → ℕ
+sectionSize ranges k n = countedSize (fieldsSize ranges k n)
+
+-- the informational head i: its status, then its section
+abbrev pub headSize : List ℕ → List ℕ → ℕ → ℕ
+headSize hs ns i = intLen (getD ns (i * 2) 0) + sectionSize hs (fieldsBefore ns i) (getD ns (i * 2 + 1) 0)
+
+-- n heads from the head i on
+unfoldable pub headsSize : List ℕ → List ℕ → ℕ → ℕ → ℕ
+headsSize hs ns i zero = 0
+headsSize hs ns i (suc n) = headSize hs ns i + headsSize hs ns (i + 1) n
+
+-- a scheme's name
+unfoldable pub schemeSize : ℕ → ℕ
+schemeSize s = cond (eqb s 0) 5 6
+
+-- framing and control data of a response, or of a request
+unfoldable pub controlSize : Bool → Record → List ℕ → List ℕ → ℕ
+controlSize true r hs ns = 1 + headsSize hs ns 0 (r .informational) + intLen (r .status)
+controlSize false r hs ns = 1 + countedSize (r .method .len) + schemeSize (r .scheme) + countedSize (r .authority .len) + countedSize (r .path .len)
+
+-- a whole message
+unfoldable pub messageSize : Record → List ℕ → List ℕ → List ℕ → ℕ
+messageSize r hs ns ts =
+    controlSize (r .response) r hs ns + sectionSize hs (fieldsBefore ns (r .informational)) (r .headers) + countedSize (r .content) + sectionSize ts 0 (r .trailers)
+
+-- bounds, so that no sum passes 2 ^ 62. A field: two lengths of 32 bits, each with its count
+abbrev pub entryMost : ℕ
+entryMost = 8589934606
+
+-- 64 fields
+abbrev pub fieldsMost : ℕ
+fieldsMost = 549755814784
+
+-- four heads: status, count and fields
+abbrev pub headsMost : ℕ
+headsMost = 2199023259200
+
+-- one length of 32 bits, with its count
+abbrev pub partMost : ℕ
+partMost = 4294967303
+
+-- whatever message the record and the ranges hold: it is served as Binary
+pub record BinaryWritten (s : List ℕ) (r : Record) (hs ns cs ts o o′ : List ℕ) (w : Written) : Type 0 where
+  pub by : (n : ℕ) (m : Message) → Held s n m r hs ns cs ts → Served (toBinary (meaning m)) o o′ w

@@ -1,0 +1,223 @@
+// The parts of a message written as Binary, each at a place of the lent octets; the answer is the place behind it.
+use crate::measure::fields_size;
+use messages::Part;
+use messages::Record;
+use output::put_int;
+use output::put_lower;
+use output::put_octet;
+use output::put_part;
+use output::put_text;
+use ranges::fields_before;
+use ranges::number_at;
+ghost use mathlib.Core.Path.{_≡_};
+ghost use mathlib.Core.List.{List, map, _++_};
+ghost use Prim.Native.Nat.{ℕ, _+_, _*_, _≤_, _<_};
+ghost use lib.ListN.{length};
+ghost use Rattle.octets.specs.Text.{lowerOf};
+ghost use Rattle.numbers.specs.Integer.{integerEnd, intLen, intBytes};
+ghost use Rattle.output.specs.Splice.{part, Put};
+ghost use Rattle.messages.specs.Meaning.{request, response, fieldMeans, contentOf};
+ghost use Rattle.ranges.specs.Entries.{fieldIn, fieldsIn, chunksIn, headsIn, partIn, controlIn, meaningIn, EntryWithin, FieldsWithin, HeadsWithin, ChunksWithin, MessageWithin};
+ghost use Rattle.binary_writer.specs.Write.{counted, fieldBytes, fieldsBytes, sectionBytes, schemeBytes, informationalBytes, controlBytes, binaryOf};
+ghost use Rattle.binary_writer.specs.Sizes.{countedSize, entrySize, fieldsSize, sectionSize, headsSize, schemeSize, controlSize, messageSize};
+
+// So many octets of the source with their count in front.
+fn put_counted(out: &mut [u8], at: usize, s: &[u8], from: usize, len: usize) -> usize
+    requires { ⌜ (len < integerEnd) × (from + len ≤ length (now s)) × (at + countedSize len ≤ length (now out)) ⌝ }
+    ensures { λ r. ⌜ Put (now (out .entry)) at (counted (part (now (s .entry)) from len)) (countedSize len) (now (out .exit)) r ⌝ }
+{
+    let a = put_int(out, at, len);
+    put_part(out, a, s, from, len)
+}
+
+// The same in lower case.
+fn put_counted_lower(out: &mut [u8], at: usize, s: &[u8], from: usize, len: usize) -> usize
+    requires { ⌜ (len < integerEnd) × (from + len ≤ length (now s)) × (at + countedSize len ≤ length (now out)) ⌝ }
+    ensures { λ r. ⌜ Put (now (out .entry)) at (counted (map lowerOf (part (now (s .entry)) from len))) (countedSize len) (now (out .exit)) r ⌝ }
+{
+    let a = put_int(out, at, len);
+    put_lower(out, a, s, from, len)
+}
+
+// The first n chunks one behind the other.
+fn put_chunks(out: &mut [u8], at: usize, s: &[u8], chunks: &[u32], n: usize) -> usize
+    requires { ⌜ ChunksWithin (length (now s)) (now chunks) n × (at + length (contentOf (chunksIn (now s) (now chunks) 0 n)) ≤ length (now out)) ⌝ }
+    ensures { λ r. ⌜ Put (now (out .entry)) at (contentOf (chunksIn (now (s .entry)) (now (chunks .entry)) 0 n)) (length (contentOf (chunksIn (now (s .entry)) (now (chunks .entry)) 0 n))) (now (out .exit)) r ⌝ }
+{
+    let mut i = 0;
+    let mut a = at;
+    while i < n {
+        let from = number_at(chunks, i * 2);
+        let len = number_at(chunks, i * 2 + 1);
+        a = put_part(out, a, s, from, len);
+        i += 1;
+    }
+    a
+}
+
+// The name of a scheme with its count: 0 is http, any other https.
+fn put_scheme(out: &mut [u8], at: usize, scheme: u32) -> usize
+    requires { ⌜ at + schemeSize scheme ≤ length (now out) ⌝ }
+    ensures { λ r. ⌜ Put (now (out .entry)) at (counted (schemeBytes scheme)) (schemeSize scheme) (now (out .exit)) r ⌝ }
+{
+    if scheme == 0 {
+        return put_text(out, at, b"\x04http");
+    }
+    put_text(out, at, b"\x05https")
+}
+
+// The field of the entry k.
+fn put_entry(out: &mut [u8], at: usize, s: &[u8], ranges: &[u32], k: usize) -> usize
+    requires { ⌜ (k * 4 + 4 ≤ length (now ranges)) × EntryWithin (length (now s)) (now ranges) k × (at + entrySize (now ranges) k ≤ length (now out)) ⌝ }
+    ensures { λ r. ⌜ Put (now (out .entry)) at (fieldBytes (fieldMeans (fieldIn (now (s .entry)) (now (ranges .entry)) k))) (entrySize (now (ranges .entry)) k) (now (out .exit)) r ⌝ }
+{
+    let name = number_at(ranges, k * 4);
+    let nlen = number_at(ranges, k * 4 + 1);
+    let value = number_at(ranges, k * 4 + 2);
+    let vlen = number_at(ranges, k * 4 + 3);
+    let a = put_counted_lower(out, at, s, name, nlen);
+    put_counted(out, a, s, value, vlen)
+}
+
+// The content: its chunks one behind the other, with their count in front.
+fn put_content(out: &mut [u8], at: usize, s: &[u8], chunks: &[u32], n: usize, len: usize) -> usize
+    requires { ⌜ ChunksWithin (length (now s)) (now chunks) n × (length (contentOf (chunksIn (now s) (now chunks) 0 n)) ≡ len) × (len < integerEnd) × (at + countedSize len ≤ length (now out)) ⌝ }
+    ensures { λ r. ⌜ Put (now (out .entry)) at (counted (contentOf (chunksIn (now (s .entry)) (now (chunks .entry)) 0 n))) (countedSize len) (now (out .exit)) r ⌝ }
+{
+    let a = put_int(out, at, len);
+    put_chunks(out, a, s, chunks, n)
+}
+
+// The fields of n entries from the entry k on.
+fn put_fields(out: &mut [u8], at: usize, s: &[u8], ranges: &[u32], k: usize, n: usize) -> usize
+    requires { ⌜ FieldsWithin (length (now s)) (now ranges) k n × (at + fieldsSize (now ranges) k n ≤ length (now out)) ⌝ }
+    ensures { λ r. ⌜ Put (now (out .entry)) at (fieldsBytes (map fieldMeans (fieldsIn (now (s .entry)) (now (ranges .entry)) k n))) (fieldsSize (now (ranges .entry)) k n) (now (out .exit)) r ⌝ }
+{
+    let mut i = 0;
+    let mut a = at;
+    while i < n {
+        a = put_entry(out, a, s, ranges, k + i);
+        i += 1;
+    }
+    a
+}
+
+// A section of them.
+fn put_section(out: &mut [u8], at: usize, s: &[u8], ranges: &[u32], k: usize, n: usize) -> usize
+    requires { ⌜ FieldsWithin (length (now s)) (now ranges) k n × (at + sectionSize (now ranges) k n ≤ length (now out)) ⌝ }
+    ensures { λ r. ⌜ Put (now (out .entry)) at (sectionBytes (map fieldMeans (fieldsIn (now (s .entry)) (now (ranges .entry)) k n))) (sectionSize (now (ranges .entry)) k n) (now (out .exit)) r ⌝ }
+{
+    let size = fields_size(ranges, k, n);
+    let a = put_int(out, at, size);
+    put_fields(out, a, s, ranges, k, n)
+}
+
+// The status and the section of an informational head.
+fn put_head(
+    out: &mut [u8],
+    at: usize,
+    status: usize,
+    s: &[u8],
+    ranges: &[u32],
+    k: usize,
+    n: usize,
+) -> usize
+    requires { ⌜ (status < integerEnd) × FieldsWithin (length (now s)) (now ranges) k n × (at + (intLen status + sectionSize (now ranges) k n) ≤ length (now out)) ⌝ }
+    ensures { λ r. ⌜ Put (now (out .entry)) at (intBytes status ++ sectionBytes (map fieldMeans (fieldsIn (now (s .entry)) (now (ranges .entry)) k n))) (intLen status + sectionSize (now (ranges .entry)) k n) (now (out .exit)) r ⌝ }
+{
+    let a = put_int(out, at, status);
+    put_section(out, a, s, ranges, k, n)
+}
+
+// The first n informational heads.
+fn put_heads(out: &mut [u8], at: usize, s: &[u8], fields: &[u32], heads: &[u32], n: usize) -> usize
+    requires { ⌜ HeadsWithin (length (now s)) (now fields) (now heads) n × (at + headsSize (now fields) (now heads) 0 n ≤ length (now out)) ⌝ }
+    ensures { λ r. ⌜ Put (now (out .entry)) at (informationalBytes (headsIn (now (s .entry)) (now (fields .entry)) (now (heads .entry)) 0 n)) (headsSize (now (fields .entry)) (now (heads .entry)) 0 n) (now (out .exit)) r ⌝ }
+{
+    let mut i = 0;
+    let mut k = 0;
+    let mut a = at;
+    while i < n {
+        let status = number_at(heads, i * 2);
+        let count = number_at(heads, i * 2 + 1);
+        a = put_head(out, a, status, s, fields, k, count);
+        k += count;
+        i += 1;
+    }
+    a
+}
+
+// A part of control data with its count in front.
+fn put_counted_part(out: &mut [u8], at: usize, s: &[u8], p: Part) -> usize
+    requires { ⌜ (p .start + p .len ≤ length (now s)) × (at + countedSize (p .len) ≤ length (now out)) ⌝ }
+    ensures { λ r. ⌜ Put (now (out .entry)) at (counted (partIn (now (s .entry)) p)) (countedSize (p .len)) (now (out .exit)) r ⌝ }
+{
+    put_counted(out, at, s, p.start as usize, p.len as usize)
+}
+
+// Framing indicator and control data of a request, at the front.
+fn put_request(
+    out: &mut [u8],
+    s: &[u8],
+    method: Part,
+    scheme: u32,
+    authority: Part,
+    path: Part,
+) -> usize
+    requires { ⌜ (method .start + method .len ≤ length (now s)) × (authority .start + authority .len ≤ length (now s)) × (path .start + path .len ≤ length (now s)) × (1 + countedSize (method .len) + schemeSize scheme + countedSize (authority .len) + countedSize (path .len) ≤ length (now out)) ⌝ }
+    ensures { λ r. ⌜ Put (now (out .entry)) 0 (controlBytes (request (partIn (now (s .entry)) method) scheme (partIn (now (s .entry)) authority) (partIn (now (s .entry)) path))) (1 + countedSize (method .len) + schemeSize scheme + countedSize (authority .len) + countedSize (path .len)) (now (out .exit)) r ⌝ }
+{
+    let a = put_octet(out, 0, 0);
+    let b = put_counted_part(out, a, s, method);
+    let d = put_scheme(out, b, scheme);
+    let e = put_counted_part(out, d, s, authority);
+    put_counted_part(out, e, s, path)
+}
+
+// Framing indicator and control data of a response, at the front.
+fn put_response(
+    out: &mut [u8],
+    s: &[u8],
+    fields: &[u32],
+    heads: &[u32],
+    n: usize,
+    status: u32,
+) -> usize
+    requires { ⌜ HeadsWithin (length (now s)) (now fields) (now heads) n × (1 + headsSize (now fields) (now heads) 0 n + intLen status ≤ length (now out)) ⌝ }
+    ensures { λ r. ⌜ Put (now (out .entry)) 0 (controlBytes (response (headsIn (now (s .entry)) (now (fields .entry)) (now (heads .entry)) 0 n) status)) (1 + headsSize (now (fields .entry)) (now (heads .entry)) 0 n + intLen status) (now (out .exit)) r ⌝ }
+{
+    let a = put_octet(out, 0, 1);
+    let b = put_heads(out, a, s, fields, heads, n);
+    put_int(out, b, status as usize)
+}
+
+// Framing indicator and control data, at the front.
+fn put_control_data(out: &mut [u8], s: &[u8], r: Record, fields: &[u32], heads: &[u32]) -> usize
+    requires { ⌜ ((cs : List ℕ) × (ts : List ℕ) × MessageWithin (now s) r (now fields) (now heads) cs ts) × (controlSize (r .response) r (now fields) (now heads) ≤ length (now out)) ⌝ }
+    ensures { λ z. ⌜ Put (now (out .entry)) 0 (controlBytes (controlIn (r .response) (now (s .entry)) r (now (fields .entry)) (now (heads .entry)))) (controlSize (r .response) r (now (fields .entry)) (now (heads .entry))) (now (out .exit)) z ⌝ }
+{
+    if r.response {
+        return put_response(out, s, fields, heads, r.informational, r.status);
+    }
+    put_request(out, s, r.method, r.scheme, r.authority, r.path)
+}
+
+// A whole message, at the front.
+pub fn put_message(
+    out: &mut [u8],
+    s: &[u8],
+    r: Record,
+    fields: &[u32],
+    heads: &[u32],
+    chunks: &[u32],
+    trailers: &[u32],
+) -> usize
+    requires { ⌜ MessageWithin (now s) r (now fields) (now heads) (now chunks) (now trailers) × (messageSize r (now fields) (now heads) (now trailers) ≤ length (now out)) ⌝ }
+    ensures { λ z. ⌜ Put (now (out .entry)) 0 (binaryOf (meaningIn (now (s .entry)) r (now (fields .entry)) (now (heads .entry)) (now (chunks .entry)) (now (trailers .entry)))) (messageSize r (now (fields .entry)) (now (heads .entry)) (now (trailers .entry))) (now (out .exit)) z ⌝ }
+{
+    let k = fields_before(heads, r.informational);
+    let a = put_control_data(out, s, r, fields, heads);
+    let b = put_section(out, a, s, fields, k, r.headers);
+    let d = put_content(out, b, s, chunks, r.chunks, r.content);
+    put_section(out, d, s, trailers, 0, r.trailers)
+}

@@ -1,0 +1,49 @@
+-- What the code that reads sections promises, in terms of the script `section` (http1/specs/Read; 01, "HTTP/1.1 as we take it": field lines).
+use Prim.Native.Nat.{ℕ, _+_, _-_, _*_, _≤_}
+use mathlib.Core.Path.{_≡_}
+use mathlib.Core.Bool.{Bool, true, cond}
+use mathlib.Core.List.{List, [], _∷_, _++_}
+use lib.Dec.{leb}
+use lib.ListN.{length, take, drop}
+use Rattle.octets.specs.Limits.{linesMost}
+use Rattle.octets.specs.Refusals.{badSyntax, tooLarge}
+use Rattle.script.specs.Script.{Answer, accepted, refused, more}
+use Rattle.script.specs.Do.{piece}
+use Rattle.output.specs.Splice.{splice}
+use Rattle.messages.specs.Message.{FieldRead}
+use Rattle.messages.specs.Names.{lineKind, kept}
+use Rattle.messages.specs.Notes.{notesOf}
+use Rattle.messages.specs.Answers.{fieldsNumbers}
+use Rattle.messages.specs.declared.Kind.{Kind}
+use Rattle.http1.specs.Read.{Lines}
+use Rattle.http1_parts.specs.declared.LineRead.{LineRead}
+use Rattle.http1_parts.specs.declared.Section.{Section}
+use Rattle.http1_parts.specs.declared.Section.the-variants.{Done, Refused, More}
+
+-- a line that is no field line, behind so many lines: a 65th is refused before it is judged
+unfoldable pub noField : ℕ → ℕ
+noField lines = cond (leb linesMost lines) tooLarge badSyntax
+
+-- a field line of s by places and lengths: its name has n octets from i on, its value l from v on
+abbrev pub lineAt : List ℕ → ℕ → ℕ → ℕ → ℕ → FieldRead
+lineAt s i n v l = record { name = piece i (take n (drop i s)); value = piece v (take l (drop v s)) }
+
+-- what the code keeps of a line: its kind, and how many fields are kept with it
+abbrev pub lineRead : Kind → ℕ → LineRead
+lineRead k n = record { kind = k; kept = n }
+
+-- a line that was taken: where it is kept it is stored behind the k entries of o
+pub record LineTaken (f : FieldRead) (host : Bool) (k : ℕ) (o o′ : List ℕ) (r : LineRead) : Type 0 where
+  pub read : r ≡ lineRead (lineKind f) (k + length (kept host (f ∷ [])))
+  pub stored : o′ ≡ splice o (k * 4) (fieldsNumbers (kept host (f ∷ [])))
+
+-- a section that was read behind the k entries of o
+abbrev pub SectionSays : Answer Lines → Bool → ℕ → List ℕ → List ℕ → Section → Type 0
+SectionSays (accepted n h) host k o o′ r =
+    (r ≡ Done (h .end) (h .left) (k + length (kept host (h .lines))) (notesOf true (h .lines))) × (o′ ≡ splice o (k * 4) (fieldsNumbers (kept host (h .lines))))
+SectionSays (refused x p) host k o o′ r = r ≡ Refused x p
+SectionSays more host k o o′ r = r ≡ More
+
+-- the promise of a section that is read
+pub record Sectioned (x : Answer Lines) (host : Bool) (k : ℕ) (o o′ : List ℕ) (r : Section) : Type 0 where
+  pub says : SectionSays x host k o o′ r

@@ -1,0 +1,114 @@
+-- A request's head and what stands behind it, put together.
+use Prim.Native.Nat.{ℕ, zero, suc, _+_, _-_, _*_, _<_, _≤_}
+use mathlib.Core.Path.{_≡_, refl, sym, ap, ap₂, _∙_, subst}
+use mathlib.Core.List.{List, [], _∷_, _++_}
+use mathlib.Core.Bool.{Bool, true, false, cond}
+use native.Mathlib.Omega.{arith}
+use lib.ListN.{length, take, drop, length-drop, take-append-drop}
+use lib.Seq.{length-take-le}
+use Rattle.octets.specs.Limits.{headMost}
+use Rattle.script.specs.Script.{Answer, accepted, refused, more, Says, run, Every}
+use Rattle.script.specs.Do.{_>>=_, Piece, piece, tell}
+use Rattle.script.proofs.Sound.{says, sound, every-any}
+use Rattle.script.proofs.Do.{every-bind, every-tell, every-then}
+use Rattle.output.specs.Splice.{splice}
+use Rattle.messages.specs.Message.{FieldRead, InformationalRead, isResponse, Message}
+use Rattle.messages.specs.Names.{kept, keptTrailers}
+use Rattle.messages.specs.Answers.{fieldsNumbers, chunksNumbers, informationalLines, informationalIn, partAt, partOf, recordOf}
+use Rattle.messages.specs.Rules.{authorityIn, framingOf, requestBody}
+use Rattle.messages.specs.declared.Told.{Told}
+use Rattle.messages.specs.declared.Notes.{Notes}
+use Rattle.messages.specs.declared.Part.{Part}
+use Rattle.messages.specs.declared.Outcome.{Outcome}
+use Rattle.messages.specs.declared.Outcome.the-variants as outcome
+use Rattle.http1.specs.Lines.{RequestRead}
+use Rattle.http1.specs.Read.{Lines, section, content, afterHead, readRequest}
+use Rattle.sound.specs.Placed.{Each}
+use Rattle.ranges.specs.Ranges.{OutcomeSays, Outcomed}
+use Rattle.http1_reader.specs.Readers.{told, requestIs, Before, HeadFacts, RestSays, RestRead}
+use Rattle.http1_reader.proofs.Facts.{SectionFacts, section-facts}
+use Rattle.http1_reader.proofs.Outcomes.{SectionDone, behind-more, behind-refused, behind-done}
+
+-- an answer that equals another promises the same
+pub outcomed-as : {x y : Answer Message} {hs hs′ cs cs′ ts ts′ : List ℕ} {r : Outcome} → x ≡ y → OutcomeSays y hs hs′ cs cs′ ts ts′ r → Outcomed x hs hs′ cs cs′ ts ts′ r
+outcomed-as {hs = hs} {hs′ = hs′} {cs = cs} {cs′ = cs′} {ts = ts} {ts′ = ts′} {r = r} e h =
+    record { says = subst (λ (z : Answer Message). OutcomeSays z hs hs′ cs cs′ ts ts′ r) (sym e) h }
+
+pub outcomed-is : {x y : Answer Message} {hs hs′ cs cs′ ts ts′ : List ℕ} {r : Outcome} → x ≡ y → Outcomed y hs hs′ cs cs′ ts ts′ r → Outcomed x hs hs′ cs cs′ ts ts′ r
+outcomed-is e h = outcomed-as e (h .says)
+
+-- a message with the lines h of its one head
+pub record OfRequest (h : Lines) (m : Message) : Type 0 where
+  pub lines : m .lines ≡ h .lines
+  pub request : isResponse (m .start) ≡ false
+  pub alone : informationalIn (m .start) ≡ []
+
+every-rest : (s : List ℕ) (t : Told) (q : RequestRead) (h : Lines) (at : ℕ) → Every s (λ n m. OfRequest h m) at (afterHead t q h)
+unfolding afterHead
+every-rest s t q h at =
+    every-bind s _ at (tell (authorityIn (h .end) (piece 0 []) (h .lines))) _ (every-tell s _ _ (authorityIn (h .end) (piece 0 []) (h .lines)) λ a u.
+    every-bind s _ _ (tell (requestBody (h .end) (framingOf (h .lines)))) _ (every-tell s _ _ (requestBody (h .end) (framingOf (h .lines))) λ b v.
+    every-then s (λ n c. Unit {0}) _ _ (content b) _ (every-any s _ (content b)) λ n c w.
+    record { lines = refl; request = refl; alone = refl }))
+
+rest-of : (s : List ℕ) (t : Told) (q : RequestRead) (h : Lines) (e : ℕ) → e ≤ length s → Says (λ n m. OfRequest h m) (run (afterHead t q h) e (drop e s))
+rest-of s t q h e g =
+    let l : length (take e s) ≡ e = length-take-le e s g in
+    only (run (afterHead t q h) e (drop e s)) (sound (λ n m. OfRequest h m) (afterHead t q h) (take e s) (drop e s) e l (every-rest (take e s ++ drop e s) t q h e))
+  where
+    only : (x : Answer Message) → Says (λ n m. OfRequest h m × (e ≤ n) × (n ≤ e + length (drop e s))) x → Says (λ n m. OfRequest h m) x
+    only (accepted n m) u = u .0
+    only (refused n p) u = tt
+    only more u = tt
+
+-- with the header ranges that stand already
+with-headers : (h : Lines) (x : Answer Message) (hs hs′ cs cs′ ts ts′ : List ℕ) (r : Outcome) → hs′ ≡ splice hs 0 (fieldsNumbers (kept false (h .lines)))
+    → Says (λ n m. OfRequest h m) x → RestSays x cs cs′ ts ts′ r → OutcomeSays x hs hs′ cs cs′ ts ts′ r
+unfolding informationalLines
+with-headers h (accepted n m) hs hs′ cs cs′ ts ts′ r e u w = (w .0, e ∙ rw (u .alone, u .request, u .lines) refl, w .1, w .2)
+with-headers h (refused n p) hs hs′ cs cs′ ts ts′ r e u w = w
+with-headers h more hs hs′ cs cs′ ts ts′ r e u w = w
+
+module _ (s : List ℕ) (m p next : ℕ) (g : next ≤ length s) (k : m + 1 + p + 11 ≡ next) (b : next ≤ headMost) where
+  line-long : length (take (next - 2) s) ≡ next - 2
+  line-long = length-take-le (next - 2) s (omega (arith, g))
+
+  method-is : partOf (requestIs s next m p .method) ≡ partAt 0 m
+  method-is = ap (partAt 0) (length-take-le m (take (next - 2) s) (omega (arith, line-long, k)))
+
+  path-is : partOf (requestIs s next m p .path) ≡ partAt (m + 1) p
+  path-is =
+      let z : 0 + (m + 1) ≡ m + 1 = omega arith in
+      let l = length-take-le p (drop (m + 1) (take (next - 2) s)) (omega (arith, line-long, k, length-drop (m + 1) (take (next - 2) s))) in
+      ap₂ partAt z l
+
+  module _ {hs hs′ : List ℕ} {e l c : ℕ} {n : Notes} (d : SectionDone (run (section (headMost - next)) next (drop next s)) false 0 hs hs′ e l c n) where
+    facts : SectionFacts s next (next + (headMost - next)) (d .place) (d .read)
+    facts = section-facts s next (headMost - next) (d .place) (d .read) g (d .accepts)
+
+    place-is : d .place ≡ e
+    place-is = sym (facts .ended .end) ∙ d .end
+
+    pub head-within : (e ≤ length s) × (e ≤ headMost)
+    head-within = (omega (arith, place-is, facts .within), omega (arith, place-is, facts .ended .left, b))
+
+    pub head-facts : HeadFacts s (requestIs s next m p) (d .read) m p e c n
+    head-facts =
+        record {
+          method = method-is;
+          path = path-is;
+          end = d .end;
+          fields = omega (arith, d .count);
+          notes = d .notes;
+          lie = facts .lie;
+          before = subst (λ (x : ℕ). Each (Before x) (d .read .lines)) place-is (facts .ended .before);
+        }
+
+    pub head-done : (scheme : ℕ) (cs cs′ ts ts′ : List ℕ) (r : Outcome) → RestRead s scheme m p e c n cs cs′ ts ts′ r
+        → Outcomed (run (section (headMost - next) >>= afterHead (told scheme) (requestIs s next m p)) next (drop next s)) hs hs′ cs cs′ ts ts′ r
+    head-done scheme cs cs′ ts ts′ r w =
+        let q = requestIs s next m p in
+        let f = behind-done (headMost - next) (afterHead (told scheme) q) s next (d .place) (d .read) (d .accepts) in
+        let z = ap (λ (x : ℕ). run (afterHead (told scheme) q (d .read)) x (drop x s)) place-is in
+        outcomed-as (f ∙ z)
+        (with-headers (d .read) (run (afterHead (told scheme) q (d .read)) e (drop e s)) hs hs′ cs cs′ ts ts′ r (d .stored) (rest-of s (told scheme) q (d .read) e (head-within .0)) (w .by q (d .read) head-facts))

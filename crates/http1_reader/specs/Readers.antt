@@ -1,0 +1,109 @@
+-- What the code of the request reader promises, in terms of `readRequest` and `afterHead` (http1/specs/Read; 01, "HTTP/1.1 as we take it"; what is judged
+-- after a head: "Numbers a call answers with").
+use Prim.Native.Nat.{ℕ, _+_, _-_, _*_, _≤_}
+use mathlib.Core.Path.{_≡_}
+use mathlib.Core.Bool.{Bool, true, false}
+use mathlib.Core.List.{List, [], _∷_, _++_}
+use lib.ListN.{length, take, drop}
+use Rattle.script.specs.Script.{Answer, accepted, refused, more, Script, run}
+use Rattle.messages.specs.declared.Told.{Told}
+use Rattle.script.specs.Do.{_>>=_, Piece, piece, Judged, good, wrong}
+use Rattle.output.specs.Splice.{splice}
+use Rattle.messages.specs.Message.{FieldRead, Message}
+use Rattle.messages.specs.Names.{kept, keptTrailers}
+use Rattle.messages.specs.Notes.{notesOf, AllLie}
+use Rattle.messages.specs.Rules.{authorityIn, framingOf, requestBody}
+use Rattle.messages.specs.declared.Notes.{Notes}
+use Rattle.messages.specs.Answers.{fieldsNumbers, chunksNumbers, partAt, partOf, recordOf}
+use Rattle.messages.specs.declared.Part.{Part}
+use Rattle.messages.specs.declared.Record.{Record}
+use Rattle.http1.specs.Lines.{RequestRead}
+use Rattle.http1.specs.Read.{Lines, section, afterHead}
+use Rattle.sound.specs.Placed.{Each}
+use Rattle.http1_parts.specs.declared.ContentRead.{ContentRead}
+use Rattle.http1_parts.specs.declared.ContentRead.the-variants as content
+use Rattle.messages.specs.declared.Body.{Body}
+use Rattle.messages.specs.declared.Outcome.{Outcome}
+use Rattle.messages.specs.declared.Outcome.the-variants as outcome
+use Rattle.http1_reader.specs.declared.HeadAnswer.{HeadAnswer}
+use Rattle.http1_reader.specs.declared.HeadAnswer.the-variants as head
+
+-- a request's head by its two rules: host first, then length
+abbrev pub HeadSays : Judged Piece → Judged Body → HeadAnswer → Type 0
+HeadSays (good a) (good b) r = r ≡ head.Good (a .place) (length (a .text)) b
+HeadSays (good a) (wrong n p) r = r ≡ head.Refused n p
+HeadSays (wrong n p) j r = r ≡ head.Refused n p
+
+-- the promise of a head that is judged
+pub record HeadJudged (a : Judged Piece) (b : Judged Body) (r : HeadAnswer) : Type 0 where
+  pub says : HeadSays a b r
+
+-- a request's head that ends at a place, judged by notes: so are all lines in s of which these are the notes
+pub record RequestJudged (s : List ℕ) (end : ℕ) (notes : Notes) (r : HeadAnswer) : Type 0 where
+  pub by : (lines : List FieldRead) → notes ≡ notesOf true lines → AllLie s lines
+      → HeadJudged (authorityIn end (piece 0 []) lines) (requestBody end (framingOf lines)) r
+
+-- ---- requests
+
+-- what a call is told, by the scheme's number
+abbrev pub told : ℕ → Told
+told n = record { scheme = n }
+
+-- the record of a request, by its numbers
+abbrev pub requestRecord : ℕ → ℕ → ℕ → ℕ → ℕ → ℕ → ℕ → ℕ → ℕ → ℕ → Record
+requestRecord scheme method path start len fields n chunks total trailers =
+    record {
+      response = false;
+      scheme = scheme;
+      method = partAt 0 method;
+      authority = partAt start len;
+      path = partAt (method + 1) path;
+      informational = 0;
+      status = 0;
+      headers = fields;
+      chunks = chunks;
+      content = total;
+      trailers = trailers;
+      length = n;
+    }
+
+-- the outcome of a request whose content was read
+abbrev pub requestOutcome : ℕ → ℕ → ℕ → ℕ → ℕ → ℕ → ContentRead → Outcome
+requestOutcome scheme method path start len fields (content.Done n k total m) =
+    outcome.Message (requestRecord scheme method path start len fields n k total m)
+requestOutcome scheme method path start len fields (content.Refused k p) = outcome.Refusal k p
+requestOutcome scheme method path start len fields content.More = outcome.More
+
+-- the request line of s that ends, with its CR LF, at the place `next`: a method of m octets and a path of p
+abbrev pub requestIs : List ℕ → ℕ → ℕ → ℕ → RequestRead
+requestIs s next m p = record { method = piece 0 (take m (take (next - 2) s)); path = piece (0 + (m + 1)) (take p (drop (m + 1) (take (next - 2) s))) }
+
+-- the field lines of a request's head within what is left of its allowance, and what stands behind them
+abbrev pub fieldsOnward : ℕ → ℕ → RequestRead → Script Message
+fieldsOnward left scheme q = section left >>= afterHead (told scheme) q
+
+-- a line's value ends at or before n
+abbrev pub Before : ℕ → FieldRead → Type 0
+Before n f = f .value .place + length (f .value .text) ≤ n
+
+-- a head that was read: its request line q and its lines h, in the numbers that the code keeps of them
+pub record HeadFacts (s : List ℕ) (q : RequestRead) (h : Lines) (m p e k : ℕ) (n : Notes) : Type 0 where
+  pub method : partOf (q .method) ≡ partAt 0 m
+  pub path : partOf (q .path) ≡ partAt (m + 1) p
+  pub end : h .end ≡ e
+  pub fields : length (kept false (h .lines)) ≡ k
+  pub notes : n ≡ notesOf true (h .lines)
+  pub lie : AllLie s (h .lines)
+  pub before : Each (Before e) (h .lines)
+
+-- what stands behind the head: an answer, and the ranges of chunks and trailers of an accepted message
+abbrev pub RestSays : Answer Message → List ℕ → List ℕ → List ℕ → List ℕ → Outcome → Type 0
+RestSays (accepted n m) cs cs′ ts ts′ r =
+    (r ≡ outcome.Message (recordOf n m)) × (cs′ ≡ splice cs 0 (chunksNumbers (m .chunks))) × (ts′ ≡ splice ts 0 (fieldsNumbers (keptTrailers (m .trailers))))
+RestSays (refused k p) cs cs′ ts ts′ r = r ≡ outcome.Refusal k p
+RestSays more cs cs′ ts ts′ r = r ≡ outcome.More
+
+-- the promise of what is read behind any head that has these numbers
+pub record RestRead (s : List ℕ) (scheme method path end fields : ℕ) (notes : Notes) (cs cs′ ts ts′ : List ℕ) (r : Outcome) : Type 0 where
+  pub by : (q : RequestRead) (h : Lines) → HeadFacts s q h method path end fields notes
+      → RestSays (run (afterHead (told scheme) q h) end (drop end s)) cs cs′ ts ts′ r

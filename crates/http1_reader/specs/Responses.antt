@@ -1,0 +1,128 @@
+-- What the code of the response reader promises, in terms of `heads`, `afterFinal` and `readResponse` (http1/specs/Read; 01, "HTTP/1.1 as we take it").
+use Prim.Native.Nat.{ℕ, suc, _+_, _-_, _*_, _≤_, _<_}
+use mathlib.Core.Path.{_≡_}
+use mathlib.Core.Bool.{Bool, true, false}
+use mathlib.Core.List.{List, [], _∷_, _++_}
+use lib.ListN.{length, drop}
+use Rattle.ranges.specs.Ranges.{FewHeads}
+use Rattle.octets.specs.Limits.{headMost, linesMost, informationalMost}
+use Rattle.script.specs.Script.{Answer, accepted, refused, more, Script, run}
+use Rattle.script.specs.Do.{_>>=_, tell}
+use Rattle.output.specs.Splice.{splice}
+use Rattle.messages.specs.Message.{InformationalRead, Message}
+use Rattle.messages.specs.Names.{kept}
+use Rattle.messages.specs.Notes.{notesOf}
+use Rattle.messages.specs.Rules.{framingOf, nothingStated}
+use Rattle.messages.specs.Answers.{fieldsNumbers, informationalNumbers, informationalLines, noPart}
+use Rattle.messages.specs.declared.Notes.{Notes}
+use Rattle.messages.specs.declared.Outcome.{Outcome}
+use Rattle.messages.specs.declared.Outcome.the-variants as outcome
+use Rattle.messages.specs.declared.Record.{Record}
+use Rattle.http1.specs.Read.{Lines, section, afterFinal, heads}
+use Rattle.http1_parts.specs.declared.ContentRead.{ContentRead}
+use Rattle.http1_parts.specs.declared.ContentRead.the-variants as content
+use Rattle.http1_reader.specs.Readers.{RestSays}
+use Rattle.http1_reader.specs.declared.HeadRead.{HeadRead}
+use Rattle.http1_reader.specs.declared.HeadRead.the-variants as head
+use Rattle.http1_reader.specs.declared.HeadsRead.{HeadsRead}
+use Rattle.http1_reader.specs.declared.HeadsRead.the-variants as heads-read
+
+-- ---- one head
+
+-- an informational head of status n with the lines h
+abbrev pub informationalRead : ℕ → Lines → InformationalRead
+informationalRead n h = record { status = n; lines = h .lines }
+
+-- behind the section of an informational head of status n: it states no length, and further heads come
+unfoldable pub afterInformational : ℕ → List InformationalRead → ℕ → Lines → Script Message
+afterInformational f is n h = do
+  u ← tell (nothingStated (h .end) (framingOf (h .lines)))
+  heads f (is ++ informationalRead n h ∷ []) (h .left)
+
+-- what stands behind a status line of an informational status n
+abbrev pub informationalRest : ℕ → List InformationalRead → ℕ → ℕ → Script Message
+informationalRest f is n left = do
+  h ← section left
+  afterInformational f is n h
+
+-- what stands behind a status line of a final status n
+abbrev pub finalRest : List InformationalRead → ℕ → ℕ → Script Message
+finalRest is n left = do
+  h ← section left
+  afterFinal is n h
+
+-- a head's lines h that end at e: its kept fields are stored behind the `base` fields of hs, and are k with them
+pub record HeadStored (s : List ℕ) (base : ℕ) (hs hs′ : List ℕ) (e k : ℕ) (h : Lines) : Type 0 where
+  pub end : h .end ≡ e
+  pub left : e + h .left ≡ headMost
+  pub within : e ≤ length s
+  pub few : length (h .lines) ≤ linesMost
+  pub count : base + length (kept true (h .lines)) ≡ k
+  pub stored : hs′ ≡ splice hs (base * 4) (fieldsNumbers (kept true (h .lines)))
+
+-- a head that was read behind the informational heads `is`, where the script answers x
+abbrev pub HeadSays : Answer Message → ℕ → List InformationalRead → List ℕ → ℕ → List ℕ → List ℕ → HeadRead → Type 0
+HeadSays x f is s base hs hs′ (head.Informational n e l k) =
+    (h : Lines) × HeadStored s base hs hs′ e k h × (h .left ≡ l) × FewHeads is × (x ≡ run (heads f (is ++ informationalRead n h ∷ []) l) e (drop e s))
+HeadSays x f is s base hs hs′ (head.Final n e k notes) =
+    (h : Lines) × HeadStored s base hs hs′ e k h × (notes ≡ notesOf true (h .lines)) × (x ≡ run (afterFinal is n h) e (drop e s))
+HeadSays x f is s base hs hs′ (head.Refused i p) = x ≡ refused i p
+HeadSays x f is s base hs hs′ head.More = x ≡ more
+
+-- the same behind any informational heads of which P holds
+pub record Headed (P : List InformationalRead → Type 0) (x : ℕ → List InformationalRead → Answer Message) (s : List ℕ) (base : ℕ) (hs hs′ : List ℕ) (r : HeadRead)
+    : Type 0 where
+  pub by : (f : ℕ) (is : List InformationalRead) → P is → HeadSays (x f is) f is s base hs hs′ r
+
+-- ---- all heads
+
+-- heads that were read up to e, the last of them final: informational heads `is` and lines h, in the numbers that the code keeps of them
+pub record HeadsFacts (s : List ℕ) (is : List InformationalRead) (h : Lines) (e c k : ℕ) (notes : Notes) : Type 0 where
+  pub end : h .end ≡ e
+  pub heads : length is ≡ c
+  pub fields : length (kept true (h .lines)) ≡ k
+  pub noted : notes ≡ notesOf true (h .lines)
+
+-- where the script answers x: the kept fields are stored in hs, status and number of kept fields of each informational head in ns
+abbrev pub HeadsSays : Answer Message → List ℕ → List ℕ → List ℕ → List ℕ → List ℕ → HeadsRead → Type 0
+HeadsSays x s hs hs′ ns ns′ (heads-read.Done n e c k notes) =
+    (is : List InformationalRead) × (h : Lines) × HeadsFacts s is h e c k notes × (e ≤ length s) × (e ≤ headMost)
+    × (x ≡ run (afterFinal is n h) e (drop e s))
+    × (hs′ ≡ splice hs 0 (fieldsNumbers (informationalLines is ++ kept true (h .lines)))) × (ns′ ≡ splice ns 0 (informationalNumbers is))
+HeadsSays x s hs hs′ ns ns′ (heads-read.Refused i p) = x ≡ refused i p
+HeadsSays x s hs hs′ ns ns′ heads-read.More = x ≡ more
+
+-- the promise of all heads of a response that are read
+pub record HeadsTaken (x : Answer Message) (s hs hs′ ns ns′ : List ℕ) (r : HeadsRead) : Type 0 where
+  pub says : HeadsSays x s hs hs′ ns ns′ r
+
+-- ---- whole responses
+
+-- the record of a response, by its numbers
+abbrev pub responseRecord : ℕ → ℕ → ℕ → ℕ → ℕ → ℕ → ℕ → Record
+responseRecord status count fields n chunks total trailers =
+    record {
+      response = true;
+      scheme = 0;
+      method = noPart;
+      authority = noPart;
+      path = noPart;
+      informational = count;
+      status = status;
+      headers = fields;
+      chunks = chunks;
+      content = total;
+      trailers = trailers;
+      length = n;
+    }
+
+-- the outcome of a response whose content was read
+abbrev pub responseOutcome : ℕ → ℕ → ℕ → ContentRead → Outcome
+responseOutcome status count fields (content.Done n k total m) = outcome.Message (responseRecord status count fields n k total m)
+responseOutcome status count fields (content.Refused k p) = outcome.Refusal k p
+responseOutcome status count fields content.More = outcome.More
+
+-- what stands behind the final head
+pub record FinalRead (s : List ℕ) (status end count fields : ℕ) (notes : Notes) (cs cs′ ts ts′ : List ℕ) (r : Outcome) : Type 0 where
+  pub by : (is : List InformationalRead) (h : Lines) → HeadsFacts s is h end count fields notes
+      → RestSays (run (afterFinal is status h) end (drop end s)) cs cs′ ts ts′ r

@@ -1,0 +1,207 @@
+// The first request of a stream.
+use crate::HeadAnswer;
+use crate::heads::judge_request;
+use http1::RequestLine;
+use http1::lines::request_line;
+use http1_parts::ContentRead;
+use http1_parts::Section;
+use http1_parts::content::read_content;
+use http1_parts::lines::read_section;
+use messages::Notes;
+use messages::Outcome;
+use messages::Part;
+use messages::Reading;
+use messages::Record;
+use messages::parts::is_scheme;
+use octets::Limits;
+use octets::Refusals;
+use octets::class_table;
+use ranges::reading;
+use script::Line;
+use script::line_end;
+ghost use mathlib.Core.Path.{_≡_};
+ghost use Prim.Native.Nat.{_+_, _-_, _≤_, _<_};
+ghost use lib.ListN.{length, drop};
+ghost use Rattle.octets.specs.Table.{classes};
+ghost use Rattle.octets.specs.Limits.{headMost};
+ghost use Rattle.script.specs.Script.{run};
+ghost use Rattle.messages.specs.Answers.{readingOf};
+ghost use Rattle.http1.specs.Lines.{RequestRead};
+ghost use Rattle.http1.specs.Read.{Lines, readRequest};
+ghost use Rattle.ranges.specs.Ranges.{placesEnd, Outcomed};
+ghost use Rattle.http1_reader.specs.Readers.{told, requestIs, fieldsOnward, requestOutcome, HeadFacts, RestRead};
+
+// The outcome of a request whose content was read.
+fn request_outcome(
+    read: ContentRead,
+    scheme: u32,
+    method: usize,
+    path: usize,
+    start: usize,
+    len: usize,
+    fields: usize,
+) -> Outcome
+    requires { ⌜ (method + 1 + path < placesEnd) × (start + len < placesEnd) ⌝ }
+    ensures { λ r. ⌜ r ≡ requestOutcome scheme method path start len fields read ⌝ }
+{
+    match read {
+        ContentRead::More => Outcome::More,
+        ContentRead::Refused { number, place } => Outcome::Refusal { number, place },
+        ContentRead::Done {
+            end,
+            chunks,
+            total,
+            trailers,
+        } => Outcome::Message(Record {
+            response: false,
+            scheme,
+            method: Part {
+                start: 0,
+                len: method as u32,
+            },
+            authority: Part {
+                start: start as u32,
+                len: len as u32,
+            },
+            path: Part {
+                start: (method + 1) as u32,
+                len: path as u32,
+            },
+            informational: 0,
+            status: 0,
+            headers: fields,
+            chunks,
+            content: total,
+            trailers,
+            length: end,
+        }),
+    }
+}
+
+// What stands behind a request's head that ends at `end`: its rules, then its content.
+fn read_rest(
+    t: &[u8; 256],
+    s: &[u8],
+    scheme: u32,
+    method: usize,
+    path: usize,
+    end: usize,
+    fields: usize,
+    notes: Notes,
+    chunks: &mut [u32],
+    trailers: &mut [u32],
+) -> Outcome
+    requires { ⌜ (now t ≡ classes) × (end ≤ length (now s)) × (end ≤ headMost) × (method + 1 + path ≤ headMost) × (512 ≤ length (now chunks)) × (256 ≤ length (now trailers)) × ((q : RequestRead) × (h : Lines) × HeadFacts (now s) q h method path end fields notes) ⌝ }
+    ensures { λ r. ⌜ RestRead (now (s .entry)) scheme method path end fields notes (now (chunks .entry)) (now (chunks .exit)) (now (trailers .entry)) (now (trailers .exit)) r ⌝ }
+{
+    let j = judge_request(t, s, end, notes);
+    match j {
+        HeadAnswer::Refused { number, place } => return Outcome::Refusal { number, place },
+        HeadAnswer::Good { start, len, body } => {
+            let c = read_content(t, s, end, body, chunks, trailers);
+            return request_outcome(c, scheme, method, path, start, len, fields);
+        }
+    }
+}
+
+// What stands behind a request line that ends at `next`.
+fn read_head(
+    t: &[u8; 256],
+    s: &[u8],
+    scheme: u32,
+    method: usize,
+    path: usize,
+    next: usize,
+    headers: &mut [u32],
+    chunks: &mut [u32],
+    trailers: &mut [u32],
+) -> Outcome
+    requires { ⌜ (now t ≡ classes) × (next ≤ length (now s)) × (method + 1 + path + 11 ≡ next) × (next ≤ headMost) × (256 ≤ length (now headers)) × (512 ≤ length (now chunks)) × (256 ≤ length (now trailers)) ⌝ }
+    ensures { λ r. ⌜ Outcomed (run (fieldsOnward (headMost - next) scheme (requestIs (now (s .entry)) next method path)) next (drop next (now (s .entry)))) (now (headers .entry)) (now (headers .exit)) (now (chunks .entry)) (now (chunks .exit)) (now (trailers .entry)) (now (trailers .exit)) r ⌝ }
+{
+    let h = read_section(t, s, next, Limits::HEAD - next, false, 0, headers);
+    match h {
+        Section::More => return Outcome::More,
+        Section::Refused { number, place } => return Outcome::Refusal { number, place },
+        Section::Done {
+            end,
+            left: _,
+            kept,
+            notes,
+        } => return read_rest(
+            t,
+            s,
+            scheme,
+            method,
+            path,
+            end,
+            kept,
+            notes,
+            chunks,
+            trailers,
+        ),
+    }
+}
+
+// The first request of s, under the scheme told: its outcome, and the ranges of an accepted one in the lent space.
+pub fn request_in(
+    t: &[u8; 256],
+    s: &[u8],
+    scheme: u32,
+    headers: &mut [u32],
+    chunks: &mut [u32],
+    trailers: &mut [u32],
+) -> Outcome
+    requires { ⌜ (now t ≡ classes) × (256 ≤ length (now headers)) × (512 ≤ length (now chunks)) × (256 ≤ length (now trailers)) ⌝ }
+    ensures { λ r. ⌜ Outcomed (readRequest (told scheme) (now (s .entry))) (now (headers .entry)) (now (headers .exit)) (now (chunks .entry)) (now (chunks .exit)) (now (trailers .entry)) (now (trailers .exit)) r ⌝ }
+{
+    if is_scheme(scheme) {
+        let l = line_end(s, 0, Limits::HEAD);
+        match l {
+            Line::More => return Outcome::More,
+            Line::Bad => return Outcome::Refusal {
+                number: Refusals::BAD_SYNTAX,
+                place: 0,
+            },
+            Line::Long => return Outcome::Refusal {
+                number: Refusals::TOO_LARGE,
+                place: 0,
+            },
+            Line::Ends(next) => {
+                let e = next - 2;
+                let q = request_line(t, &s[..e]);
+                match q {
+                    RequestLine::Bad { number } => return Outcome::Refusal { number, place: 0 },
+                    RequestLine::Of { method, path } => return read_head(
+                        t,
+                        s,
+                        scheme,
+                        method,
+                        path,
+                        next,
+                        headers,
+                        chunks,
+                        trailers,
+                    ),
+                }
+            }
+        }
+    }
+    Outcome::Refusal {
+        number: Refusals::NOT_SUPPORTED,
+        place: 0,
+    }
+}
+
+// The first request of a stream, under the scheme told: its answer by value.
+pub fn read_request(input: &[u8], scheme: u32) -> Reading
+    ensures { λ r. ⌜ r ≡ readingOf (readRequest (told scheme) (now (input .entry))) ⌝ }
+{
+    let t = class_table();
+    let informational = [0u32; 8];
+    let mut headers = [0u32; 1280];
+    let mut chunks = [0u32; 512];
+    let mut trailers = [0u32; 256];
+    let o = request_in(&t, input, scheme, &mut headers, &mut chunks, &mut trailers);
+    reading(o, informational, headers, trailers, chunks)
+}

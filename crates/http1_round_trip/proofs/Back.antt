@@ -1,0 +1,181 @@
+-- The round trip of HTTP/1.1, and what follows from it. Assumes nothing.
+use mathlib.Core.Path.{_≡_, refl, sym, ap, _∙_}
+use mathlib.Core.Bool.{Bool, true, false, cond, _&&_}
+use mathlib.Core.List.{List, [], _∷_, _++_, append-assoc}
+use Prim.Native.Nat.{ℕ, suc, _+_, _≤_}
+use native.Mathlib.Omega.{arith}
+use borrow.Author.Tests.{leb-true, eqb-true}
+use lib.Dec.{leb, lit≤}
+use lib.ListN.{length, drop}
+use lib.Seq.{drop-at}
+use Rattle.octets.specs.Limits.{headMost, trailerMost, linesMost, informationalMost}
+use Rattle.octets.proofs.Kit.{and-split}
+use Rattle.script.specs.Script.{Answer, accepted, refused, more, means}
+use Rattle.script.specs.Do.{piece, Reads}
+use Rattle.script.proofs.Do.{reads}
+use Rattle.messages.specs.declared.Told.{Told}
+use Rattle.messages.specs.Message.{requestStart, Message}
+use Rattle.messages.specs.Names.{keptTrailers}
+use Rattle.messages.specs.Meaning.{Field, Control, request, response, Meaning, meaning}
+use Rattle.messages.specs.Valid.{isScheme, validControl, ofResponse, noFields, valid}
+use Rattle.messages.proofs.Valid.{section-fields, request-ok, response-ok, meaning-ok}
+use Rattle.messages.proofs.ValidLines.{content-back}
+use Rattle.http1.specs.Read as http1
+use Rattle.http1.specs.Read.{readRequest, readResponse}
+use Rattle.http1_writer.specs.Write.{sectionText, requestLine, statusLine, informationalText, lengthLine, headLines, headText, bodyText, http1Of, http1Fits}
+use Rattle.http1_round_trip.specs.RoundTrip.{isRequestOf, ReadsBack, RequestsBack, ResponsesBack, RequestMeanings, ResponseMeanings, RequestsApart, ResponsesApart}
+use Rattle.http1_round_trip.proofs.Placed.{placedFrom, placedAt}
+use Rattle.http1_round_trip.proofs.Sections.{reads-from, reads-as}
+use Rattle.http1_round_trip.proofs.Keeping.{fields-back, heads-back, requestLines, request-kept, response-kept}
+use Rattle.http1_round_trip.proofs.Body.{TrailersOk}
+use Rattle.http1_round_trip.proofs.Messages.{reads-request, reads-response}
+
+-- ---- what is within the sizes
+
+trailers-fit : (ts : List Field) → cond (noFields ts) true (leb (length (sectionText ts)) trailerMost) ≡ true → length (sectionText ts) ≤ trailerMost
+unfolding sectionText
+trailers-fit [] e = lit≤ tt
+trailers-fit (x ∷ ts) e = leb-true (length (sectionText (x ∷ ts))) trailerMost e
+
+record Fit (m : Meaning) : Type 0 where
+  head : length (headText m) ≤ headMost
+  lines : length (headLines m) ≤ linesMost
+  trailers : length (sectionText (m .trailers)) ≤ trailerMost
+
+fit-of : (m : Meaning) → http1Fits m ≡ true → Fit m
+unfolding http1Fits
+fit-of m e =
+    let a : Bool = leb (length (headText m)) headMost in
+    let b : Bool = leb (length (headLines m)) linesMost in
+    let p = and-split (a && b) _ e in
+    let q = and-split a b (p .0) in
+    record { head = leb-true _ headMost (q .0); lines = leb-true _ linesMost (q .1); trailers = trailers-fit (m .trailers) (p .1) }
+
+trailers-ok : (m : Meaning) → valid m ≡ true → http1Fits m ≡ true → TrailersOk (m .trailers)
+trailers-ok m v f = record { valid = meaning-ok m v .trailers; fit = fit-of m f .trailers }
+
+-- ---- messages
+
+abbrev made : Control → List Field → List ℕ → List Field → Meaning
+made c fs b ts = record { control = c; headers = fs; content = b; trailers = ts }
+
+other : {A : Type 1} → false ≡ true → A
+other e = let z : _≡_ {A = ℕ} 0 1 = cc in absurd (omega arith)
+
+request-back : (t : Told) (c : Control) (fs : List Field) (b : List ℕ) (ts : List Field)
+    → valid (made c fs b ts) ≡ true → http1Fits (made c fs b ts) ≡ true → isRequestOf t c ≡ true
+    → Reads (http1.request t) 0 (http1Of (made c fs b ts)) (placedAt 0 (made c fs b ts))
+unfolding http1Of headText headLines lengthLine
+request-back t (response hs s) fs b ts v f e = other e
+request-back t (request m s a p) fs b ts v f e =
+    let w : Meaning = made (request m s a p) fs b ts in
+    let ok = meaning-ok w v in
+    let fit = fit-of w f in
+    let o = request-ok m a p s (ok .control) in
+    let l : List ℕ = requestLine m p in
+    let h : List Field = requestLines a fs b ts in
+    let x : s ≡ t .scheme = eqb-true s (t .scheme) e in
+    reads-as (ap (λ (z : ℕ). placedFrom (requestStart (piece 0 m) z (piece (0 + length l + 6) a) (piece (0 + (length m + 1)) p)) (0 + length l) h b ts) (sym x))
+    (reads-from (append-assoc l (sectionText h) (bodyText b ts))
+    (reads-request t m a p fs b ts 0 (o .method) (o .named) (o .path) (section-fields false fs (ok .headers)) (ok .content) (trailers-ok w v f) (fit .lines) (fit .head)))
+
+response-back : (c : Control) (fs : List Field) (b : List ℕ) (ts : List Field)
+    → valid (made c fs b ts) ≡ true → http1Fits (made c fs b ts) ≡ true → ofResponse c ≡ true
+    → Reads (http1.heads (suc informationalMost) [] headMost) 0 (http1Of (made c fs b ts)) (placedAt 0 (made c fs b ts))
+unfolding http1Of headText headLines lengthLine
+response-back (request m s a p) fs b ts v f e = other e
+response-back (response hs s) fs b ts v f e =
+    let w : Meaning = made (response hs s) fs b ts in
+    let ok = meaning-ok w v in
+    let fit = fit-of w f in
+    let o = response-ok hs s (ok .control) in
+    let few = o .few in
+    let i : List ℕ = informationalText hs in
+    let l : List ℕ = statusLine s in
+    let h : List ℕ = sectionText (headLines w) in
+    let e1 : ((i ++ l) ++ h) ++ bodyText b ts ≡ i ++ (l ++ (h ++ bodyText b ts)) = append-assoc (i ++ l) h (bodyText b ts) ∙ append-assoc i l (h ++ bodyText b ts) in
+    let k : length (i ++ (l ++ h)) ≤ headMost = rw (append-assoc i l h) at (fit .head) in
+    reads-from e1
+    (reads-response s fs b ts (o .status) (o .late) (section-fields true fs (ok .headers)) (ok .content) (trailers-ok w v f) (ok .body) (fit .lines)
+    hs (suc informationalMost) headMost 0 [] (o .heads) (omega arith) (omega arith) k)
+
+-- ---- their meanings
+
+meaning-of : (c : Control) (fs : List Field) (b : List ℕ) (ts : List Field) → valid (made c fs b ts) ≡ true → meaning (placedAt 0 (made c fs b ts)) ≡ made c fs b ts
+unfolding meaning keptTrailers headLines lengthLine
+meaning-of (request m s a p) fs b ts v =
+    let ok = meaning-ok (made (request m s a p) fs b ts) v in
+    rw (
+      request-kept a fs b ts (0 + length (requestLine m p)) (section-fields false fs (ok .headers)),
+      content-back _ b,
+      fields-back false ts _ (section-fields false ts (ok .trailers)),
+    )
+meaning-of (response hs s) fs b ts v =
+    let ok = meaning-ok (made (response hs s) fs b ts) v in
+    rw (
+      heads-back hs 0 (response-ok hs s (ok .control) .heads),
+      response-kept s fs b ts (0 + length (informationalText hs ++ statusLine s)) (section-fields true fs (ok .headers)),
+      content-back _ b,
+      fields-back false ts _ (section-fields false ts (ok .trailers)),
+    )
+
+pub meaning-back : (m : Meaning) → valid m ≡ true → meaning (placedAt 0 m) ≡ m
+meaning-back m v = meaning-of (m .control) (m .headers) (m .content) (m .trailers) v
+
+-- ---- the claims
+
+from-start : (n : ℕ) (x : Message) → accepted (0 + n) x ≡ accepted n x
+from-start n x = ap (λ (z : ℕ). accepted z x) (omega arith)
+
+told-scheme : (t : Told) (c : Control) → validControl c ≡ true → isRequestOf t c ≡ true → isScheme (t .scheme) ≡ true
+told-scheme t (response hs s) v e = cc
+told-scheme t (request m s a p) v e = rw (eqb-true s (t .scheme) e) at (request-ok m a p s v .scheme)
+
+-- the message that is taken, with its places
+pub request-taken : (t : Told) (m : Meaning) → valid m ≡ true → http1Fits m ≡ true → isRequestOf t (m .control) ≡ true
+    → (rest : List ℕ) → readRequest t (http1Of m ++ rest) ≡ accepted (length (http1Of m)) (placedAt 0 m)
+unfolding readRequest
+request-taken t m v f e rest =
+    rw (told-scheme t (m .control) (meaning-ok m v .control) e)
+    (reads (request-back t (m .control) (m .headers) (m .content) (m .trailers) v f e) rest ∙ from-start (length (http1Of m)) (placedAt 0 m))
+
+pub response-taken : (m : Meaning) → valid m ≡ true → http1Fits m ≡ true → ofResponse (m .control) ≡ true
+    → (rest : List ℕ) → readResponse (http1Of m ++ rest) ≡ accepted (length (http1Of m)) (placedAt 0 m)
+unfolding readResponse
+response-taken m v f e rest =
+    reads (response-back (m .control) (m .headers) (m .content) (m .trailers) v f e) rest ∙ from-start (length (http1Of m)) (placedAt 0 m)
+
+pub requests-back : RequestsBack
+requests-back = λ t m o. record { message = placedAt 0 m; taken = request-taken t m (o .0) (o .1) (o .2); same = meaning-back m (o .0) }
+
+pub responses-back : ResponsesBack
+responses-back = λ m o. record { message = placedAt 0 m; taken = response-taken m (o .0) (o .1) (o .2); same = meaning-back m (o .0) }
+
+-- ---- what follows
+
+means-back : {read : List ℕ → Answer Message} {m : Meaning} → ReadsBack read m → (rest : List ℕ) → means meaning (read (http1Of m ++ rest)) ≡ accepted (length (http1Of m)) m
+means-back b rest = rw (b .taken rest, b .same)
+
+pub request-meanings : RequestMeanings
+request-meanings = λ t m o rest. means-back (requests-back t m o) rest
+
+pub response-meanings : ResponseMeanings
+response-meanings = λ m o rest. means-back (responses-back m o) rest
+
+abbrev valueOf : Meaning → Answer Meaning → Meaning
+valueOf m (accepted n a) = a
+valueOf m (refused k p) = m
+valueOf m more = m
+
+apart : {read : List ℕ → Answer Message} {l m : Meaning} → ReadsBack read l → ReadsBack read m
+    → (r q : List ℕ) → http1Of l ++ r ≡ http1Of m ++ q → (l ≡ m) × (r ≡ q)
+apart {read} {l} {m} a b r q e =
+    let i : l ≡ m = ap (valueOf l) (sym (means-back a r) ∙ ap (λ (s : List ℕ). means meaning (read s)) e ∙ means-back b q) in
+    let n : ℕ = length (http1Of m) in
+    (i, sym (drop-at (http1Of l) r n (ap (λ (z : Meaning). length (http1Of z)) i)) ∙ ap (drop n) e ∙ drop-at (http1Of m) q n refl)
+
+pub requests-apart : RequestsApart
+requests-apart = λ t l m ol om r q e. apart (requests-back t l ol) (requests-back t m om) r q e
+
+pub responses-apart : ResponsesApart
+responses-apart = λ l m ol om r q e. apart (responses-back l ol) (responses-back m om) r q e

@@ -1,0 +1,258 @@
+-- What the two readers of HTTP/1.1 refuse with, and where.
+use Prim.Native.Nat.{ℕ, zero, suc, _+_, _≤_}
+use mathlib.Core.Path.{_≡_}
+use mathlib.Core.Bool.{Bool, true, false, cond}
+use mathlib.Core.List.{List, [], _∷_, _++_}
+use native.Mathlib.Omega.{arith}
+use borrow.Author.Tests.{eqb-false}
+use lib.Dec.{eqb, leb, ltb, lit≤}
+use lib.ListN.{length, take, drop, length-append}
+use Rattle.octets.specs.Limits.{headMost, trailerMost, chunkLineMost, linesMost, chunksMost, contentMost, informationalMost}
+use Rattle.octets.specs.Refusals.{badSyntax, badVersion, notSupported, tooLarge}
+use Rattle.octets.specs.Text.{spanLen, sameText, isEmpty}
+use Rattle.octets.proofs.Kit.{either}
+use Rattle.script.specs.Script.{refused, someOctets, Script, run}
+use Rattle.script.specs.Do.{Piece, piece, good, wrong}
+use Rattle.script.proofs.Refusals.{Judges, Stops, CutRefuses, stops-done, stops-stop, stops-word, stops-if, stops-bind, stops-then, stops-judged, stops-all}
+use Rattle.messages.specs.declared.Told.{Told}
+use Rattle.messages.specs.Message.{FieldRead, InformationalRead}
+use Rattle.messages.specs.Control.{methodVerdict, pathVerdict, statusVerdict, isInformational}
+use Rattle.messages.specs.Names.{areTrailers}
+use Rattle.messages.specs.Rules.{authorityIn, framingOf, requestBody, nothingStated, responseBody}
+use Rattle.messages.specs.Valid.{isScheme}
+use Rattle.messages.specs.declared.Body.{Body}
+use Rattle.messages.specs.declared.Body.the-variants.{Sized, InChunks}
+use Rattle.http1.specs.Lines.{isOther, version, requestParts, requestVersion, requestTarget, requestLens, onRequest, requestOf, statusAt, statusVersion, isStatusShape, statusLens, onStatus, statusOf}
+use Rattle.http1.specs.Lines.{fieldLens, onField, fieldOf, chunkLens, onChunk, chunkOf}
+use Rattle.http1.specs.Read.{lineWithin, less, Lines, fieldLines, section, trailerSection, chunkData, chunksFrom, content, afterHead, request, readRequest, afterFinal, heads, readResponse}
+use Rattle.http1.specs.declared.RequestLine.{RequestLine}
+use Rattle.http1.specs.declared.RequestLine.the-variants as request
+use Rattle.http1.specs.declared.StatusLine.{StatusLine}
+use Rattle.http1.specs.declared.StatusLine.the-variants as status
+use Rattle.http1.specs.declared.FieldLine.{FieldLine}
+use Rattle.http1.specs.declared.FieldLine.the-variants as field
+use Rattle.http1.specs.declared.ChunkLine.{ChunkLine}
+use Rattle.http1.specs.declared.ChunkLine.the-variants as chunk
+use Rattle.sound.specs.Placed.{Each}
+use Rattle.sound.specs.Refusal.{Refusal}
+use Rattle.sound.proofs.Each.{each-snoc}
+use Rattle.sound.proofs.Refusals.{Common, method-verdict, path-verdict, status-verdict, not-good, NamedIn, framing-in, Refuses, refusal, authority-judged, nothing-judged, request-judged, response-judged}
+use Rattle.http1_sound.specs.Read.{http1Last, RequestsRefused, ResponsesRefused}
+
+-- the numbers that both forms have are among them
+wide : 8 ≤ http1Last
+wide = lit≤ tt
+
+-- ---- lines
+
+abbrev OfRequest : RequestLine → Type 0
+OfRequest (request.Of m p) = Unit {0}
+OfRequest (request.Bad n) = Common n
+
+syntax-number : Common badSyntax
+syntax-number = (lit≤ tt, lit≤ tt)
+
+version-number : Common badVersion
+version-number = (lit≤ tt, lit≤ tt)
+
+request-parts : (w : List ℕ) (m p : ℕ) → OfRequest (requestParts w m p)
+unfolding requestParts
+request-parts w m p =
+    either OfRequest (eqb (methodVerdict (take m w)) 0) _ _
+    (λ a.
+    either OfRequest (eqb (pathVerdict (take p (drop (m + 1) w))) 0) _ _ (λ b. tt)
+    (λ b. not-good (path-verdict (take p (drop (m + 1) w))) (eqb-false (pathVerdict (take p (drop (m + 1) w))) 0 b)))
+    (λ a. not-good (method-verdict (take m w)) (eqb-false (methodVerdict (take m w)) 0 a))
+
+request-version : (w : List ℕ) (m e : ℕ) → OfRequest (requestVersion w m e)
+unfolding requestVersion
+request-version w m e =
+    either OfRequest (eqb (e + 1 + spanLen (isOther 32) (drop (e + 1) w)) (length w)) _ _
+    (λ a. either OfRequest (sameText (drop (e + 1) w) version) _ _ (λ b. request-parts w m _) (λ b. version-number))
+    (λ a. syntax-number)
+
+request-lens : (w : List ℕ) → OfRequest (requestLens w)
+unfolding requestLens requestTarget
+request-lens w =
+    either OfRequest (leb (length w) (spanLen (isOther 32) w)) _ _ (λ a. syntax-number)
+    (λ a. either OfRequest (leb (length w) _) _ _ (λ b. syntax-number) (λ b. request-version w _ _))
+
+abbrev OfStatus : StatusLine → Type 0
+OfStatus (status.Of n) = Unit {0}
+OfStatus (status.Bad n) = Common n
+
+status-lens : (w : List ℕ) → OfStatus (statusLens w)
+unfolding statusLens statusVersion
+status-lens w =
+    let v : ℕ = spanLen (isOther 32) w in
+    either OfStatus (isStatusShape w v) _ _
+    (λ a.
+    either OfStatus (sameText (take v w) version) _ _
+    (λ b.
+    either OfStatus (eqb (statusVerdict (statusAt w (v + 1))) 0) _ _ (λ c. tt)
+    (λ c. not-good (status-verdict (statusAt w (v + 1))) (eqb-false (statusVerdict (statusAt w (v + 1))) 0 c)))
+    (λ b. version-number))
+    (λ a. syntax-number)
+
+module _ {s : List ℕ} where
+  -- a number that both forms have, at a place of the input
+  at-place : {n p : ℕ} → Common n → p ≤ length s → Refusal http1Last s n p
+  at-place h i = refusal wide h i
+
+  -- the size passed, at a place of the input
+  too-large : {p : ℕ} → p ≤ length s → Refusal http1Last s tooLarge p
+  too-large i = at-place (lit≤ tt, lit≤ tt) i
+
+module _ (s : List ℕ) (l : Piece) (i : l .place ≤ length s) where
+  request-line : Refuses http1Last s (requestOf l)
+  unfolding requestOf
+  request-line = on (requestLens (l .text)) (request-lens (l .text))
+    where
+      on : (x : RequestLine) → OfRequest x → Refuses http1Last s (onRequest l x)
+      on (request.Of m p) h = tt
+      on (request.Bad n) h = at-place h i
+
+  status-line : Refuses http1Last s (statusOf l)
+  unfolding statusOf
+  status-line = on (statusLens (l .text)) (status-lens (l .text))
+    where
+      on : (x : StatusLine) → OfStatus x → Refuses http1Last s (onStatus l x)
+      on (status.Of n) h = tt
+      on (status.Bad n) h = at-place h i
+
+  field-line : Judges (Refusal http1Last s) (NamedIn (length s)) (fieldOf l)
+  unfolding fieldOf
+  field-line = on (fieldLens (l .text))
+    where
+      on : (x : FieldLine) → Judges (Refusal http1Last s) (NamedIn (length s)) (onField l x)
+      on (field.Of n b e) = i
+      on field.Bad = at-place syntax-number i
+
+  chunk-line : Refuses http1Last s (chunkOf l)
+  unfolding chunkOf
+  chunk-line = on (chunkLens (l .text))
+    where
+      on : (x : ChunkLine) → Refuses http1Last s (onChunk l x)
+      on (chunk.Of n) = tt
+      on chunk.Bad = at-place syntax-number i
+
+  chunk-data : (n : ℕ) → l .place + n ≤ length s → Refuses http1Last s (chunkData n l)
+  unfolding chunkData
+  chunk-data n j =
+      either (Refuses http1Last s) (sameText (drop n (l .text)) (13 ∷ 10 ∷ [])) (good (piece (l .place) (take n (l .text)))) (wrong badSyntax (l .place + n))
+      (λ a. tt) (λ a. at-place syntax-number j)
+
+-- ---- sections
+
+-- a script refuses the input s with nothing but numbers of HTTP/1.1, at places of the input, and accepts nothing but what P holds of
+abbrev Refusing : {A : Type 0} → List ℕ → (ℕ → A → Type 0) → ℕ → Script A → Type 0
+Refusing s P at sc = Stops s (Refusal http1Last s) P at sc
+
+-- a section ends in the input, and its lines start there
+record SectionIn (s : List ℕ) (h : Lines) : Type 0 where
+  end : h .end ≤ length s
+  lines : Each (NamedIn (length s)) (h .lines)
+
+module _ {s : List ℕ} where
+  -- a line within an allowance
+  line-refuses : {at : ℕ} (left : ℕ) → at ≤ length s → CutRefuses (Refusal http1Last s) at (lineWithin left)
+  line-refuses left i = (at-place syntax-number i, too-large i)
+
+  stops-lines : (f left : ℕ) {at : ℕ} (fs : List FieldRead) → Each (NamedIn (length s)) fs → Refusing s (λ n h. SectionIn s h) at (fieldLines f left fs)
+  unfolding fieldLines
+  stops-lines zero left fs h = stops-stop (too-large (omega arith))
+  stops-lines (suc f) left {at} fs h =
+      stops-bind _ (stops-word (lineWithin left) (line-refuses left) λ w g i.
+      let k = length-append w (13 ∷ 10 ∷ []) in
+      let j : at ≤ length s = omega arith in
+      stops-if (isEmpty w) (λ a. stops-done (record { end = omega arith; lines = h })) λ a.
+      stops-if (leb linesMost (length fs)) (λ b. stops-stop (too-large j)) λ b.
+      stops-judged (NamedIn (length s)) (fieldOf (piece at w)) _ (field-line s (piece at w) j) λ x q.
+      stops-lines f (less left (piece at w)) (fs ++ x ∷ []) (each-snoc (NamedIn (length s)) fs x h q))
+
+  stops-section : {at : ℕ} (left : ℕ) → Refusing s (λ n h. SectionIn s h) at (section left)
+  unfolding section
+  stops-section left = stops-lines (suc linesMost) left [] tt
+
+  -- ---- content
+
+  stops-trailers : {at : ℕ} (cs : List Piece) → Refusing s (λ n c. Unit {0}) at (trailerSection cs)
+  unfolding trailerSection
+  stops-trailers cs =
+      stops-then _ (stops-section trailerMost) λ n h g.
+      stops-if (areTrailers (h .lines)) (λ a. stops-done tt) (λ a. stops-stop (at-place (lit≤ tt, lit≤ tt) (g .end)))
+
+  stops-chunks : (f : ℕ) {at : ℕ} (cs : List Piece) (total : ℕ) → Refusing s (λ n c. Unit {0}) at (chunksFrom f cs total)
+  unfolding chunksFrom
+  stops-chunks zero cs total = stops-stop (too-large (omega arith))
+  stops-chunks (suc f) {at} cs total =
+      stops-bind _ (stops-word (lineWithin chunkLineMost) (line-refuses chunkLineMost) λ w g i.
+      let j : at ≤ length s = omega arith in
+      stops-judged (λ x. Unit {0}) (chunkOf (piece at w)) _ (chunk-line s (piece at w) j) λ n q.
+      stops-if (eqb n 0) (λ a. stops-trailers cs) λ a.
+      stops-if (leb chunksMost (length cs)) (λ b. stops-stop (too-large j)) λ b.
+      stops-if (ltb contentMost (total + n)) (λ c. stops-stop (too-large j)) λ c.
+      stops-bind _ (stops-word (someOctets (n + 2)) (λ z. tt) λ v l k.
+      stops-judged (λ x. Unit {0}) (chunkData n _) _ (chunk-data s _ (omega arith) n (omega (arith, l))) λ d r.
+      stops-chunks f (cs ++ d ∷ []) (total + n)))
+
+  stops-content : {at : ℕ} (b : Body) → Refusing s (λ n c. Unit {0}) at (content b)
+  unfolding content
+  stops-content (Sized n) = stops-bind _ (stops-word (someOctets n) (λ z. tt) λ w g i. stops-done tt)
+  stops-content InChunks = stops-chunks (suc chunksMost) [] 0
+
+  -- ---- requests
+
+  stops-request : {at : ℕ} (t : Told) → Refusing s (λ n m. Unit {0}) at (request t)
+  unfolding request afterHead
+  stops-request {at} t =
+      stops-bind _ (stops-word (lineWithin headMost) (line-refuses headMost) λ w g i.
+      stops-judged (λ x. Unit {0}) (requestOf (piece at w)) _ (request-line s (piece at w) (omega arith)) λ q a.
+      stops-then _ (stops-section (less headMost (piece at w))) λ n h k.
+      stops-judged (λ x. Unit {0}) (authorityIn (h .end) (piece 0 []) (h .lines)) _ (authority-judged http1Last s wide (h .end) (k .end) (piece 0 []) (h .lines)) λ u b.
+      stops-judged (λ x. Unit {0}) (requestBody (h .end) (framingOf (h .lines))) _
+      (request-judged http1Last s wide (h .end) (k .end) (framingOf (h .lines)) (framing-in (length s) (h .lines) (k .lines))) λ v c.
+      stops-then _ (stops-content v) λ j d z.
+      stops-done tt)
+
+  -- ---- responses
+
+  stops-final : {at : ℕ} (hs : List InformationalRead) (n : ℕ) (h : Lines) → SectionIn s h → Refusing s (λ n m. Unit {0}) at (afterFinal hs n h)
+  unfolding afterFinal
+  stops-final hs n h k =
+      stops-judged (λ x. Unit {0}) (responseBody n (h .end) (framingOf (h .lines))) _
+      (response-judged http1Last s wide (h .end) (k .end) n (framingOf (h .lines)) (framing-in (length s) (h .lines) (k .lines))) λ v c.
+      stops-then _ (stops-content v) λ j d z.
+      stops-done tt
+
+  stops-heads : (f : ℕ) {at : ℕ} (hs : List InformationalRead) (left : ℕ) → Refusing s (λ n m. Unit {0}) at (heads f hs left)
+  unfolding heads
+  stops-heads zero hs left = stops-stop (too-large (omega arith))
+  stops-heads (suc f) {at} hs left =
+      stops-bind _ (stops-word (lineWithin left) (line-refuses left) λ w g i.
+      let j : at ≤ length s = omega arith in
+      stops-judged (λ x. Unit {0}) (statusOf (piece at w)) _ (status-line s (piece at w) j) λ n a.
+      stops-if (isInformational n)
+      (λ b.
+      stops-if (leb informationalMost (length hs)) (λ c. stops-stop (too-large j)) λ c.
+      stops-then _ (stops-section (less left (piece at w))) λ m h k.
+      stops-judged (λ x. Unit {0}) (nothingStated (h .end) (framingOf (h .lines))) _ (nothing-judged http1Last s wide (h .end) (k .end) (framingOf (h .lines))) λ u d.
+      stops-heads f _ _)
+      (λ b. stops-then _ (stops-section (less left (piece at w))) λ m h k. stops-final hs n h k))
+
+-- ---- both readers
+
+pub request-refused : RequestsRefused
+unfolding readRequest
+request-refused t s n p e = on (isScheme (t .scheme)) e
+  where
+    on : (b : Bool) → cond b (run (request t) 0 s) (refused notSupported 0) ≡ refused n p → Refusal http1Last s n p
+    on true g = stops-all (λ i m. Unit {0}) (request t) n p (stops-request t) g
+    on false g =
+        let z : notSupported ≡ n = cc in
+        let y : 0 ≡ p = cc in
+        record { some = omega arith; ofForm = omega arith; inside = omega arith }
+
+pub response-refused : ResponsesRefused
+unfolding readResponse
+response-refused s n p e = stops-all (λ i m. Unit {0}) (heads (suc informationalMost) [] headMost) n p (stops-heads (suc informationalMost) [] headMost) e

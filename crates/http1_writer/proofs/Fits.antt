@@ -1,0 +1,52 @@
+-- The tests of a message by its numbers, case by case.
+-- Assumes nothing.
+use Prim.Native.Nat.{ℕ, _+_}
+use mathlib.Core.Path.{_≡_}
+use mathlib.Core.Bool.{true, false}
+use mathlib.Core.List.{List}
+use borrow.Author.Tests.{ne-eqb}
+use lib.Dec.{eqb, leb}
+use lib.ListN.{length}
+use Rattle.octets.specs.Limits.{headMost, linesMost, trailerMost}
+use Rattle.messages.specs.declared.Record.{Record}
+use Rattle.http1_writer.specs.Numbered.{sectionSize, lengthFields, headCount, trailersFit, fitsIn, connectedIn}
+
+module _ (r : Record) where
+  pub connected-response : (scheme : ℕ) → r .response ≡ true → true ≡ connectedIn scheme r
+  unfolding connectedIn
+  connected-response scheme e = rw e
+
+  pub connected-request : (scheme : ℕ) → r .response ≡ false → eqb (r .scheme) scheme ≡ connectedIn scheme r
+  unfolding connectedIn
+  connected-request scheme e = rw e
+
+  pub count-response : r .response ≡ true → headCount r ≡ 0 + length (lengthFields r) + r .headers
+  unfolding headCount
+  count-response e = rw e
+
+  pub count-request : r .response ≡ false → headCount r ≡ 1 + length (lengthFields r) + r .headers
+  unfolding headCount
+  count-request e = rw e
+
+module _ (ts : List ℕ) (count : ℕ) where
+  pub trailers-none : count ≡ 0 → true ≡ trailersFit ts count
+  unfolding trailersFit
+  trailers-none z = rw z
+
+  pub trailers-some : (count ≡ 0 → ⊥) → leb (sectionSize ts 0 count) trailerMost ≡ trailersFit ts count
+  unfolding trailersFit
+  trailers-some z = rw (ne-eqb count 0 z)
+
+-- the three tests one after the other
+module _ (head : ℕ) (r : Record) (ts : List ℕ) where
+  pub fits-head : leb head headMost ≡ false → false ≡ fitsIn head r ts
+  unfolding fitsIn
+  fits-head e = rw e
+
+  pub fits-lines : leb head headMost ≡ true → leb (headCount r) linesMost ≡ false → false ≡ fitsIn head r ts
+  unfolding fitsIn
+  fits-lines e f = rw (e, f)
+
+  pub fits-trailers : leb head headMost ≡ true → leb (headCount r) linesMost ≡ true → trailersFit ts (r .trailers) ≡ fitsIn head r ts
+  unfolding fitsIn
+  fits-trailers e f = rw (e, f)

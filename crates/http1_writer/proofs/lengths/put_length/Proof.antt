@@ -1,0 +1,68 @@
+use borrow.Author.Needs.{needs}
+use native.Mathlib.Omega.{arith}
+use mathlib.Core.Path.{sym, _∙_}
+use Rattle.output.proofs.Laws.{put-none}
+use Rattle.output.proofs.Room.{puts, puts-then}
+use Rattle.http1_writer.proofs.Body.{put-as}
+use Rattle.http1_writer.proofs.Length.{length-none, length-plain, length-coded}
+use Rattle.http1_writer.proofs.lengths.put_length.Statement.{statement}
+use Rattle.http1_writer.proofs.lengths.put_length.Tie as tie
+use Rattle.http1_writer.proofs.lengths.put_length.Reads as reads
+use Rattle.http1_writer.proofs.lengths.put_length.Lts as lts
+
+is-unmeasured-requires : tie.Need-is-unmeasured-requires
+is-unmeasured-requires c κs = search needs
+
+returns : tie.Need-returns
+returns c = let e = length-none (c .before .before .before .before .before .args .r) (c .before .before .if1 .taken) (sym (c .before .is-unmeasured .ensures) ∙ c .if2 .taken) in put-as (e .text, e .size) (put-none _ _)
+
+slice-aggregate-put-text : tie.Need-slice-aggregate-put-text
+slice-aggregate-put-text c = search needs
+
+put-text-requires : tie.Need-put-text-requires
+put-text-requires c κs = search needs
+
+put-decimal-requires : tie.Need-put-decimal-requires
+put-decimal-requires c κs = search needs
+
+slice-aggregate-put-text-2 : tie.Need-slice-aggregate-put-text-2
+slice-aggregate-put-text-2 c = search needs
+
+put-text-requires-2 : tie.Need-put-text-requires-2
+put-text-requires-2 c κs = search needs
+
+same-length : tie.Need-same-length
+same-length c = search needs
+
+returns-2 : tie.Need-returns-2
+returns-2 c = let e = length-plain (c .before .before .before .before .before .before .before .before .before .before .before .before .before .before .before .before .before .before .before .args .r) (c .before .before .before .before .before .before .before .before .before .before .before .before .before .before .before .before .if1 .taken) (sym (c .before .before .before .before .before .before .before .before .before .before .before .before .before .before .before .is-unmeasured .ensures) ∙ c .before .before .before .before .before .before .before .before .before .before .before .before .before .before .if2 .left) in put-as (e .text, e .size) (puts-then (puts-then (puts (c .before .before .before .before .before .before .before .before .before .before .before .put-text .ensures)) (puts (c .before .before .before .before .before .before .before .put-decimal .ensures))) (puts (c .before .before .put-text2 .ensures)) (omega (arith, e .size, c .before .before .before .before .before .before .before .before .before .before .before .before .before .before .before .before .before .before .before .pre)))
+
+slice-aggregate-put-text-3 : tie.Need-slice-aggregate-put-text-3
+slice-aggregate-put-text-3 c = search needs
+
+put-text-requires-3 : tie.Need-put-text-requires-3
+put-text-requires-3 c κs = search needs
+
+same-length-2 : tie.Need-same-length-2
+same-length-2 c = search needs
+
+returns-3 : tie.Need-returns-3
+returns-3 c = let e = length-coded (c .before .before .before .before .before .before .before .before .args .r) (c .before .before .before .before .before .if1 .left) in put-as (e .text, e .size) (puts (c .before .before .put-text3 .ensures) (omega (arith, e .size, c .before .before .before .before .before .before .before .before .pre)))
+
+pub put-length-spec : {M : Type 1} → statement M
+put-length-spec =
+    tie.close
+    (tie.spec
+    is-unmeasured-requires
+    returns
+    slice-aggregate-put-text
+    put-text-requires
+    put-decimal-requires
+    slice-aggregate-put-text-2
+    put-text-requires-2
+    same-length
+    returns-2
+    slice-aggregate-put-text-3
+    put-text-requires-3
+    same-length-2
+    returns-3)

@@ -1,0 +1,114 @@
+-- How long the parts of a message are that is written as HTTP/1.1, by the numbers of its record and its ranges alone: what the code of the writer adds up.
+-- They are the lengths and tests of Write (`headText`, `bodyText`, `http1Fits`, `onConnection`; 01, "How we write", "Sizes").
+use Prim.Native.Nat.{ℕ, zero, suc, _+_, _*_}
+use mathlib.Core.Bool.{Bool, true, cond, _&&_}
+use mathlib.Core.List.{List, [], _∷_, _++_, map}
+use lib.Dec.{eqb, leb}
+use lib.ListN.{length, getD}
+use Rattle.octets.specs.Limits.{headMost, trailerMost, linesMost}
+use Rattle.numbers.specs.Digits.{countOf}
+use Rattle.messages.specs.Control.{isBodyless}
+use Rattle.messages.specs.declared.Part.{Part}
+use Rattle.messages.specs.declared.Record.{Record}
+use Rattle.messages.specs.Meaning.{Field, fieldMeans}
+use Rattle.ranges.specs.Entries.{fieldsIn, fieldsBefore, headsIn, partIn}
+use Rattle.http1_writer.specs.Write.{fieldText, sectionText, requestLine, statusLine, informationalText, hostField, lengthField, codingField}
+
+-- the fields of n entries from the entry k on
+abbrev pub fieldsNamed : List ℕ → List ℕ → ℕ → ℕ → List Field
+fieldsNamed s fs k n = map fieldMeans (fieldsIn s fs k n)
+
+-- the field line of the entry k
+abbrev pub lineSize : List ℕ → ℕ → ℕ
+lineSize fs k = getD fs (k * 4 + 1) 0 + 2 + getD fs (k * 4 + 3) 0 + 2
+
+-- the lines of n entries from the entry k on, and the empty line
+abbrev pub sectionSize : List ℕ → ℕ → ℕ → ℕ
+sectionSize fs k zero = 2
+sectionSize fs k (suc n) = lineSize fs k + sectionSize fs (k + 1) n
+
+-- a status line
+abbrev pub statusSize : ℕ → ℕ
+statusSize status = 9 + countOf 10 status + 1 + 2
+
+-- n informational heads from the head i on
+abbrev pub headsSize : List ℕ → List ℕ → ℕ → ℕ → ℕ
+headsSize hs ns i zero = 0
+headsSize hs ns i (suc n) = statusSize (getD ns (i * 2) 0) + sectionSize hs (fieldsBefore ns i) (getD ns (i * 2 + 1) 0) + headsSize hs ns (i + 1) n
+
+-- a request line
+abbrev pub requestSize : Part → Part → ℕ
+requestSize method path = method .len + 1 + path .len + 9 + 2
+
+-- a host line
+abbrev pub hostSize : Part → ℕ
+hostSize authority = 6 + authority .len + 2
+
+-- content of n octets as one chunk
+unfoldable pub chunkSize : ℕ → ℕ
+chunkSize n = cond (eqb n 0) 0 (countOf 16 n + 2 + n + 2)
+
+-- the body: content of n octets and `count` trailer fields
+unfoldable pub bodySize : ℕ → List ℕ → ℕ → ℕ
+bodySize n ts count = cond (eqb count 0) n (chunkSize n + 1 + 2 + sectionSize ts 0 count)
+
+-- ---- the length line
+
+-- whether a message without trailers goes without a length line
+unfoldable pub unmeasuredIn : Record → Bool
+unmeasuredIn r = cond (r .response) (isBodyless (r .status)) (eqb (r .content) 0)
+
+-- the length line, or none
+unfoldable pub lengthFields : Record → List Field
+lengthFields r = cond (eqb (r .trailers) 0) (cond (unmeasuredIn r) [] (lengthField (r .content) ∷ [])) (codingField ∷ [])
+
+-- lines one behind the other
+unfoldable pub linesText : List Field → List ℕ
+linesText [] = []
+linesText (f ∷ fs) = fieldText f ++ linesText fs
+
+-- how long the length line is
+unfoldable pub lengthSize : Record → ℕ
+lengthSize r = cond (eqb (r .trailers) 0) (cond (unmeasuredIn r) 0 (16 + countOf 10 (r .content) + 2)) 28
+
+-- ---- the head
+
+-- what stands before the length line: informational heads and status line, or request line and host line
+unfoldable pub leadTextIn : List ℕ → Record → List ℕ → List ℕ → List ℕ
+leadTextIn s r hs ns =
+    cond (r .response)
+    (informationalText (headsIn s hs ns 0 (r .informational)) ++ statusLine (r .status))
+    (requestLine (partIn s (r .method)) (partIn s (r .path)) ++ fieldText (hostField (partIn s (r .authority))))
+
+-- how long it is
+unfoldable pub leadSize : Record → List ℕ → List ℕ → ℕ
+leadSize r hs ns =
+    cond (r .response)
+    (headsSize hs ns 0 (r .informational) + statusSize (r .status))
+    (requestSize (r .method) (r .path) + hostSize (r .authority))
+
+-- all heads of a message
+unfoldable pub headTextIn : List ℕ → Record → List ℕ → List ℕ → List ℕ
+headTextIn s r hs ns = leadTextIn s r hs ns ++ linesText (lengthFields r) ++ sectionText (fieldsNamed s hs (fieldsBefore ns (r .informational)) (r .headers))
+
+-- how long they are
+unfoldable pub headSize : Record → List ℕ → List ℕ → ℕ
+headSize r hs ns = leadSize r hs ns + lengthSize r + sectionSize hs (fieldsBefore ns (r .informational)) (r .headers)
+
+-- how many field lines the final head has: host, length line and fields
+unfoldable pub headCount : Record → ℕ
+headCount r = cond (r .response) 0 1 + length (lengthFields r) + r .headers
+
+-- ---- the tests
+
+-- whether `count` trailer fields are within the size of trailers
+unfoldable pub trailersFit : List ℕ → ℕ → Bool
+trailersFit ts count = cond (eqb count 0) true (leb (sectionSize ts 0 count) trailerMost)
+
+-- whether heads of so many octets, their lines and the trailers are within the sizes
+unfoldable pub fitsIn : ℕ → Record → List ℕ → Bool
+fitsIn head r ts = leb head headMost && leb (headCount r) linesMost && trailersFit ts (r .trailers)
+
+-- whether the scheme of a request is the connection's
+unfoldable pub connectedIn : ℕ → Record → Bool
+connectedIn scheme r = cond (r .response) true (eqb (r .scheme) scheme)

@@ -1,0 +1,121 @@
+-- A meaning as HTTP/1.1 (01, "How we write"), and whether it may be written ("Sizes"; 14, then 8 at 0: "Numbers a call answers with").
+use Prim.Native.Nat.{ℕ}
+use mathlib.Core.Bool.{Bool, true, false, cond, _&&_}
+use mathlib.Core.List.{List, [], _∷_, _++_}
+use lib.Dec.{leb, eqb}
+use lib.ListN.{length}
+use Rattle.octets.specs.Ascii.{ascii}
+use Rattle.octets.specs.Text.{isEmpty}
+use Rattle.octets.specs.Limits.{headMost, trailerMost, linesMost}
+use Rattle.octets.specs.Refusals.{tooLarge, otherScheme}
+use Rattle.numbers.specs.Digits.{digits}
+use Rattle.messages.specs.declared.Told.{Told}
+use Rattle.messages.specs.Control.{isBodyless}
+use Rattle.messages.specs.Meaning.{Field, Informational, Control, request, response, Meaning}
+use Rattle.messages.specs.Valid.{noFields}
+use Rattle.output.specs.Reply.{Reply, writes, refuses}
+
+-- the end of a line
+abbrev pub crlf : List ℕ
+crlf = 13 ∷ 10 ∷ []
+
+-- ---- lines
+
+-- a field line: name, colon, space, value
+unfoldable pub fieldText : Field → List ℕ
+fieldText f = f .name ++ ascii ": " ++ f .value ++ crlf
+
+-- the lines of a section, and the empty line
+unfoldable pub sectionText : List Field → List ℕ
+sectionText [] = crlf
+sectionText (f ∷ fs) = fieldText f ++ sectionText fs
+
+-- method, path and version, with one space between
+unfoldable pub requestLine : List ℕ → List ℕ → List ℕ
+requestLine m p = m ++ 32 ∷ [] ++ p ++ ascii " HTTP/1.1" ++ crlf
+
+-- the reason is empty, its space stays
+unfoldable pub statusLine : ℕ → List ℕ
+statusLine s = ascii "HTTP/1.1 " ++ digits 10 s ++ 32 ∷ [] ++ crlf
+
+-- ---- the lines that a head gains
+
+-- the host line, from the authority
+unfoldable pub hostField : List ℕ → Field
+hostField a = record { name = ascii "host"; value = a }
+
+-- the length of the content, in plain decimal
+unfoldable pub lengthField : ℕ → Field
+lengthField n = record { name = ascii "content-length"; value = digits 10 n }
+
+-- the length line of content in chunks
+unfoldable pub codingField : Field
+codingField = record { name = ascii "transfer-encoding"; value = ascii "chunked" }
+
+-- whether a message without trailers goes without a length line: requests with empty content, 204 and 304
+abbrev pub unmeasured : Control → List ℕ → Bool
+unmeasured (request m s a p) content = isEmpty content
+unmeasured (response hs s) content = isBodyless s
+
+-- the length line: chunked where trailers follow, else the length in plain decimal
+unfoldable pub lengthLine : Meaning → List Field
+lengthLine m =
+    cond (noFields (m .trailers))
+    (cond (unmeasured (m .control) (m .content)) [] (lengthField (length (m .content)) ∷ []))
+    (codingField ∷ [])
+
+-- a request gains a host line, a response none
+abbrev pub hostLine : Control → List Field
+hostLine (request m s a p) = hostField a ∷ []
+hostLine (response hs s) = []
+
+-- the lines of the final head: host, length, fields
+unfoldable pub headLines : Meaning → List Field
+headLines m = hostLine (m .control) ++ lengthLine m ++ m .headers
+
+-- ---- heads and body
+
+-- informational heads, each with its empty line
+unfoldable pub informationalText : List Informational → List ℕ
+informationalText [] = []
+informationalText (h ∷ hs) = (statusLine (h .status) ++ sectionText (h .fields)) ++ informationalText hs
+
+-- what stands before the final head's field lines
+abbrev pub startText : Control → List ℕ
+startText (request m s a p) = requestLine m p
+startText (response hs s) = informationalText hs ++ statusLine s
+
+-- all heads of a message, which the size of heads counts together
+unfoldable pub headText : Meaning → List ℕ
+headText m = startText (m .control) ++ sectionText (headLines m)
+
+-- one chunk with the content, none if it is empty; lower-case hexadecimal without leading zeros
+unfoldable pub chunkText : List ℕ → List ℕ
+chunkText content = cond (isEmpty content) [] (digits 16 (length content) ++ crlf ++ content ++ crlf)
+
+-- the chunk, the last chunk line, the trailer section
+unfoldable pub chunkedText : List ℕ → List Field → List ℕ
+chunkedText content trailers = chunkText content ++ ascii "0" ++ crlf ++ sectionText trailers
+
+-- content in chunks where trailers are kept, else the content alone
+unfoldable pub bodyText : List ℕ → List Field → List ℕ
+bodyText content trailers = cond (noFields trailers) content (chunkedText content trailers)
+
+-- a whole message: heads, then the body
+unfoldable pub http1Of : Meaning → List ℕ
+http1Of m = headText m ++ bodyText (m .content) (m .trailers)
+
+-- whether what is written is within the sizes of heads, lines and trailers. An informational head gains no line and a trailer section none
+unfoldable pub http1Fits : Meaning → Bool
+http1Fits m =
+    leb (length (headText m)) headMost && leb (length (headLines m)) linesMost
+    && cond (noFields (m .trailers)) true (leb (length (sectionText (m .trailers))) trailerMost)
+
+-- a request's scheme is the connection's; a response has none
+abbrev pub onConnection : Told → Control → Bool
+onConnection t (request m s a p) = eqb s (t .scheme)
+onConnection t (response hs s) = true
+
+-- a meaning as HTTP/1.1 on the connection: 14, then 8 at 0 where a written size is passed
+unfoldable pub toHttp1 : Told → Meaning → Reply
+toHttp1 t m = cond (onConnection t (m .control)) (cond (http1Fits m) (writes (http1Of m)) (refuses tooLarge 0)) (refuses otherScheme 0)

@@ -1,0 +1,176 @@
+// Start lines, informational heads, and the head of a message.
+use crate::lengths::length_size;
+use crate::lengths::put_length;
+use crate::sections::put_section;
+use crate::sections::section_size;
+use messages::Part;
+use messages::Record;
+use numbers::digit_count;
+use output::put_decimal;
+use output::put_octet;
+use output::put_part;
+use output::put_text;
+use ranges::fields_before;
+use ranges::number_at;
+ghost use mathlib.Core.Path.{_≡_};
+ghost use mathlib.Core.List.{List, _++_};
+ghost use Prim.Native.Nat.{ℕ, _+_, _≤_};
+ghost use lib.ListN.{length};
+ghost use Rattle.output.specs.Splice.{Put};
+ghost use Rattle.ranges.specs.Entries.{headsIn, partIn, FieldsWithin, HeadsWithin, MessageWithin};
+ghost use Rattle.http1_writer.specs.Write.{fieldText, sectionText, requestLine, statusLine, informationalText, hostField};
+ghost use Rattle.http1_writer.specs.Numbered.{fieldsNamed, sectionSize, statusSize, headsSize, requestSize, hostSize, leadTextIn, leadSize, headTextIn, headSize};
+
+fn status_size(status: usize) -> usize
+    ensures { λ r. ⌜ (r ≡ statusSize status) × (r ≤ 32) ⌝ }
+{
+    digit_count(status, 10) + 12
+}
+
+fn put_status(out: &mut [u8], at: usize, status: usize) -> usize
+    requires { ⌜ at + statusSize status ≤ length (now out) ⌝ }
+    ensures { λ r. ⌜ Put (now (out .entry)) at (statusLine status) (statusSize status) (now (out .exit)) r ⌝ }
+{
+    let a = put_text(out, at, b"HTTP/1.1 ");
+    let b = put_decimal(out, a, status);
+    let d = put_octet(out, b, 32);
+    put_text(out, d, b"\r\n")
+}
+
+// An informational head with n fields from the entry k on.
+fn put_informational(
+    out: &mut [u8],
+    at: usize,
+    s: &[u8],
+    fields: &[u32],
+    status: usize,
+    k: usize,
+    n: usize,
+) -> usize
+    requires { ⌜ FieldsWithin (length (now s)) (now fields) k n × (at + (statusSize status + sectionSize (now fields) k n) ≤ length (now out)) ⌝ }
+    ensures { λ r. ⌜ Put (now (out .entry)) at (statusLine status ++ sectionText (fieldsNamed (now (s .entry)) (now (fields .entry)) k n)) (statusSize status + sectionSize (now (fields .entry)) k n) (now (out .exit)) r ⌝ }
+{
+    let a = put_status(out, at, status);
+    put_section(out, a, s, fields, k, n)
+}
+
+// The first n informational heads.
+fn put_heads(out: &mut [u8], at: usize, s: &[u8], fields: &[u32], heads: &[u32], n: usize) -> usize
+    requires { ⌜ HeadsWithin (length (now s)) (now fields) (now heads) n × (at + headsSize (now fields) (now heads) 0 n ≤ length (now out)) ⌝ }
+    ensures { λ r. ⌜ Put (now (out .entry)) at (informationalText (headsIn (now (s .entry)) (now (fields .entry)) (now (heads .entry)) 0 n)) (headsSize (now (fields .entry)) (now (heads .entry)) 0 n) (now (out .exit)) r ⌝ }
+{
+    let mut i = 0;
+    let mut k = 0;
+    let mut a = at;
+    while i < n {
+        let status = number_at(heads, i * 2);
+        let count = number_at(heads, i * 2 + 1);
+        a = put_informational(out, a, s, fields, status, k, count);
+        k += count;
+        i += 1;
+    }
+    a
+}
+
+// How long they are.
+fn heads_size(fields: &[u32], heads: &[u32], n: usize) -> usize
+    requires { ⌜ ((l : ℕ) × HeadsWithin l (now fields) (now heads) n) ⌝ }
+    ensures { λ r. ⌜ (r ≡ headsSize (now (fields .entry)) (now (heads .entry)) 0 n) × (r ≤ 2199023256200) ⌝ }
+{
+    let mut i = 0;
+    let mut k = 0;
+    let mut size = 0;
+    while i < n {
+        let status = number_at(heads, i * 2);
+        let count = number_at(heads, i * 2 + 1);
+        size += status_size(status) + section_size(fields, k, count);
+        k += count;
+        i += 1;
+    }
+    size
+}
+
+fn put_request_line(out: &mut [u8], at: usize, s: &[u8], method: Part, path: Part) -> usize
+    requires { ⌜ (method .start + method .len ≤ length (now s)) × (path .start + path .len ≤ length (now s)) × (at + requestSize method path ≤ length (now out)) ⌝ }
+    ensures { λ r. ⌜ Put (now (out .entry)) at (requestLine (partIn (now (s .entry)) method) (partIn (now (s .entry)) path)) (requestSize method path) (now (out .exit)) r ⌝ }
+{
+    let a = put_part(out, at, s, method.start as usize, method.len as usize);
+    let b = put_octet(out, a, 32);
+    let d = put_part(out, b, s, path.start as usize, path.len as usize);
+    let e = put_text(out, d, b" HTTP/1.1");
+    put_text(out, e, b"\r\n")
+}
+
+// The host line.
+fn put_host(out: &mut [u8], at: usize, s: &[u8], authority: Part) -> usize
+    requires { ⌜ (authority .start + authority .len ≤ length (now s)) × (at + hostSize authority ≤ length (now out)) ⌝ }
+    ensures { λ r. ⌜ Put (now (out .entry)) at (fieldText (hostField (partIn (now (s .entry)) authority))) (hostSize authority) (now (out .exit)) r ⌝ }
+{
+    let a = put_text(out, at, b"host: ");
+    let b = put_part(out, a, s, authority.start as usize, authority.len as usize);
+    put_text(out, b, b"\r\n")
+}
+
+// What stands before the length line: informational heads and status line, or request line and host line.
+fn put_lead(out: &mut [u8], at: usize, s: &[u8], r: Record, fields: &[u32], heads: &[u32]) -> usize
+    requires { ⌜ ((cs : List ℕ) × (ts : List ℕ) × MessageWithin (now s) r (now fields) (now heads) cs ts) × (at + leadSize r (now fields) (now heads) ≤ length (now out)) ⌝ }
+    ensures { λ z. ⌜ Put (now (out .entry)) at (leadTextIn (now (s .entry)) r (now (fields .entry)) (now (heads .entry))) (leadSize r (now (fields .entry)) (now (heads .entry))) (now (out .exit)) z ⌝ }
+{
+    if r.response {
+        let a = put_heads(out, at, s, fields, heads, r.informational);
+        return put_status(out, a, r.status as usize);
+    }
+    let method = r.method;
+    let path = r.path;
+    let a = put_request_line(out, at, s, method, path);
+    let authority = r.authority;
+    put_host(out, a, s, authority)
+}
+
+fn request_size(method: Part, authority: Part, path: Part) -> usize
+    ensures { λ r. ⌜ (r ≡ requestSize method path + hostSize authority) × (r ≤ 12884901905) ⌝ }
+{
+    let line = method.len as usize + path.len as usize + 12;
+    line + authority.len as usize + 8
+}
+
+// How long it is.
+fn lead_size(r: Record, fields: &[u32], heads: &[u32]) -> usize
+    requires { ⌜ ((s : List ℕ) × (cs : List ℕ) × (ts : List ℕ) × MessageWithin s r (now fields) (now heads) cs ts) ⌝ }
+    ensures { λ n. ⌜ (n ≡ leadSize r (now (fields .entry)) (now (heads .entry))) × (n ≤ 2199023256232) ⌝ }
+{
+    if r.response {
+        return heads_size(fields, heads, r.informational) + status_size(r.status as usize);
+    }
+    let method = r.method;
+    let authority = r.authority;
+    let path = r.path;
+    request_size(method, authority, path)
+}
+
+// All heads of a message.
+pub fn put_head(
+    out: &mut [u8],
+    at: usize,
+    s: &[u8],
+    r: Record,
+    fields: &[u32],
+    heads: &[u32],
+) -> usize
+    requires { ⌜ ((cs : List ℕ) × (ts : List ℕ) × MessageWithin (now s) r (now fields) (now heads) cs ts) × (at + headSize r (now fields) (now heads) ≤ length (now out)) ⌝ }
+    ensures { λ z. ⌜ Put (now (out .entry)) at (headTextIn (now (s .entry)) r (now (fields .entry)) (now (heads .entry))) (headSize r (now (fields .entry)) (now (heads .entry))) (now (out .exit)) z ⌝ }
+{
+    let k = fields_before(heads, r.informational);
+    let a = put_lead(out, at, s, r, fields, heads);
+    let b = put_length(out, a, r);
+    put_section(out, b, s, fields, k, r.headers)
+}
+
+// How long they are.
+pub fn measure_head(r: Record, fields: &[u32], heads: &[u32]) -> usize
+    requires { ⌜ ((s : List ℕ) × (cs : List ℕ) × (ts : List ℕ) × MessageWithin s r (now fields) (now heads) cs ts) ⌝ }
+    ensures { λ n. ⌜ (n ≡ headSize r (now (fields .entry)) (now (heads .entry))) × (n ≤ 4398046511104) ⌝ }
+{
+    let k = fields_before(heads, r.informational);
+    lead_size(r, fields, heads) + length_size(r) + section_size(fields, k, r.headers)
+}
