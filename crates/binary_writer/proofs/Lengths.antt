@@ -24,7 +24,7 @@ unfolding counted
 counted-length w n e = rw (length-append, int-length, e)
 
 -- octets with their count in front
-pub counted-is : (w : List ℕ) (n : ℕ) → length w ≡ n → intBytes n ++ w ≡ counted w
+pub counted-is : (w : List ℕ) (n : ℕ) → length w ≡ n → counted w ≡ intBytes n ++ w
 unfolding counted
 counted-is w n e = rw e
 

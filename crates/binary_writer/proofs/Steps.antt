@@ -1,11 +1,11 @@
 -- Steps of the loops that measure, and of those that write.
 use Prim.Native.Nat.{ℕ, suc, _+_, _-_, _*_, _<_, _≤_}
-use mathlib.Core.Path.{_≡_, refl, ap, _∙_}
+use mathlib.Core.Path.{_≡_, refl, _∙_}
 use mathlib.Core.Bool.{true, false}
 use mathlib.Core.List.{List, [], _∷_, _++_, map}
 use native.Mathlib.Nat.{add-zero, sub-zero}
 use native.Mathlib.Omega.{arith}
-use lib.ListN.{length, getD, length-append}
+use lib.ListN.{getD}
 use borrow.Author.Tests.{eq-eqb, ne-eqb}
 use Rattle.octets.specs.Ascii.{ascii}
 use Rattle.octets.specs.Text.{lowerOf}
@@ -13,7 +13,7 @@ use Rattle.numbers.specs.Integer.{integerEnd, intLen, tagOf, intBytes}
 use Rattle.numbers.specs.Places.{push}
 use Rattle.numbers.proofs.IntegerLaws.{int-some}
 use Rattle.output.specs.Splice.{part, Put, Left}
-use Rattle.output.proofs.Laws.{elements-length, put-then, left-start, left-step, left-end}
+use Rattle.output.proofs.Laws.{put-then, put-as, left-start, left-turn}
 use Rattle.messages.specs.Meaning.{Informational, request, response, fieldMeans, contentOf}
 use Rattle.messages.specs.declared.Record.{Record}
 use Rattle.ranges.specs.Entries.{fieldIn, fieldsIn, chunksIn, fieldsBefore, headsIn, partIn, controlIn, meaningIn, FieldsWithin}
@@ -86,61 +86,22 @@ module _ (r : Record) (hs ns : List ℕ) where
 
 -- ---- writing
 
-pub put-as : {o o₁ a b : List ℕ} {at n r : ℕ} → a ≡ b → Put o at a n o₁ r → Put o at b n o₁ r
-put-as e p = rw e at p
-
-http-is : 4 ∷ ascii "http" ≡ counted (ascii "http")
+http-is : counted (ascii "http") ≡ 4 ∷ ascii "http"
 unfolding counted intBytes intLen tagOf push
 http-is = refl
 
-https-is : 5 ∷ ascii "https" ≡ counted (ascii "https")
+https-is : counted (ascii "https") ≡ 5 ∷ ascii "https"
 unfolding counted intBytes intLen tagOf push
 https-is = refl
 
 module _ {o o₁ : List ℕ} {at r n : ℕ} where
   pub put-http : n ≡ 0 → Put o at (4 ∷ ascii "http") 5 o₁ r → Put o at (counted (schemeBytes n)) (schemeSize n) o₁ r
   unfolding schemeBytes
-  put-http e p = rw (scheme-http n e, eq-eqb n 0 e) (put-as http-is p)
+  put-http e p = rw (scheme-http n e, eq-eqb n 0 e) (put-as (http-is, refl) p)
 
   pub put-https : (n ≡ 0 → ⊥) → Put o at (5 ∷ ascii "https") 6 o₁ r → Put o at (counted (schemeBytes n)) (schemeSize n) o₁ r
   unfolding schemeBytes
-  put-https e p = rw (scheme-https n e, ne-eqb n 0 e) (put-as https-is p)
-
--- what is left begins with what is put
-pub left-more : {o₀ bs₀ o o₁ a b bs : List ℕ} {at₀ n₀ at m n k r : ℕ} → bs ≡ a ++ b → k ≡ m + n
-    → Left o₀ at₀ bs₀ n₀ o at bs k → Put o at a m o₁ r → Left o₀ at₀ bs₀ n₀ o₁ r b n
-left-more e q l p = left-step (rw (e, q) at l) p
-
--- nothing is left
-pub left-over : {o₀ bs₀ o bs : List ℕ} {at₀ n₀ at k : ℕ} → bs ≡ [] → k ≡ 0 → length bs₀ ≡ n₀ → Left o₀ at₀ bs₀ n₀ o at bs k → Put o₀ at₀ bs₀ n₀ o at
-left-over e z q l = left-end q (rw (e, z) at l)
-
-module _ (s cs : List ℕ) where
-  content-more : (i n : ℕ) → i < n
-      → contentOf (chunksIn s cs i (n - i)) ≡ part s (getD cs (i * 2) 0) (getD cs (i * 2 + 1) 0) ++ contentOf (chunksIn s cs (i + 1) (n - (i + 1)))
-  unfolding chunksIn contentOf
-  content-more i n h = let e : n - i ≡ suc (n - (i + 1)) = omega arith in rw e
-
-  pub content-room : (i n : ℕ) → i < n
-      → length (contentOf (chunksIn s cs i (n - i))) ≡ getD cs (i * 2 + 1) 0 + length (contentOf (chunksIn s cs (i + 1) (n - (i + 1))))
-  content-room i n h =
-      let rest : List ℕ = contentOf (chunksIn s cs (i + 1) (n - (i + 1))) in
-      ap length (content-more i n h) ∙ length-append (part s (getD cs (i * 2) 0) (getD cs (i * 2 + 1) 0)) rest
-      ∙ ap (λ (x : ℕ). x + length rest) (elements-length 0 s (getD cs (i * 2) 0) (getD cs (i * 2 + 1) 0))
-
-  pub content-none : (i n : ℕ) → n ≤ i → contentOf (chunksIn s cs i (n - i)) ≡ []
-  unfolding chunksIn contentOf
-  content-none i n h = let e : n - i ≡ 0 = omega arith in rw e
-
-  pub content-begin : (o : List ℕ) (at n : ℕ)
-      → Left o at (contentOf (chunksIn s cs 0 n)) (length (contentOf (chunksIn s cs 0 n))) o at (contentOf (chunksIn s cs 0 (n - 0))) (length (contentOf (chunksIn s cs 0 (n - 0))))
-  content-begin o at n = rw (sub-zero n) (left-start o at _ _)
-
-module _ (s cs : List ℕ) (i n : ℕ) {o₀ bs₀ o o₁ : List ℕ} {at₀ n₀ a r from len : ℕ} where
-  pub left-chunk : i < n → from ≡ getD cs (i * 2) 0 → len ≡ getD cs (i * 2 + 1) 0
-      → Left o₀ at₀ bs₀ n₀ o a (contentOf (chunksIn s cs i (n - i))) (length (contentOf (chunksIn s cs i (n - i)))) → Put o a (part s from len) len o₁ r
-      → Left o₀ at₀ bs₀ n₀ o₁ r (contentOf (chunksIn s cs (i + 1) (n - (i + 1)))) (length (contentOf (chunksIn s cs (i + 1) (n - (i + 1)))))
-  left-chunk h e q l p = left-more (content-more s cs i n h) (content-room s cs i n h) l (rw (e, q) at p)
+  put-https e p = rw (scheme-https n e, ne-eqb n 0 e) (put-as (https-is, refl) p)
 
 -- name and value of an entry, one behind the other
 module _ (s ranges : List ℕ) (k : ℕ) {o o₁ o₂ : List ℕ} {at a r name nlen value vlen : ℕ} where
@@ -171,14 +132,14 @@ module _ (s ranges : List ℕ) (k n : ℕ) where
       → Left o₀ at₀ bs₀ n₀ o a (fieldsBytes (map fieldMeans (fieldsIn s ranges (k + i) (n - i)))) (fieldsSize ranges (k + i) (n - i))
       → Put o a (fieldBytes (fieldMeans (fieldIn s ranges (k + i)))) (entrySize ranges (k + i)) o₁ r
       → Left o₀ at₀ bs₀ n₀ o₁ r (fieldsBytes (map fieldMeans (fieldsIn s ranges (k + (i + 1)) (n - (i + 1))))) (fieldsSize ranges (k + (i + 1)) (n - (i + 1)))
-  left-field i h l p = left-more (fields-bytes-more i h) (size-more ranges k n i h) l p
+  left-field i h l p = left-turn l (fields-bytes-more i h, size-more ranges k n i h) p
 
   -- a section: their count first
   pub put-section : {o o₁ o₂ : List ℕ} {at a r size : ℕ} → size ≡ fieldsSize ranges k n → Put o at (intBytes size) (intLen size) o₁ a
       → Put o₁ a (fieldsBytes (map fieldMeans (fieldsIn s ranges k n))) (fieldsSize ranges k n) o₂ r
       → Put o at (sectionBytes (map fieldMeans (fieldsIn s ranges k n))) (sectionSize ranges k n) o₂ r
   unfolding sectionBytes
-  put-section e p q = put-as (counted-is _ _ (fields-length s ranges k n)) (put-then (rw e at p) q)
+  put-section e p q = put-as (counted-is _ _ (fields-length s ranges k n), refl) (put-then (rw e at p) q)
 
 -- the same section by other names of its numbers
 pub within-as : {l : ℕ} {ranges : List ℕ} {k k′ c c′ : ℕ} → k ≡ k′ → c ≡ c′ → FieldsWithin l ranges k′ c′ → FieldsWithin l ranges k c
@@ -206,14 +167,14 @@ module _ (s hs ns : List ℕ) (n : ℕ) where
       → Left o₀ at₀ bs₀ n₀ o a (informationalBytes (headsIn s hs ns i (n - i))) (headsSize hs ns i (n - i))
       → Put o a (intBytes status ++ sectionBytes (map fieldMeans (fieldsIn s hs k count))) (intLen status + sectionSize hs k count) o₁ r
       → Left o₀ at₀ bs₀ n₀ o₁ r (informationalBytes (headsIn s hs ns (i + 1) (n - (i + 1)))) (headsSize hs ns (i + 1) (n - (i + 1)))
-  left-head i h e f g l p = left-more (heads-bytes-more i h) (heads-size-more hs ns n i h) l (rw (e, f, g) at p)
+  left-head i h e f g l p = left-turn l (heads-bytes-more i h, heads-size-more hs ns n i h) (rw (e, f, g) at p)
 
 -- framing indicators
-zero-is : 0 ∷ [] ≡ intBytes 0
+zero-is : intBytes 0 ≡ 0 ∷ []
 unfolding intBytes intLen tagOf push
 zero-is = refl
 
-one-is : 1 ∷ [] ≡ intBytes 1
+one-is : intBytes 1 ≡ 1 ∷ []
 unfolding intBytes intLen tagOf push
 one-is = refl
 
@@ -221,12 +182,12 @@ module _ {o o₁ o₂ o₃ : List ℕ} {r₁ r₂ r₃ : ℕ} where
   pub put-request : (m : List ℕ) (scheme : ℕ) (a p : List ℕ) {o₄ o₅ : List ℕ} {i j k l r₄ r₅ : ℕ} → Put o 0 (0 ∷ []) 1 o₁ r₁ → Put o₁ r₁ (counted m) i o₂ r₂ → Put o₂ r₂ (counted (schemeBytes scheme)) j o₃ r₃
       → Put o₃ r₃ (counted a) k o₄ r₄ → Put o₄ r₄ (counted p) l o₅ r₅ → Put o 0 (controlBytes (request m scheme a p)) (1 + i + j + k + l) o₅ r₅
   unfolding controlBytes
-  put-request _ _ _ _ f m s a p = put-then (put-then (put-then (put-then (put-as zero-is f) m) s) a) p
+  put-request _ _ _ _ f m s a p = put-then (put-then (put-then (put-then (put-as (zero-is, refl) f) m) s) a) p
 
   pub put-response : (is : List Informational) (status : ℕ) {i j : ℕ} → Put o 0 (1 ∷ []) 1 o₁ r₁ → Put o₁ r₁ (informationalBytes is) i o₂ r₂ → Put o₂ r₂ (intBytes status) j o₃ r₃
       → Put o 0 (controlBytes (response is status)) (1 + i + j) o₃ r₃
   unfolding controlBytes
-  put-response _ _ f h s = put-then (put-then (put-as one-is f) h) s
+  put-response _ _ f h s = put-then (put-then (put-as (one-is, refl) f) h) s
 
 -- control data by the kind of message, and the whole message
 module _ (s : List ℕ) (r : Record) (hs ns : List ℕ) {o o₁ : List ℕ} {a : ℕ} where

@@ -9,6 +9,7 @@ use output::put_part;
 use output::put_text;
 use ranges::fields_before;
 use ranges::number_at;
+use ranges::put_chunks;
 ghost use mathlib.Core.Path.{_≡_};
 ghost use mathlib.Core.List.{List, map, _++_};
 ghost use Prim.Native.Nat.{ℕ, _+_, _*_, _≤_, _<_};
@@ -16,8 +17,8 @@ ghost use lib.ListN.{length};
 ghost use Rattle.octets.specs.Text.{lowerOf};
 ghost use Rattle.numbers.specs.Integer.{integerEnd, intLen, intBytes};
 ghost use Rattle.output.specs.Splice.{part, Put};
-ghost use Rattle.messages.specs.Meaning.{request, response, fieldMeans, contentOf};
-ghost use Rattle.ranges.specs.Entries.{fieldIn, fieldsIn, chunksIn, headsIn, partIn, controlIn, meaningIn, EntryWithin, FieldsWithin, HeadsWithin, ChunksWithin, MessageWithin};
+ghost use Rattle.messages.specs.Meaning.{request, response, fieldMeans};
+ghost use Rattle.ranges.specs.Entries.{fieldIn, fieldsIn, contentIn, headsIn, partIn, controlIn, meaningIn, EntryWithin, FieldsWithin, HeadsWithin, ChunksWithin, MessageWithin};
 ghost use Rattle.binary_writer.specs.Write.{counted, fieldBytes, fieldsBytes, sectionBytes, schemeBytes, informationalBytes, controlBytes, binaryOf};
 ghost use Rattle.binary_writer.specs.Sizes.{countedSize, entrySize, fieldsSize, sectionSize, headsSize, schemeSize, controlSize, messageSize};
 
@@ -37,22 +38,6 @@ fn put_counted_lower(out: &mut [u8], at: usize, s: &[u8], from: usize, len: usiz
 {
     let a = put_int(out, at, len);
     put_lower(out, a, s, from, len)
-}
-
-// The first n chunks one behind the other.
-fn put_chunks(out: &mut [u8], at: usize, s: &[u8], chunks: &[u32], n: usize) -> usize
-    requires { ⌜ ChunksWithin (length (now s)) (now chunks) n × (at + length (contentOf (chunksIn (now s) (now chunks) 0 n)) ≤ length (now out)) ⌝ }
-    ensures { λ r. ⌜ Put (now (out .entry)) at (contentOf (chunksIn (now (s .entry)) (now (chunks .entry)) 0 n)) (length (contentOf (chunksIn (now (s .entry)) (now (chunks .entry)) 0 n))) (now (out .exit)) r ⌝ }
-{
-    let mut i = 0;
-    let mut a = at;
-    while i < n {
-        let from = number_at(chunks, i * 2);
-        let len = number_at(chunks, i * 2 + 1);
-        a = put_part(out, a, s, from, len);
-        i += 1;
-    }
-    a
 }
 
 // The name of a scheme with its count: 0 is http, any other https.
@@ -81,8 +66,8 @@ fn put_entry(out: &mut [u8], at: usize, s: &[u8], ranges: &[u32], k: usize) -> u
 
 // The content: its chunks one behind the other, with their count in front.
 fn put_content(out: &mut [u8], at: usize, s: &[u8], chunks: &[u32], n: usize, len: usize) -> usize
-    requires { ⌜ ChunksWithin (length (now s)) (now chunks) n × (length (contentOf (chunksIn (now s) (now chunks) 0 n)) ≡ len) × (len < integerEnd) × (at + countedSize len ≤ length (now out)) ⌝ }
-    ensures { λ r. ⌜ Put (now (out .entry)) at (counted (contentOf (chunksIn (now (s .entry)) (now (chunks .entry)) 0 n))) (countedSize len) (now (out .exit)) r ⌝ }
+    requires { ⌜ ChunksWithin (length (now s)) (now chunks) n × (length (contentIn (now s) (now chunks) n) ≡ len) × (len < integerEnd) × (at + countedSize len ≤ length (now out)) ⌝ }
+    ensures { λ r. ⌜ Put (now (out .entry)) at (counted (contentIn (now (s .entry)) (now (chunks .entry)) n)) (countedSize len) (now (out .exit)) r ⌝ }
 {
     let a = put_int(out, at, len);
     put_chunks(out, a, s, chunks, n)

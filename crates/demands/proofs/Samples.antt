@@ -11,6 +11,7 @@ use Rattle.numbers.specs.Places.{push}
 use Rattle.numbers.specs.Integer.{extraOf, readMore, readInt}
 use Rattle.numbers.specs.Digits.{charOf, moreOf, countOf, digits}
 use Rattle.messages.specs.declared.Told.{Told}
+use Rattle.messages.specs.Told.{plain}
 use Rattle.messages.specs.Control.{isUnsupported, methodVerdict, pathVerdict, authorityVerdict, isHost, isLowerName, isTrimmedValue}
 use Rattle.messages.specs.Names.{isHopByHop, kindOf, lineKind, sameKind, linesOf, kept, areTrailers, keptTrailers}
 use Rattle.messages.specs.Rules.{authorityFrom, authorityIn, framingFrom, binaryFramingOf, mayState}
@@ -29,7 +30,7 @@ unfolding isToken isValue isPath isAuthority classOf hasClass isBlank spanLen al
 computing = tt
 
 abbrev http : Told
-http = record { scheme = 0 }
+http = plain 0
 
 -- P5 of 01, of a scheme that is named
 abbrev postOf : List ℕ → List ℕ
@@ -58,7 +59,7 @@ no-response = (refl, (refl, tt))
 
 -- what each call answers, where 51 octets are written, and where 102 are
 abbrev after : ℕ → Space
-after n = record { string = lent; written = n }
+after n = record { whole = lent; written = n }
 
 pub answered : (answerIn http (after 0) post ≡ Done 51) × (answerIn http (after 51) [] ≡ Refused cutOff 0) × (answerIn http (after 51) (4 ∷ []) ≡ Refused badIndicator 0)
     × (answerIn http (after 51) (postOf (5 ∷ ascii "https")) ≡ Refused otherScheme 0) × (answerIn http (after 102) post ≡ Refused noRoom 0)

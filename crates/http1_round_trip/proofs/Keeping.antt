@@ -26,7 +26,9 @@ use Rattle.messages.specs.Meaning.{Field, fieldMeans, Informational, informatio
 use Rattle.messages.specs.Valid.{validFields, validHeads, noFields, validBody}
 use Rattle.messages.proofs.Valid.{section-fields, head-ok}
 use Rattle.messages.proofs.ValidLines as laws
-use Rattle.http1_writer.specs.Write.{fieldText, sectionText, statusLine, hostField, lengthField, codingField}
+use Rattle.http1_writer.specs.declared.LengthLine.{LengthLine}
+use Rattle.http1_writer.specs.declared.LengthLine.the-variants as line
+use Rattle.http1_writer.specs.Write.{fieldText, sectionText, statusLine, hostField, lengthField, codingField, lineFor, lengthFields}
 use Rattle.http1_round_trip.proofs.Placed.{lineAt, linesAt, headsAt}
 use Rattle.http1_round_trip.proofs.Lines.{length-line, coding-line}
 use Rattle.http1_round_trip.proofs.Sections.{LinesOk, fields-ok}
@@ -74,13 +76,24 @@ coding-kind : (at : ℕ) → lineKind (lineAt at codingField) ≡ kind.TransferE
 unfolding codingField lineKind kindOf sameText lowerOf
 coding-kind at = refl
 
--- ---- the length line, by two tests: no trailers follow; the message goes without
+-- ---- the length line
 
-abbrev pub leadOf : Bool → Bool → ℕ → List Field
-leadOf t u n = cond t (cond u [] (lengthField n ∷ [])) (codingField ∷ [])
+-- what a reader learns from it, where it stands at the place p
+abbrev framingFor : LengthLine → ℕ → Framing
+framingFor line.Nothing p = Unstated
+framingFor (line.Length n) p = Stated n p
+framingFor line.Chunked p = Chunked
 
-abbrev framingFor : Bool → Bool → ℕ → ℕ → Framing
-framingFor t u n p = cond t (cond u Unstated (Stated n p)) Chunked
+-- it tells of no more content than there may be
+abbrev Small : LengthLine → Type 0
+Small line.Nothing = Unit {0}
+Small (line.Length n) = n ≤ contentMost
+Small line.Chunked = Unit {0}
+
+small-line : (t u : Bool) (n : ℕ) → n ≤ contentMost → Small (lineFor t u n)
+small-line true true n h = tt
+small-line true false n h = h
+small-line false u n h = tt
 
 length-said : (n p : ℕ) → n ≤ contentMost → framingFrom (lineAt p (lengthField n) ∷ []) [] ≡ Stated n p
 unfolding framingFrom lengthField
@@ -92,26 +105,26 @@ coding-said : (p : ℕ) → framingFrom [] (lineAt p codingField ∷ []) ≡ Chu
 unfolding framingFrom codingField sameText lowerOf
 coding-said p = refl
 
-module _ (host : Bool) (fs : List Field) (v : validFields host fs ≡ true) (n : ℕ) where
-  pub lead-ok : (t u : Bool) → LinesOk (leadOf t u n ++ fs)
-  lead-ok true true = fields-ok host fs v
-  lead-ok true false = (length-line n, fields-ok host fs v)
-  lead-ok false u = (coding-line, fields-ok host fs v)
+module _ (host : Bool) (fs : List Field) (v : validFields host fs ≡ true) where
+  pub lead-ok : (l : LengthLine) → LinesOk (lengthFields l ++ fs)
+  lead-ok line.Nothing = fields-ok host fs v
+  lead-ok (line.Length n) = (length-line n, fields-ok host fs v)
+  lead-ok line.Chunked = (coding-line, fields-ok host fs v)
 
-  lead-kept : (t u : Bool) (at : ℕ) → map fieldMeans (kept host (linesAt at (leadOf t u n ++ fs))) ≡ fs
+  lead-kept : (l : LengthLine) (at : ℕ) → map fieldMeans (kept host (linesAt at (lengthFields l ++ fs))) ≡ fs
   unfolding kept linesAt
-  lead-kept true true at = fields-back host fs at v
-  lead-kept true false at = rw (length-kind n at) (fields-back host fs _ v)
-  lead-kept false u at = rw (coding-kind at) (fields-back host fs _ v)
+  lead-kept line.Nothing at = fields-back host fs at v
+  lead-kept (line.Length n) at = rw (length-kind n at) (fields-back host fs _ v)
+  lead-kept line.Chunked at = rw (coding-kind at) (fields-back host fs _ v)
 
-  lead-framing : n ≤ contentMost → (t u : Bool) (at : ℕ) → framingOf (linesAt at (leadOf t u n ++ fs)) ≡ framingFor t u n at
+  lead-framing : (l : LengthLine) → Small l → (at : ℕ) → framingOf (linesAt at (lengthFields l ++ fs)) ≡ framingFor l at
   unfolding framingOf linesOf linesAt sameKind
-  lead-framing h true true at = unstated host fs at v
-  lead-framing h true false at =
+  lead-framing line.Nothing h at = unstated host fs at v
+  lead-framing (line.Length n) h at =
       let ls : List FieldRead = linesAt (at + length (fieldText (lengthField n))) fs in
       let o = lines-valid host fs (at + length (fieldText (lengthField n))) v in
       rw (length-kind n at, laws.no-lengths host ls o, laws.no-codings host ls o) (length-said n at h)
-  lead-framing h false u at =
+  lead-framing line.Chunked h at =
       let ls : List FieldRead = linesAt (at + length (fieldText codingField)) fs in
       let o = lines-valid host fs (at + length (fieldText codingField)) v in
       rw (coding-kind at, laws.no-lengths host ls o, laws.no-codings host ls o) (coding-said at)
@@ -126,14 +139,14 @@ unfolding isEmpty
 no-octets c e = sym (eqb-true (length c) 0 e)
 
 module _ (c : List ℕ) (h : length c ≤ contentMost) (end p : ℕ) where
-  request-body : (t u : Bool) → isEmpty c ≡ u → requestBody end (framingFor t u (length c) p) ≡ good (cond t (Sized (length c)) InChunks)
+  request-body : (t u : Bool) → isEmpty c ≡ u → requestBody end (framingFor (lineFor t u (length c)) p) ≡ good (cond t (Sized (length c)) InChunks)
   unfolding requestBody
   request-body true true e = ap (λ (z : ℕ). good (Sized z)) (no-octets c e)
   request-body true false e = rw (le-leb (length c) contentMost h)
   request-body false u e = refl
 
   response-body : (s : ℕ) (t u : Bool) → isBodyless s ≡ u → cond u (isEmpty c && t) true ≡ true
-      → responseBody s end (framingFor t u (length c) p) ≡ good (cond t (Sized (length c)) InChunks)
+      → responseBody s end (framingFor (lineFor t u (length c)) p) ≡ good (cond t (Sized (length c)) InChunks)
   unfolding responseBody nothingStated contentBody requestBody
   response-body s true true e v = rw e (ap (λ (z : ℕ). good (Sized z)) (no-octets c (and-split (isEmpty c) true v .0)))
   response-body s true false e v = rw (e, le-leb (length c) contentMost h)
@@ -159,41 +172,48 @@ module _ (a : List ℕ) (at : ℕ) (ls : List FieldRead) where
   unfolding authorityIn authorityFrom sameKind hostField isEmpty
   host-found end e h = rw (host-of kind.Host, e, h)
 
-lead-hosts : (fs : List Field) → validFields false fs ≡ true → (n : ℕ) (t u : Bool) (at : ℕ) → linesOf kind.Host (linesAt at (leadOf t u n ++ fs)) ≡ []
+lead-hosts : (fs : List Field) → validFields false fs ≡ true → (l : LengthLine) (at : ℕ) → linesOf kind.Host (linesAt at (lengthFields l ++ fs)) ≡ []
 unfolding linesOf linesAt sameKind
-lead-hosts fs v n true true at = no-hosts fs at v
-lead-hosts fs v n true false at = rw (length-kind n at) (no-hosts fs (at + length (fieldText (lengthField n))) v)
-lead-hosts fs v n false u at = rw (coding-kind at) (no-hosts fs (at + length (fieldText codingField)) v)
+lead-hosts fs v line.Nothing at = no-hosts fs at v
+lead-hosts fs v (line.Length n) at = rw (length-kind n at) (no-hosts fs (at + length (fieldText (lengthField n))) v)
+lead-hosts fs v line.Chunked at = rw (coding-kind at) (no-hosts fs (at + length (fieldText codingField)) v)
+
+-- the length line of a request, and of a final response
+abbrev pub requestLength : List ℕ → List Field → LengthLine
+requestLength c ts = lineFor (noFields ts) (isEmpty c) (length c)
+
+abbrev pub responseLength : ℕ → List ℕ → List Field → LengthLine
+responseLength s c ts = lineFor (noFields ts) (isBodyless s) (length c)
 
 -- a request's head: the authority is found, the content is told, the fields are kept
 abbrev pub requestLines : List ℕ → List Field → List ℕ → List Field → List Field
-requestLines a fs c ts = hostField a ∷ (leadOf (noFields ts) (isEmpty c) (length c) ++ fs)
+requestLines a fs c ts = hostField a ∷ (lengthFields (requestLength c ts) ++ fs)
 
 module _ (a : List ℕ) (fs : List Field) (c : List ℕ) (ts : List Field) (at : ℕ) (v : validFields false fs ≡ true) where
   pub request-host : (end : ℕ) → isHost a ≡ true → authorityIn end (piece 0 []) (linesAt at (requestLines a fs c ts)) ≡ good (piece (at + 6) a)
   unfolding linesAt
-  request-host end h = host-found a at _ end (lead-hosts fs v (length c) (noFields ts) (isEmpty c) _) h
+  request-host end h = host-found a at _ end (lead-hosts fs v (requestLength c ts) _) h
 
   pub request-told : (end : ℕ) → length c ≤ contentMost → requestBody end (framingOf (linesAt at (requestLines a fs c ts))) ≡ good (bodyFor c ts)
   unfolding linesAt
   request-told end h =
-      ap (requestBody end) (host-framing a at _ ∙ lead-framing false fs v (length c) h (noFields ts) (isEmpty c) _)
+      ap (requestBody end) (host-framing a at _ ∙ lead-framing false fs v (requestLength c ts) (small-line (noFields ts) (isEmpty c) (length c) h) _)
       ∙ request-body c h end _ (noFields ts) (isEmpty c) refl
 
   pub request-kept : map fieldMeans (kept false (linesAt at (requestLines a fs c ts))) ≡ fs
   unfolding linesAt
-  request-kept = ap (map fieldMeans) (host-kept a at _) ∙ lead-kept false fs v (length c) (noFields ts) (isEmpty c) _
+  request-kept = ap (map fieldMeans) (host-kept a at _) ∙ lead-kept false fs v (requestLength c ts) _
 
 -- a final response's head
 abbrev pub responseLines : ℕ → List Field → List ℕ → List Field → List Field
-responseLines s fs c ts = leadOf (noFields ts) (isBodyless s) (length c) ++ fs
+responseLines s fs c ts = lengthFields (responseLength s c ts) ++ fs
 
 module _ (s : ℕ) (fs : List Field) (c : List ℕ) (ts : List Field) (at : ℕ) (v : validFields true fs ≡ true) where
   pub response-told : (end : ℕ) → length c ≤ contentMost → validBody (not (isBodyless s)) c ts ≡ true
       → responseBody s end (framingOf (linesAt at (responseLines s fs c ts))) ≡ good (bodyFor c ts)
   unfolding validBody
   response-told end h b =
-      ap (responseBody s end) (lead-framing true fs v (length c) h (noFields ts) (isBodyless s) at)
+      ap (responseBody s end) (lead-framing true fs v (responseLength s c ts) (small-line (noFields ts) (isBodyless s) (length c) h) at)
       ∙ response-body c h end at s (noFields ts) (isBodyless s) refl (flip (isBodyless s) b)
     where
       flip : (u : Bool) → cond (not u) true (isEmpty c && noFields ts) ≡ true → cond u (isEmpty c && noFields ts) true ≡ true
@@ -201,4 +221,4 @@ module _ (s : ℕ) (fs : List Field) (c : List ℕ) (ts : List Field) (at : ℕ)
       flip false e = e
 
   pub response-kept : map fieldMeans (kept true (linesAt at (responseLines s fs c ts))) ≡ fs
-  response-kept = lead-kept true fs v (length c) (noFields ts) (isBodyless s) at
+  response-kept = lead-kept true fs v (responseLength s c ts) at

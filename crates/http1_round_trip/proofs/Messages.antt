@@ -24,7 +24,7 @@ use Rattle.http1_writer.specs.Write.{crlf, sectionText, requestLine, statusLine
 use Rattle.http1_round_trip.proofs.Placed.{linesAt, headAt, headsAt, placedFrom}
 use Rattle.http1_round_trip.proofs.Lines.{host-line, request-clean, request-good, statusWord, status-clean, status-good}
 use Rattle.http1_round_trip.proofs.Sections.{reads-from, reads-as, fields-ok, reads-section}
-use Rattle.http1_round_trip.proofs.Keeping.{unstated, lead-ok, requestLines, request-host, request-told, responseLines, response-told}
+use Rattle.http1_round_trip.proofs.Keeping.{unstated, lead-ok, requestLength, requestLines, request-host, request-told, responseLength, responseLines, response-told}
 use Rattle.http1_round_trip.proofs.Body.{TrailersOk, reads-body}
 
 -- ---- requests
@@ -43,7 +43,7 @@ reads-request t m a p fs c ts at hm ha hp v few ok lines fit =
     let k = request-clean m p hm hp in
     reads-bind _ (reads-word (lineWithin headMost) at w (k .lf, k .cr, omega arith))
     (before _ (reads-tell _ _ _ (request-good m p hm hp at))
-    (reads-bind _ (reads-section (requestLines a fs c ts) (headMost - (length w + 2)) _ (host-line a ha, lead-ok false fs v (length c) (noFields ts) (isEmpty c)) lines (omega arith))
+    (reads-bind _ (reads-section (requestLines a fs c ts) (headMost - (length w + 2)) _ (host-line a ha, lead-ok false fs v (requestLength c ts)) lines (omega arith))
     (before _ (reads-tell _ _ _ (request-host a fs c ts _ v _ ha))
     (before _ (reads-tell _ _ _ (request-told a fs c ts _ v _ few))
     (behind _ (reads-body c ts _ few ok) (reads-done _ _))))))
@@ -98,7 +98,7 @@ module _ (s : ℕ) (fs : List Field) (c : List ℕ) (ts : List Field)
       reads-bind _ (reads-word (lineWithin left) at w (k .lf, k .cr, omega arith))
       (before _ (reads-tell _ _ _ (status-good s at verdict))
       (rw late
-      (reads-bind _ (reads-section final (left - (length w + 2)) _ (lead-ok true fs v (length c) (noFields ts) (isBodyless s)) lines (omega arith))
+      (reads-bind _ (reads-section final (left - (length w + 2)) _ (lead-ok true fs v (responseLength s c ts)) lines (omega arith))
       (before _ (reads-tell _ _ _ (response-told s fs c ts _ v _ few body))
       (behind _ (reads-body c ts _ few ok) (reads-done _ _))))))
 

@@ -4,6 +4,7 @@ use Rattle.octets.specs.Text.{isEmpty}
 use Rattle.numbers.specs.Places.{push}
 use Rattle.numbers.specs.Digits.{charOf, moreOf, countOf, digits}
 use Rattle.messages.specs.Control.{isBodyless}
+use Rattle.messages.specs.Told.{plain}
 use Rattle.messages.proofs.Samples.{post, reply, post-valid, reply-valid}
 use Rattle.http1_writer.specs.Write.{fieldText, sectionText, requestLine, statusLine, hostField, lengthField, codingField, lengthLine, headLines, informationalText, headText, http1Fits}
 use Rattle.http1_round_trip.specs.RoundTrip.{RequestOf, ResponseOf}
@@ -12,7 +13,7 @@ unfoldable computing : Unit {0}
 unfolding isEmpty isBodyless push charOf moreOf countOf digits fieldText sectionText requestLine statusLine hostField lengthField codingField lengthLine headLines informationalText headText http1Fits
 computing = tt
 
-pub post-fits : RequestOf (record { scheme = 1 }) post
+pub post-fits : RequestOf (plain 1) post
 unfolding computing
 post-fits = (post-valid, refl, refl)
 

@@ -1,56 +1,21 @@
--- The body of a message by its numbers: turns of the loop over chunks, and the two forms of a body.
+-- The body of a message by its numbers: its chunk, and the two forms of a body.
 -- Assumes nothing.
-use Prim.Native.Nat.{ℕ, zero, suc, _+_, _-_, _*_, _≤_, _<_}
+use Prim.Native.Nat.{ℕ, zero, suc, _+_}
 use mathlib.Core.Path.{_≡_, refl, sym, ap, _∙_}
 use mathlib.Core.Bool.{Bool, true, false, cond}
 use mathlib.Core.List.{List, [], _++_}
-use native.Mathlib.Nat.{sub-zero}
 use native.Mathlib.Omega.{arith}
 use borrow.Author.Tests.{ne-eqb}
 use lib.Dec.{eqb}
-use lib.ListN.{length, getD, length-append}
+use lib.ListN.{length, length-append}
 use Rattle.octets.specs.Ascii.{ascii}
 use Rattle.octets.specs.Text.{isEmpty}
 use Rattle.numbers.specs.Digits.{digits, countOf}
 use Rattle.numbers.proofs.DigitLaws.{digits-length}
-use Rattle.output.specs.Splice.{part, Put, Left}
-use Rattle.output.proofs.Laws.{left-start, elements-length}
-use Rattle.messages.specs.Meaning.{contentOf}
-use Rattle.ranges.specs.Entries.{fieldsIn, chunksIn, ChunksWithin}
+use Rattle.ranges.specs.Entries.{fieldsIn}
 use Rattle.http1_writer.specs.Write.{crlf, sectionText, chunkText, chunkedText, bodyText}
 use Rattle.http1_writer.specs.Numbered.{fieldsNamed, sectionSize, chunkSize, bodySize}
 use Rattle.http1_writer.proofs.Turns.{section-length}
-
-module _ (s cs : List ℕ) where
-  -- what is left of n chunks, of which i are done
-  abbrev pub contentLeft : ℕ → ℕ → List ℕ
-  contentLeft n i = contentOf (chunksIn s cs i (n - i))
-
-  abbrev pub ContentLeft : ℕ → List ℕ → ℕ → List ℕ → ℕ → ℕ → Type 0
-  ContentLeft n o₀ at₀ o at i =
-      Left o₀ at₀ (contentOf (chunksIn s cs 0 n)) (length (contentOf (chunksIn s cs 0 n))) o at (contentLeft n i) (length (contentLeft n i))
-
-  module _ (n : ℕ) where
-    pub content-start : (o : List ℕ) (at : ℕ) → ContentLeft n o at o at 0
-    content-start o at = rw sub-zero (left-start o at (contentOf (chunksIn s cs 0 n)) (length (contentOf (chunksIn s cs 0 n))))
-
-    -- the chunk i, by the numbers that the code has of it, and the others
-    pub content-next : (i start len : ℕ) → i < n → start ≡ getD cs (i * 2) 0 → len ≡ getD cs (i * 2 + 1) 0
-        → (contentLeft n i ≡ part s start len ++ contentLeft n (i + 1)) × (length (contentLeft n i) ≡ len + length (contentLeft n (i + 1)))
-    unfolding contentOf chunksIn
-    content-next i start len h es el =
-        let q = split in
-        (q, ap length q ∙ length-append (part s start len) (contentLeft n (i + 1)) ∙ rw (elements-length 0 s start len))
-      where
-        split : contentLeft n i ≡ part s start len ++ contentLeft n (i + 1)
-        split = let e : n - i ≡ suc (n - (i + 1)) = omega arith in rw (es, el, e)
-
-    pub content-none : (i : ℕ) → n ≤ i → (contentLeft n i ≡ []) × (length (contentLeft n i) ≡ 0)
-    unfolding contentOf chunksIn
-    content-none i h = let e : n - i ≡ 0 = omega arith in rw e (refl, refl)
-
-pub chunk-within : {l n i start len : ℕ} {cs : List ℕ} → ChunksWithin l cs n → i < n → start ≡ getD cs (i * 2) 0 → len ≡ getD cs (i * 2 + 1) 0 → start + len ≤ l
-chunk-within {l} {n} {i} {start} {len} {cs} w h es el = omega (arith, w .each i h)
 
 -- ---- one chunk
 
@@ -100,7 +65,3 @@ module _ (s ts w : List ℕ) (n : ℕ) (e : length w ≡ n) where
       ap length (h .0)
       ∙ simp length-append (omega (arith, chunk-long, section-length s ts 0 (suc c)))
       ∙ sym (h .1)
-
--- a write said in other words
-pub put-as : {o o₁ a b : List ℕ} {at m n r : ℕ} → (b ≡ a) × (n ≡ m) → Put o at a m o₁ r → Put o at b n o₁ r
-put-as e p = rw (e .0, e .1) p

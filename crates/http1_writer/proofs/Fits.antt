@@ -6,27 +6,28 @@ use mathlib.Core.Bool.{true, false}
 use mathlib.Core.List.{List}
 use borrow.Author.Tests.{ne-eqb}
 use lib.Dec.{eqb, leb}
-use lib.ListN.{length}
 use Rattle.octets.specs.Limits.{headMost, linesMost, trailerMost}
+use Rattle.messages.specs.declared.Told.{Told}
 use Rattle.messages.specs.declared.Record.{Record}
-use Rattle.http1_writer.specs.Numbered.{sectionSize, lengthFields, headCount, trailersFit, fitsIn, connectedIn}
+use Rattle.http1_writer.specs.declared.LengthLine.{LengthLine}
+use Rattle.http1_writer.specs.Numbered.{sectionSize, lengthCount, headCount, trailersFit, fitsIn, connectedIn}
 
 module _ (r : Record) where
-  pub connected-response : (scheme : ℕ) → r .response ≡ true → true ≡ connectedIn scheme r
+  pub connected-response : (t : Told) → r .response ≡ true → true ≡ connectedIn t r
   unfolding connectedIn
-  connected-response scheme e = rw e
+  connected-response t e = rw e
 
-  pub connected-request : (scheme : ℕ) → r .response ≡ false → eqb (r .scheme) scheme ≡ connectedIn scheme r
+  pub connected-request : (t : Told) → r .response ≡ false → eqb (r .scheme) (t .scheme) ≡ connectedIn t r
   unfolding connectedIn
-  connected-request scheme e = rw e
+  connected-request t e = rw e
 
-  pub count-response : r .response ≡ true → headCount r ≡ 0 + length (lengthFields r) + r .headers
+  pub count-response : (l : LengthLine) → r .response ≡ true → headCount r l ≡ 0 + lengthCount l + r .headers
   unfolding headCount
-  count-response e = rw e
+  count-response l e = rw e
 
-  pub count-request : r .response ≡ false → headCount r ≡ 1 + length (lengthFields r) + r .headers
+  pub count-request : (l : LengthLine) → r .response ≡ false → headCount r l ≡ 1 + lengthCount l + r .headers
   unfolding headCount
-  count-request e = rw e
+  count-request l e = rw e
 
 module _ (ts : List ℕ) (count : ℕ) where
   pub trailers-none : count ≡ 0 → true ≡ trailersFit ts count
@@ -38,15 +39,15 @@ module _ (ts : List ℕ) (count : ℕ) where
   trailers-some z = rw (ne-eqb count 0 z)
 
 -- the three tests one after the other
-module _ (head : ℕ) (r : Record) (ts : List ℕ) where
-  pub fits-head : leb head headMost ≡ false → false ≡ fitsIn head r ts
+module _ (head : ℕ) (r : Record) (l : LengthLine) (ts : List ℕ) where
+  pub fits-head : leb head headMost ≡ false → false ≡ fitsIn head r l ts
   unfolding fitsIn
   fits-head e = rw e
 
-  pub fits-lines : leb head headMost ≡ true → leb (headCount r) linesMost ≡ false → false ≡ fitsIn head r ts
+  pub fits-lines : leb head headMost ≡ true → leb (headCount r l) linesMost ≡ false → false ≡ fitsIn head r l ts
   unfolding fitsIn
   fits-lines e f = rw (e, f)
 
-  pub fits-trailers : leb head headMost ≡ true → leb (headCount r) linesMost ≡ true → trailersFit ts (r .trailers) ≡ fitsIn head r ts
+  pub fits-trailers : leb head headMost ≡ true → leb (headCount r l) linesMost ≡ true → trailersFit ts (r .trailers) ≡ fitsIn head r l ts
   unfolding fitsIn
   fits-trailers e f = rw (e, f)

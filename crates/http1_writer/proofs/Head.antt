@@ -7,7 +7,9 @@ use mathlib.Core.List.{List, [], _++_}
 use Rattle.messages.specs.declared.Record.{Record}
 use Rattle.ranges.specs.Entries.{headsIn, partIn, fieldsBefore}
 use Rattle.http1_writer.specs.Write.{fieldText, sectionText, requestLine, statusLine, informationalText, hostField}
-use Rattle.http1_writer.specs.Numbered.{headsSize, statusSize, requestSize, hostSize, leadTextIn, leadSize, lengthFields, linesText, lengthSize, headTextIn, headSize, fieldsNamed, sectionSize}
+use Rattle.http1_writer.specs.declared.LengthLine.{LengthLine}
+use Rattle.http1_writer.specs.Numbered.{fieldsNamed, sectionSize, headsSize, statusSize, requestSize, hostSize, leadTextIn, leadSize}
+use Rattle.http1_writer.specs.Numbered.{lengthText, lengthSize, headTextIn, headSize}
 
 module _ (s : List ℕ) (r : Record) (hs ns : List ℕ) where
   pub lead-response : r .response ≡ true
@@ -23,8 +25,8 @@ module _ (s : List ℕ) (r : Record) (hs ns : List ℕ) where
   lead-request e = (rw e, rw e)
 
   -- a head in its three parts, from the entry k of its first field on
-  pub head-parts : (k : ℕ) → k ≡ fieldsBefore ns (r .informational)
-      → (headTextIn s r hs ns ≡ leadTextIn s r hs ns ++ linesText (lengthFields r) ++ sectionText (fieldsNamed s hs k (r .headers)))
-      × (headSize r hs ns ≡ leadSize r hs ns + lengthSize r + sectionSize hs k (r .headers))
+  pub head-parts : (l : LengthLine) (k : ℕ) → k ≡ fieldsBefore ns (r .informational)
+      → (headTextIn s r l hs ns ≡ leadTextIn s r hs ns ++ lengthText l ++ sectionText (fieldsNamed s hs k (r .headers)))
+      × (headSize r l hs ns ≡ leadSize r hs ns + lengthSize l + sectionSize hs k (r .headers))
   unfolding headTextIn headSize
-  head-parts k e = (rw e, rw e)
+  head-parts l k e = (rw e, rw e)

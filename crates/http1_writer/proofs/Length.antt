@@ -1,18 +1,22 @@
--- The length line by its numbers: its three cases.
+-- The length line by its numbers: which it is, and its three cases.
 -- Assumes nothing.
 use Prim.Native.Nat.{ℕ, _+_}
-use mathlib.Core.Path.{_≡_}
+use mathlib.Core.Path.{_≡_, refl}
 use mathlib.Core.Bool.{true, false}
 use mathlib.Core.List.{List, [], _++_, append-nil}
 use borrow.Author.Tests.{ne-eqb}
+use native.Mathlib.Omega.{arith}
 use lib.Dec.{eqb}
-use lib.ListN.{length}
+use lib.ListN.{length, length-append}
 use Rattle.octets.specs.Ascii.{ascii}
 use Rattle.numbers.specs.Digits.{digits, countOf}
+use Rattle.numbers.proofs.DigitLaws.{digits-length}
 use Rattle.messages.specs.declared.Record.{Record}
 use Rattle.messages.specs.Control.{isBodyless}
 use Rattle.http1_writer.specs.Write.{crlf, fieldText, lengthField, codingField}
-use Rattle.http1_writer.specs.Numbered.{unmeasuredIn, lengthFields, linesText, lengthSize}
+use Rattle.http1_writer.specs.Numbered.{unmeasuredIn, lengthLineIn, linesText, lengthText, lengthSize, lengthCount}
+use Rattle.http1_writer.specs.declared.LengthLine.{LengthLine}
+use Rattle.http1_writer.specs.declared.LengthLine.the-variants.{Nothing, Length, Chunked}
 
 -- whether there is one
 pub unmeasured-response : (r : Record) → r .response ≡ true → isBodyless (r .status) ≡ unmeasuredIn r
@@ -23,21 +27,34 @@ pub unmeasured-request : (r : Record) → r .response ≡ false → eqb (r .cont
 unfolding unmeasuredIn
 unmeasured-request r e = rw e
 
--- a record's length line: what is written, how long it is, how many lines it is
-pub record LengthIs (r : Record) (w : List ℕ) (n k : ℕ) : Type 0 where
-  pub text : linesText (lengthFields r) ≡ w
-  pub size : lengthSize r ≡ n
-  pub count : length (lengthFields r) ≡ k
-
+-- which it is
 module _ (r : Record) where
-  pub length-none : r .trailers ≡ 0 → unmeasuredIn r ≡ true → LengthIs r [] 0 0
-  unfolding lengthFields linesText lengthSize unmeasuredIn
-  length-none z u = record { text = rw (z, u); size = rw (z, u); count = rw (z, u) }
+  pub line-none : r .trailers ≡ 0 → unmeasuredIn r ≡ true → Nothing ≡ lengthLineIn r
+  unfolding lengthLineIn
+  line-none z u = rw (z, u)
 
-  pub length-plain : r .trailers ≡ 0 → unmeasuredIn r ≡ false → LengthIs r (ascii "content-length: " ++ digits 10 (r .content) ++ crlf) (16 + countOf 10 (r .content) + 2) 1
-  unfolding lengthFields linesText lengthSize fieldText lengthField unmeasuredIn digits
-  length-plain z u = record { text = rw (z, u, append-nil); size = rw (z, u); count = rw (z, u) }
+  pub line-length : r .trailers ≡ 0 → unmeasuredIn r ≡ false → Length (r .content) ≡ lengthLineIn r
+  unfolding lengthLineIn
+  line-length z u = rw (z, u)
 
-  pub length-coded : (r .trailers ≡ 0 → ⊥) → LengthIs r (ascii "transfer-encoding: chunked\r\n") 28 1
-  unfolding lengthFields linesText lengthSize fieldText codingField
-  length-coded z = let e = ne-eqb (r .trailers) 0 z in record { text = rw e; size = rw e; count = rw e }
+  pub line-chunked : (r .trailers ≡ 0 → ⊥) → Chunked ≡ lengthLineIn r
+  unfolding lengthLineIn
+  line-chunked z = rw (ne-eqb (r .trailers) 0 z)
+
+-- a length line: what is written, how long it is, how many lines it is
+pub record LengthIs (l : LengthLine) (w : List ℕ) (n k : ℕ) : Type 0 where
+  pub text : lengthText l ≡ w
+  pub size : lengthSize l ≡ n
+  pub count : lengthCount l ≡ k
+
+pub is-none : {l : LengthLine} → l ≡ Nothing → LengthIs l [] 0 0
+unfolding lengthText lengthSize lengthCount linesText
+is-none e = rw e (record { text = refl; size = refl; count = refl })
+
+pub is-length : {l : LengthLine} {n : ℕ} → l ≡ Length n → LengthIs l (ascii "content-length: " ++ digits 10 n ++ crlf) (16 + countOf 10 n + 2) 1
+unfolding lengthText lengthSize lengthCount linesText fieldText lengthField
+is-length {l} {n} e = rw e (record { text = append-nil _; size = simp (length-append, digits-length) (omega arith); count = refl })
+
+pub is-chunked : {l : LengthLine} → l ≡ Chunked → LengthIs l (ascii "transfer-encoding: chunked\r\n") 28 1
+unfolding lengthText lengthSize lengthCount linesText fieldText codingField
+is-chunked e = rw e (record { text = refl; size = refl; count = refl })

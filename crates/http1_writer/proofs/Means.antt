@@ -11,7 +11,6 @@ use lib.ListN.{length, length-append}
 use Rattle.octets.specs.Text.{isEmpty}
 use Rattle.octets.specs.Limits.{headMost, linesMost, trailerMost}
 use Rattle.octets.specs.Refusals.{tooLarge, otherScheme}
-use Rattle.numbers.specs.Digits.{countOf}
 use Rattle.numbers.proofs.DigitLaws.{digits-length}
 use Rattle.output.specs.Reply.{writes, refuses}
 use Rattle.output.proofs.Laws.{elements-length}
@@ -20,8 +19,10 @@ use Rattle.messages.specs.Control.{isBodyless}
 use Rattle.messages.specs.Meaning.{Field, contentOf}
 use Rattle.messages.specs.Valid.{noFields}
 use Rattle.ranges.specs.Entries.{fieldsIn, chunksIn, headsIn, partIn, controlIn, fieldsBefore, meaningIn}
-use Rattle.http1_writer.specs.Write.{fieldText, sectionText, requestLine, statusLine, informationalText, hostField, lengthField, codingField, unmeasured, lengthLine, hostLine, headLines, startText, headText, bodyText, http1Of, http1Fits, onConnection, toHttp1}
-use Rattle.http1_writer.specs.Numbered.{fieldsNamed, headsSize, statusSize, requestSize, hostSize, unmeasuredIn, lengthFields, linesText, lengthSize, leadTextIn, leadSize, headTextIn, headSize, headCount, trailersFit, fitsIn, connectedIn}
+use Rattle.messages.specs.declared.Told.{Told}
+use Rattle.http1_writer.specs.declared.LengthLine.{LengthLine}
+use Rattle.http1_writer.specs.Write.{fieldText, sectionText, requestLine, statusLine, informationalText, hostField, unmeasured, lineFor, lengthLine, lengthFields, hostLine, headLines, startText, headText, bodyText, http1Of, http1Fits, onConnection, toHttp1}
+use Rattle.http1_writer.specs.Numbered.{fieldsNamed, headsSize, statusSize, requestSize, hostSize, unmeasuredIn, lengthLineIn, linesText, lengthText, lengthSize, lengthCount, leadTextIn, leadSize, headTextIn, headSize, headCount, trailersFit, fitsIn, connectedIn}
 use Rattle.http1_writer.proofs.Turns.{section-length, heads-length}
 
 -- lines before a section
@@ -41,24 +42,10 @@ module _ (s fs : List ℕ) where
   no-fields zero = refl
   no-fields (suc n) = sym (ne-eqb (suc n) 0 (λ e. omega arith))
 
--- ---- the length line
-
-line-same : {a a′ b b′ : Bool} {n n′ : ℕ} → a ≡ a′ → b ≡ b′ → n ≡ n′
-    → cond a (cond b [] (lengthField n ∷ [])) (codingField ∷ []) ≡ cond a′ (cond b′ [] (lengthField n′ ∷ [])) (codingField ∷ [])
-line-same p q e = cc
-
-line-size : (a b : Bool) (n : ℕ)
-    → length (linesText (cond a (cond b [] (lengthField n ∷ [])) (codingField ∷ []))) ≡ cond a (cond b 0 (16 + countOf 10 n + 2)) 28
-unfolding linesText fieldText lengthField codingField
-line-size true true n = refl
-line-size true false n = simp (length-append, digits-length) (omega arith)
-line-size false b n = refl
-
-pub length-long : (r : Record) → length (linesText (lengthFields r)) ≡ lengthSize r
-unfolding lengthFields lengthSize
-length-long r = line-size (eqb (r .trailers) 0) (unmeasuredIn r) (r .content)
-
 -- ---- the head
+
+lines-same : {a a′ b b′ : Bool} {n n′ : ℕ} → a ≡ a′ → b ≡ b′ → n ≡ n′ → lineFor a b n ≡ lineFor a′ b′ n′
+lines-same p q e = cc
 
 module _ (s : List ℕ) (r : Record) (hs ns : List ℕ) where
   unmeasured-means : (b : Bool) (content : List ℕ) → length content ≡ r .content
@@ -100,12 +87,12 @@ module _ (s : List ℕ) (r : Record) (hs ns : List ℕ) where
       ∙ rw (heads-length s hs ns 0 (r .informational)) (simp (length-append, digits-length) (omega arith))
   lead-with false = simp (length-append, elements-length) (omega arith)
 
-  pub head-long : length (headTextIn s r hs ns) ≡ headSize r hs ns
-  unfolding headTextIn headSize leadTextIn leadSize
-  head-long =
+  pub head-long : (l : LengthLine) → length (headTextIn s r l hs ns) ≡ headSize r l hs ns
+  unfolding headTextIn headSize leadTextIn leadSize lengthSize
+  head-long l =
       let k = fieldsBefore ns (r .informational) in
-      length-append (leadTextIn s r hs ns ++ linesText (lengthFields r)) (sectionText (fieldsNamed s hs k (r .headers)))
-      ∙ rw (length-append (leadTextIn s r hs ns) (linesText (lengthFields r)), lead-with (r .response), length-long r, section-length s hs k (r .headers))
+      length-append (leadTextIn s r hs ns ++ lengthText l) (sectionText (fieldsNamed s hs k (r .headers)))
+      ∙ rw (length-append (leadTextIn s r hs ns) (lengthText l), lead-with (r .response), section-length s hs k (r .headers))
 
 -- ---- the whole message
 
@@ -118,48 +105,52 @@ to-same : {a a′ b b′ : Bool} (w : List ℕ) → a ≡ a′ → b ≡ b′
 to-same w p q = cc
 
 module _ (s : List ℕ) (r : Record) (hs ns cs ts : List ℕ) (e : length (contentOf (chunksIn s cs 0 (r .chunks))) ≡ r .content) where
-  length-means : lengthLine (meaningIn s r hs ns cs ts) ≡ lengthFields r
-  unfolding meaningIn lengthLine lengthFields unmeasuredIn
-  length-means = line-same (no-fields s ts (r .trailers)) (unmeasured-means s r hs ns (r .response) (contentOf (chunksIn s cs 0 (r .chunks))) e) e
+  -- the one decision: what the code decides by numbers is the length line of the meaning
+  length-means : lengthLine (meaningIn s r hs ns cs ts) ≡ lengthLineIn r
+  unfolding meaningIn lengthLine lengthLineIn unmeasuredIn
+  length-means = lines-same (no-fields s ts (r .trailers)) (unmeasured-means s r hs ns (r .response) (contentOf (chunksIn s cs 0 (r .chunks))) e) e
 
-  pub head-means : headText (meaningIn s r hs ns cs ts) ≡ headTextIn s r hs ns
-  unfolding meaningIn headText headLines headTextIn leadTextIn
-  head-means =
-      let h = fieldsNamed s hs (fieldsBefore ns (r .informational)) (r .headers) in
-      let c = controlIn (r .response) s r hs ns in
-      ap (λ (l : List Field). startText c ++ sectionText (hostLine c ++ l ++ h)) length-means ∙ head-with s r hs ns (r .response) (lengthFields r) h
+  -- for the length line l that was decided
+  module _ {l : LengthLine} (d : l ≡ lengthLineIn r) where
+    pub head-means : headText (meaningIn s r hs ns cs ts) ≡ headTextIn s r l hs ns
+    unfolding meaningIn headText headLines headTextIn leadTextIn lengthText
+    head-means =
+        let h = fieldsNamed s hs (fieldsBefore ns (r .informational)) (r .headers) in
+        let c = controlIn (r .response) s r hs ns in
+        ap (λ (x : LengthLine). startText c ++ sectionText (hostLine c ++ lengthFields x ++ h)) (length-means ∙ sym d)
+        ∙ head-with s r hs ns (r .response) (lengthFields l) h
 
-  pub count-means : length (headLines (meaningIn s r hs ns cs ts)) ≡ headCount r
-  unfolding meaningIn headLines headCount
-  count-means =
-      let h = fieldsNamed s hs (fieldsBefore ns (r .informational)) (r .headers) in
-      let c = controlIn (r .response) s r hs ns in
-      ap (λ (l : List Field). length (hostLine c ++ l ++ h)) length-means
-      ∙ count-with s r hs ns (r .response) (lengthFields r) h
-      ∙ ap (λ (n : ℕ). cond (r .response) 0 1 + length (lengthFields r) + n) (fields-count s hs (fieldsBefore ns (r .informational)) (r .headers))
+    pub count-means : length (headLines (meaningIn s r hs ns cs ts)) ≡ headCount r l
+    unfolding meaningIn headLines headCount lengthCount
+    count-means =
+        let h = fieldsNamed s hs (fieldsBefore ns (r .informational)) (r .headers) in
+        let c = controlIn (r .response) s r hs ns in
+        ap (λ (x : LengthLine). length (hostLine c ++ lengthFields x ++ h)) (length-means ∙ sym d)
+        ∙ count-with s r hs ns (r .response) (lengthFields l) h
+        ∙ ap (λ (n : ℕ). cond (r .response) 0 1 + length (lengthFields l) + n) (fields-count s hs (fieldsBefore ns (r .informational)) (r .headers))
 
-  pub http1-means : http1Of (meaningIn s r hs ns cs ts) ≡ headTextIn s r hs ns ++ bodyText (contentOf (chunksIn s cs 0 (r .chunks))) (fieldsNamed s ts 0 (r .trailers))
-  unfolding meaningIn http1Of
-  http1-means = ap (λ (h : List ℕ). h ++ bodyText (contentOf (chunksIn s cs 0 (r .chunks))) (fieldsNamed s ts 0 (r .trailers))) head-means
+    pub http1-means : http1Of (meaningIn s r hs ns cs ts) ≡ headTextIn s r l hs ns ++ bodyText (contentOf (chunksIn s cs 0 (r .chunks))) (fieldsNamed s ts 0 (r .trailers))
+    unfolding meaningIn http1Of
+    http1-means = ap (λ (h : List ℕ). h ++ bodyText (contentOf (chunksIn s cs 0 (r .chunks))) (fieldsNamed s ts 0 (r .trailers))) head-means
 
-  pub fits-means : http1Fits (meaningIn s r hs ns cs ts) ≡ fitsIn (headSize r hs ns) r ts
-  unfolding meaningIn http1Fits fitsIn trailersFit
-  fits-means =
-      fits-same
-      (ap length head-means ∙ head-long s r hs ns)
-      count-means
-      (no-fields s ts (r .trailers))
-      (section-length s ts 0 (r .trailers))
+    pub fits-means : http1Fits (meaningIn s r hs ns cs ts) ≡ fitsIn (headSize r l hs ns) r l ts
+    unfolding meaningIn http1Fits fitsIn trailersFit
+    fits-means =
+        fits-same
+        (ap length head-means ∙ head-long s r hs ns l)
+        count-means
+        (no-fields s ts (r .trailers))
+        (section-length s ts 0 (r .trailers))
 
-  connected-with : (scheme : ℕ) (b : Bool) → onConnection (record { scheme = scheme }) (controlIn b s r hs ns) ≡ cond b true (eqb (r .scheme) scheme)
-  connected-with scheme true = refl
-  connected-with scheme false = refl
+  connected-with : (t : Told) (b : Bool) → onConnection t (controlIn b s r hs ns) ≡ cond b true (eqb (r .scheme) (t .scheme))
+  connected-with t true = refl
+  connected-with t false = refl
 
   -- what is to be written, by the tests on numbers
-  pub to-means : (scheme : ℕ)
-      → toHttp1 (record { scheme = scheme }) (meaningIn s r hs ns cs ts)
-      ≡ cond (connectedIn scheme r)
-      (cond (fitsIn (headSize r hs ns) r ts) (writes (http1Of (meaningIn s r hs ns cs ts))) (refuses tooLarge 0))
+  pub to-means : (t : Told) {l : LengthLine} → l ≡ lengthLineIn r
+      → toHttp1 t (meaningIn s r hs ns cs ts)
+      ≡ cond (connectedIn t r)
+      (cond (fitsIn (headSize r l hs ns) r l ts) (writes (http1Of (meaningIn s r hs ns cs ts))) (refuses tooLarge 0))
       (refuses otherScheme 0)
   unfolding meaningIn toHttp1 connectedIn
-  to-means scheme = to-same (http1Of (meaningIn s r hs ns cs ts)) (connected-with scheme (r .response)) fits-means
+  to-means t d = to-same (http1Of (meaningIn s r hs ns cs ts)) (connected-with t (r .response)) (fits-means d)

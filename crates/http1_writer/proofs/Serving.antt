@@ -1,7 +1,7 @@
 -- What the writer answers and leaves, return by return.
 -- Assumes nothing.
 use Prim.Native.Nat.{ℕ, _+_, _≤_, _<_}
-use mathlib.Core.Path.{_≡_}
+use mathlib.Core.Path.{_≡_, refl}
 use mathlib.Core.Bool.{true, false}
 use mathlib.Core.List.{List, _++_}
 use native.Mathlib.Omega.{arith}
@@ -13,49 +13,51 @@ use Rattle.output.specs.declared.Written.{Written}
 use Rattle.output.specs.declared.Written.the-variants.{Done, Refused}
 use Rattle.output.proofs.Laws.{put-then}
 use Rattle.output.proofs.Serve.{serve-wrong, serve-small, serve-done}
+use Rattle.messages.specs.declared.Told.{Told}
 use Rattle.messages.specs.declared.Record.{Record}
 use Rattle.messages.specs.Meaning.{contentOf}
 use Rattle.ranges.specs.Entries.{chunksIn, meaningIn, MessageWithin}
 use Rattle.ranges.proofs.Entries.{held-means}
+use Rattle.http1_writer.specs.declared.LengthLine.{LengthLine}
 use Rattle.http1_writer.specs.Write.{bodyText, http1Of, toHttp1}
-use Rattle.http1_writer.specs.Numbered.{fieldsNamed, bodySize, headTextIn, headSize, fitsIn, connectedIn}
+use Rattle.http1_writer.specs.Numbered.{fieldsNamed, bodySize, lengthLineIn, headTextIn, headSize, fitsIn, connectedIn}
 use Rattle.http1_writer.specs.Promise.{Http1Written}
 use Rattle.http1_writer.proofs.Body.{body-long}
 use Rattle.http1_writer.proofs.Means.{head-long, http1-means, to-means}
 
-module _ {s : List ℕ} {r : Record} {hs ns cs ts : List ℕ} (w : MessageWithin s r hs ns cs ts) where
+module _ {s : List ℕ} {r : Record} {l : LengthLine} {hs ns cs ts : List ℕ} (w : MessageWithin s r hs ns cs ts) (d : l ≡ lengthLineIn r) where
   -- a message that may be written: the room is too small, or head and body are put
-  pub message-small : {o : List ℕ} → length o < headSize r hs ns + bodySize (r .content) ts (r .trailers)
+  pub message-small : {o : List ℕ} → length o < headSize r l hs ns + bodySize (r .content) ts (r .trailers)
       → Served (writes (http1Of (meaningIn s r hs ns cs ts))) o o (Refused noRoom 0)
   message-small {o} h =
       let b = bodyText (contentOf (chunksIn s cs 0 (r .chunks))) (fieldsNamed s ts 0 (r .trailers)) in
-      let l = length-append (headTextIn s r hs ns) b in
-      let k : length o < length (headTextIn s r hs ns ++ b) =
-      omega (arith, h, l, head-long s r hs ns, body-long s ts (contentOf (chunksIn s cs 0 (r .chunks))) (r .content) (w .content) (r .trailers)) in
-      rw (http1-means s r hs ns cs ts (w .content)) (serve-small k)
+      let e = length-append (headTextIn s r l hs ns) b in
+      let k : length o < length (headTextIn s r l hs ns ++ b) =
+      omega (arith, h, e, head-long s r hs ns l, body-long s ts (contentOf (chunksIn s cs 0 (r .chunks))) (r .content) (w .content) (r .trailers)) in
+      rw (http1-means s r hs ns cs ts (w .content) d) (serve-small k)
 
-  pub message-done : {o o₁ o₂ : List ℕ} {a z : ℕ} → headSize r hs ns + bodySize (r .content) ts (r .trailers) ≤ length o
-      → Put o 0 (headTextIn s r hs ns) (headSize r hs ns) o₁ a
+  pub message-done : {o o₁ o₂ : List ℕ} {a z : ℕ} → headSize r l hs ns + bodySize (r .content) ts (r .trailers) ≤ length o
+      → Put o 0 (headTextIn s r l hs ns) (headSize r l hs ns) o₁ a
       → Put o₁ a (bodyText (contentOf (chunksIn s cs 0 (r .chunks))) (fieldsNamed s ts 0 (r .trailers))) (bodySize (r .content) ts (r .trailers)) o₂ z
       → Served (writes (http1Of (meaningIn s r hs ns cs ts))) o o₂ (Done z)
-  message-done h p q = rw (http1-means s r hs ns cs ts (w .content)) (serve-done h (put-then p q))
+  message-done h p q = rw (http1-means s r hs ns cs ts (w .content) d) (serve-done h (put-then p q))
 
   -- the tests
-  module _ (scheme : ℕ) where
-    pub served-other : (o : List ℕ) → connectedIn scheme r ≡ false
-        → Served (toHttp1 (record { scheme = scheme }) (meaningIn s r hs ns cs ts)) o o (Refused otherScheme 0)
-    served-other o c = rw (to-means s r hs ns cs ts (w .content) scheme, c) (serve-wrong o otherScheme 0)
+  module _ (t : Told) where
+    pub served-large : (o : List ℕ) → connectedIn t r ≡ true → fitsIn (headSize r l hs ns) r l ts ≡ false
+        → Served (toHttp1 t (meaningIn s r hs ns cs ts)) o o (Refused tooLarge 0)
+    served-large o c f = rw (to-means s r hs ns cs ts (w .content) t d, c, f) (serve-wrong o tooLarge 0)
 
-    pub served-large : (o : List ℕ) → connectedIn scheme r ≡ true → fitsIn (headSize r hs ns) r ts ≡ false
-        → Served (toHttp1 (record { scheme = scheme }) (meaningIn s r hs ns cs ts)) o o (Refused tooLarge 0)
-    served-large o c f = rw (to-means s r hs ns cs ts (w .content) scheme, c, f) (serve-wrong o tooLarge 0)
-
-    pub served-fitting : {o o′ : List ℕ} {z : Written} → connectedIn scheme r ≡ true → fitsIn (headSize r hs ns) r ts ≡ true
+    pub served-fitting : {o o′ : List ℕ} {z : Written} → connectedIn t r ≡ true → fitsIn (headSize r l hs ns) r l ts ≡ true
         → Served (writes (http1Of (meaningIn s r hs ns cs ts))) o o′ z
-        → Served (toHttp1 (record { scheme = scheme }) (meaningIn s r hs ns cs ts)) o o′ z
-    served-fitting c f x = rw (to-means s r hs ns cs ts (w .content) scheme, c, f) x
+        → Served (toHttp1 t (meaningIn s r hs ns cs ts)) o o′ z
+    served-fitting c f x = rw (to-means s r hs ns cs ts (w .content) t d, c, f) x
+
+pub served-other : {s : List ℕ} {r : Record} {hs ns cs ts : List ℕ} → MessageWithin s r hs ns cs ts → (t : Told) (o : List ℕ) → connectedIn t r ≡ false
+    → Served (toHttp1 t (meaningIn s r hs ns cs ts)) o o (Refused otherScheme 0)
+served-other {s} {r} {hs} {ns} {cs} {ts} w t o c = rw (to-means s r hs ns cs ts (w .content) t {l = lengthLineIn r} refl, c) (serve-wrong o otherScheme 0)
 
 -- the message that the numbers name is the one that they hold
-pub served-held : {scheme : ℕ} {s : List ℕ} {r : Record} {hs ns cs ts o o′ : List ℕ} {z : Written}
-    → Served (toHttp1 (record { scheme = scheme }) (meaningIn s r hs ns cs ts)) o o′ z → Http1Written scheme s r hs ns cs ts o o′ z
+pub served-held : {t : Told} {s : List ℕ} {r : Record} {hs ns cs ts o o′ : List ℕ} {z : Written}
+    → Served (toHttp1 t (meaningIn s r hs ns cs ts)) o o′ z → Http1Written t s r hs ns cs ts o o′ z
 served-held x = record { by = λ n m h. rw (held-means h) at x }

@@ -1,32 +1,19 @@
 -- Turns of the writer's loops: the first of what is left, and the others.
 -- Assumes nothing.
 use Prim.Native.Nat.{ℕ, zero, suc, _+_, _-_, _*_, _≤_, _<_}
-use mathlib.Core.Path.{_≡_, refl, sym, ap, _∙_}
+use mathlib.Core.Path.{_≡_, refl, _∙_}
 use mathlib.Core.List.{List, [], _∷_, _++_}
 use native.Mathlib.Nat.{add-zero, sub-zero}
 use native.Mathlib.Omega.{arith}
 use lib.ListN.{length, getD, length-append, length-map}
-use Rattle.output.specs.Splice.{splice, Put, Left}
-use Rattle.output.proofs.Laws.{left-start, left-step, elements-length}
+use Rattle.output.specs.Splice.{Left}
+use Rattle.output.proofs.Laws.{left-start, elements-length}
 use Rattle.numbers.proofs.DigitLaws.{digits-length}
 use Rattle.messages.specs.Meaning.{fieldMeans}
 use Rattle.ranges.specs.Entries.{fieldIn, fieldsIn, headsIn, fieldsBefore, FieldsWithin, HeadsWithin}
 use Rattle.ranges.proofs.Entries.{fields-more, fields-none, heads-more, heads-none}
 use Rattle.http1_writer.specs.Write.{fieldText, sectionText, statusLine, informationalText}
 use Rattle.http1_writer.specs.Numbered.{fieldsNamed, lineSize, sectionSize, statusSize, headsSize}
-
--- a turn of a run of writes, and its last write
-module _ {o₀ bs₀ o bs : List ℕ} {at₀ n₀ at n : ℕ} (l : Left o₀ at₀ bs₀ n₀ o at bs n) where
-  pub left-turn : {o₁ a b : List ℕ} {r m k : ℕ} → (bs ≡ a ++ b) × (n ≡ m + k) → Put o at a m o₁ r → Left o₀ at₀ bs₀ n₀ o₁ r b k
-  left-turn e p = left-step (rw (e .0, e .1) at l) p
-
-  pub left-last : {o₁ a : List ℕ} {r m : ℕ} → length bs₀ ≡ n₀ → (bs ≡ a) × (n ≡ m) → Put o at a m o₁ r → Put o₀ at₀ bs₀ n₀ o₁ r
-  left-last {o₁} {a} {r} {m} z e p =
-      record { next = omega (arith, l .next, p .next, e .1); size = z; all = p .all ∙ ap (splice o at) (sym (e .0)) ∙ l .all }
-
-  -- where nothing is left
-  pub left-none : length bs₀ ≡ n₀ → (bs ≡ []) × (n ≡ 0) → Put o₀ at₀ bs₀ n₀ o at
-  left-none z e = record { next = omega (arith, l .next, e .1); size = z; all = ap (splice o at) (sym (e .0)) ∙ l .all }
 
 -- ---- field lines
 

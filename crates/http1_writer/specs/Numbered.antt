@@ -9,10 +9,12 @@ use Rattle.octets.specs.Limits.{headMost, trailerMost, linesMost}
 use Rattle.numbers.specs.Digits.{countOf}
 use Rattle.messages.specs.Control.{isBodyless}
 use Rattle.messages.specs.declared.Part.{Part}
+use Rattle.messages.specs.declared.Told.{Told}
 use Rattle.messages.specs.declared.Record.{Record}
 use Rattle.messages.specs.Meaning.{Field, fieldMeans}
 use Rattle.ranges.specs.Entries.{fieldsIn, fieldsBefore, headsIn, partIn}
-use Rattle.http1_writer.specs.Write.{fieldText, sectionText, requestLine, statusLine, informationalText, hostField, lengthField, codingField}
+use Rattle.http1_writer.specs.declared.LengthLine.{LengthLine}
+use Rattle.http1_writer.specs.Write.{fieldText, sectionText, requestLine, statusLine, informationalText, hostField, lineFor, lengthFields}
 
 -- the fields of n entries from the entry k on
 abbrev pub fieldsNamed : List ℕ → List ℕ → ℕ → ℕ → List Field
@@ -58,18 +60,26 @@ bodySize n ts count = cond (eqb count 0) n (chunkSize n + 1 + 2 + sectionSize ts
 unfoldable pub unmeasuredIn : Record → Bool
 unmeasuredIn r = cond (r .response) (isBodyless (r .status)) (eqb (r .content) 0)
 
--- the length line, or none
-unfoldable pub lengthFields : Record → List Field
-lengthFields r = cond (eqb (r .trailers) 0) (cond (unmeasuredIn r) [] (lengthField (r .content) ∷ [])) (codingField ∷ [])
+-- the length line of a message
+unfoldable pub lengthLineIn : Record → LengthLine
+lengthLineIn r = lineFor (eqb (r .trailers) 0) (unmeasuredIn r) (r .content)
 
 -- lines one behind the other
 unfoldable pub linesText : List Field → List ℕ
 linesText [] = []
 linesText (f ∷ fs) = fieldText f ++ linesText fs
 
--- how long the length line is
-unfoldable pub lengthSize : Record → ℕ
-lengthSize r = cond (eqb (r .trailers) 0) (cond (unmeasuredIn r) 0 (16 + countOf 10 (r .content) + 2)) 28
+-- a length line as it is written
+unfoldable pub lengthText : LengthLine → List ℕ
+lengthText l = linesText (lengthFields l)
+
+-- how long it is
+unfoldable pub lengthSize : LengthLine → ℕ
+lengthSize l = length (lengthText l)
+
+-- how many lines it is
+unfoldable pub lengthCount : LengthLine → ℕ
+lengthCount l = length (lengthFields l)
 
 -- ---- the head
 
@@ -87,17 +97,17 @@ leadSize r hs ns =
     (headsSize hs ns 0 (r .informational) + statusSize (r .status))
     (requestSize (r .method) (r .path) + hostSize (r .authority))
 
--- all heads of a message
-unfoldable pub headTextIn : List ℕ → Record → List ℕ → List ℕ → List ℕ
-headTextIn s r hs ns = leadTextIn s r hs ns ++ linesText (lengthFields r) ++ sectionText (fieldsNamed s hs (fieldsBefore ns (r .informational)) (r .headers))
+-- all heads of a message, with this length line
+unfoldable pub headTextIn : List ℕ → Record → LengthLine → List ℕ → List ℕ → List ℕ
+headTextIn s r l hs ns = leadTextIn s r hs ns ++ lengthText l ++ sectionText (fieldsNamed s hs (fieldsBefore ns (r .informational)) (r .headers))
 
 -- how long they are
-unfoldable pub headSize : Record → List ℕ → List ℕ → ℕ
-headSize r hs ns = leadSize r hs ns + lengthSize r + sectionSize hs (fieldsBefore ns (r .informational)) (r .headers)
+unfoldable pub headSize : Record → LengthLine → List ℕ → List ℕ → ℕ
+headSize r l hs ns = leadSize r hs ns + lengthSize l + sectionSize hs (fieldsBefore ns (r .informational)) (r .headers)
 
 -- how many field lines the final head has: host, length line and fields
-unfoldable pub headCount : Record → ℕ
-headCount r = cond (r .response) 0 1 + length (lengthFields r) + r .headers
+unfoldable pub headCount : Record → LengthLine → ℕ
+headCount r l = cond (r .response) 0 1 + lengthCount l + r .headers
 
 -- ---- the tests
 
@@ -106,9 +116,9 @@ unfoldable pub trailersFit : List ℕ → ℕ → Bool
 trailersFit ts count = cond (eqb count 0) true (leb (sectionSize ts 0 count) trailerMost)
 
 -- whether heads of so many octets, their lines and the trailers are within the sizes
-unfoldable pub fitsIn : ℕ → Record → List ℕ → Bool
-fitsIn head r ts = leb head headMost && leb (headCount r) linesMost && trailersFit ts (r .trailers)
+unfoldable pub fitsIn : ℕ → Record → LengthLine → List ℕ → Bool
+fitsIn head r l ts = leb head headMost && leb (headCount r l) linesMost && trailersFit ts (r .trailers)
 
 -- whether the scheme of a request is the connection's
-unfoldable pub connectedIn : ℕ → Record → Bool
-connectedIn scheme r = cond (r .response) true (eqb (r .scheme) scheme)
+unfoldable pub connectedIn : Told → Record → Bool
+connectedIn t r = cond (r .response) true (eqb (r .scheme) (t .scheme))

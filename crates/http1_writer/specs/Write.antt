@@ -14,6 +14,8 @@ use Rattle.messages.specs.Control.{isBodyless}
 use Rattle.messages.specs.Meaning.{Field, Informational, Control, request, response, Meaning}
 use Rattle.messages.specs.Valid.{noFields}
 use Rattle.output.specs.Reply.{Reply, writes, refuses}
+use Rattle.http1_writer.specs.declared.LengthLine.{LengthLine}
+use Rattle.http1_writer.specs.declared.LengthLine.the-variants.{Nothing, Length, Chunked}
 
 -- the end of a line
 abbrev pub crlf : List ℕ
@@ -52,17 +54,24 @@ lengthField n = record { name = ascii "content-length"; value = digits 10 n }
 unfoldable pub codingField : Field
 codingField = record { name = ascii "transfer-encoding"; value = ascii "chunked" }
 
--- whether a message without trailers goes without a length line: requests with empty content, 204 and 304
+-- whether a message without kept trailers goes without a length line: requests with empty content, 204 and 304
 abbrev pub unmeasured : Control → List ℕ → Bool
 unmeasured (request m s a p) content = isEmpty content
 unmeasured (response hs s) content = isBodyless s
 
--- the length line: chunked where trailers follow, else the length in plain decimal
-unfoldable pub lengthLine : Meaning → List Field
-lengthLine m =
-    cond (noFields (m .trailers))
-    (cond (unmeasured (m .control) (m .content)) [] (lengthField (length (m .content)) ∷ []))
-    (codingField ∷ [])
+-- which length line: chunked where trailers are kept; else none where the message goes without, and else the length of the content, n octets
+abbrev pub lineFor : Bool → Bool → ℕ → LengthLine
+lineFor plain without n = cond plain (cond without Nothing (Length n)) Chunked
+
+-- the length line of a meaning
+unfoldable pub lengthLine : Meaning → LengthLine
+lengthLine m = lineFor (noFields (m .trailers)) (unmeasured (m .control) (m .content)) (length (m .content))
+
+-- what is written of it: one field or none
+abbrev pub lengthFields : LengthLine → List Field
+lengthFields Nothing = []
+lengthFields (Length n) = lengthField n ∷ []
+lengthFields Chunked = codingField ∷ []
 
 -- a request gains a host line, a response none
 abbrev pub hostLine : Control → List Field
@@ -71,7 +80,7 @@ hostLine (response hs s) = []
 
 -- the lines of the final head: host, length, fields
 unfoldable pub headLines : Meaning → List Field
-headLines m = hostLine (m .control) ++ lengthLine m ++ m .headers
+headLines m = hostLine (m .control) ++ lengthFields (lengthLine m) ++ m .headers
 
 -- ---- heads and body
 

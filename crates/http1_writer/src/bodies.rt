@@ -4,46 +4,28 @@ use crate::sections::section_size;
 use numbers::digit_count;
 use output::put_hexadecimal;
 use output::put_octet;
-use output::put_part;
 use output::put_text;
-use ranges::number_at;
+use ranges::put_chunks;
 ghost use mathlib.Core.Path.{_≡_};
 ghost use Prim.Native.Nat.{_+_, _*_, _≤_};
 ghost use lib.ListN.{length};
 ghost use Rattle.octets.specs.Limits.{contentMost, linesMost};
 ghost use Rattle.output.specs.Splice.{Put};
-ghost use Rattle.messages.specs.Meaning.{contentOf};
-ghost use Rattle.ranges.specs.Entries.{chunksIn, ChunksWithin, FieldsWithin};
+ghost use Rattle.ranges.specs.Entries.{contentIn, ChunksWithin, FieldsWithin};
 ghost use Rattle.http1_writer.specs.Write.{chunkText, bodyText};
 ghost use Rattle.http1_writer.specs.Numbered.{fieldsNamed, chunkSize, bodySize};
 
-// The octets of the first n chunks, one behind the other.
-fn put_content(out: &mut [u8], at: usize, s: &[u8], chunks: &[u32], n: usize) -> usize
-    requires { ⌜ ChunksWithin (length (now s)) (now chunks) n × (at + length (contentOf (chunksIn (now s) (now chunks) 0 n)) ≤ length (now out)) ⌝ }
-    ensures { λ r. ⌜ Put (now (out .entry)) at (contentOf (chunksIn (now (s .entry)) (now (chunks .entry)) 0 n)) (length (contentOf (chunksIn (now (s .entry)) (now (chunks .entry)) 0 n))) (now (out .exit)) r ⌝ }
-{
-    let mut i = 0;
-    let mut a = at;
-    while i < n {
-        let start = number_at(chunks, i * 2);
-        let len = number_at(chunks, i * 2 + 1);
-        a = put_part(out, a, s, start, len);
-        i += 1;
-    }
-    a
-}
-
 // The content, of size octets, as one chunk; nothing where it is empty.
 fn put_chunk(out: &mut [u8], at: usize, s: &[u8], chunks: &[u32], n: usize, size: usize) -> usize
-    requires { ⌜ ChunksWithin (length (now s)) (now chunks) n × (length (contentOf (chunksIn (now s) (now chunks) 0 n)) ≡ size) × (at + chunkSize size ≤ length (now out)) ⌝ }
-    ensures { λ r. ⌜ Put (now (out .entry)) at (chunkText (contentOf (chunksIn (now (s .entry)) (now (chunks .entry)) 0 n))) (chunkSize size) (now (out .exit)) r ⌝ }
+    requires { ⌜ ChunksWithin (length (now s)) (now chunks) n × (length (contentIn (now s) (now chunks) n) ≡ size) × (at + chunkSize size ≤ length (now out)) ⌝ }
+    ensures { λ r. ⌜ Put (now (out .entry)) at (chunkText (contentIn (now (s .entry)) (now (chunks .entry)) n)) (chunkSize size) (now (out .exit)) r ⌝ }
 {
     if size == 0 {
         return at;
     }
     let a = put_hexadecimal(out, at, size);
     let b = put_text(out, a, b"\r\n");
-    let d = put_content(out, b, s, chunks, n);
+    let d = put_chunks(out, b, s, chunks, n);
     put_text(out, d, b"\r\n")
 }
 
@@ -58,11 +40,11 @@ pub fn put_body(
     trailers: &[u32],
     count: usize,
 ) -> usize
-    requires { ⌜ ChunksWithin (length (now s)) (now chunks) n × (length (contentOf (chunksIn (now s) (now chunks) 0 n)) ≡ size) × FieldsWithin (length (now s)) (now trailers) 0 count × (at + bodySize size (now trailers) count ≤ length (now out)) ⌝ }
-    ensures { λ r. ⌜ Put (now (out .entry)) at (bodyText (contentOf (chunksIn (now (s .entry)) (now (chunks .entry)) 0 n)) (fieldsNamed (now (s .entry)) (now (trailers .entry)) 0 count)) (bodySize size (now (trailers .entry)) count) (now (out .exit)) r ⌝ }
+    requires { ⌜ ChunksWithin (length (now s)) (now chunks) n × (length (contentIn (now s) (now chunks) n) ≡ size) × FieldsWithin (length (now s)) (now trailers) 0 count × (at + bodySize size (now trailers) count ≤ length (now out)) ⌝ }
+    ensures { λ r. ⌜ Put (now (out .entry)) at (bodyText (contentIn (now (s .entry)) (now (chunks .entry)) n) (fieldsNamed (now (s .entry)) (now (trailers .entry)) 0 count)) (bodySize size (now (trailers .entry)) count) (now (out .exit)) r ⌝ }
 {
     if count == 0 {
-        return put_content(out, at, s, chunks, n);
+        return put_chunks(out, at, s, chunks, n);
     }
     let a = put_chunk(out, at, s, chunks, n, size);
     let b = put_octet(out, a, 48);

@@ -1,4 +1,5 @@
 // Start lines, informational heads, and the head of a message.
+use crate::LengthLine;
 use crate::lengths::length_size;
 use crate::lengths::put_length;
 use crate::sections::put_section;
@@ -148,29 +149,30 @@ fn lead_size(r: Record, fields: &[u32], heads: &[u32]) -> usize
     request_size(method, authority, path)
 }
 
-// All heads of a message.
+// All heads of a message, with this length line.
 pub fn put_head(
     out: &mut [u8],
     at: usize,
     s: &[u8],
     r: Record,
+    line: LengthLine,
     fields: &[u32],
     heads: &[u32],
 ) -> usize
-    requires { ⌜ ((cs : List ℕ) × (ts : List ℕ) × MessageWithin (now s) r (now fields) (now heads) cs ts) × (at + headSize r (now fields) (now heads) ≤ length (now out)) ⌝ }
-    ensures { λ z. ⌜ Put (now (out .entry)) at (headTextIn (now (s .entry)) r (now (fields .entry)) (now (heads .entry))) (headSize r (now (fields .entry)) (now (heads .entry))) (now (out .exit)) z ⌝ }
+    requires { ⌜ ((cs : List ℕ) × (ts : List ℕ) × MessageWithin (now s) r (now fields) (now heads) cs ts) × (at + headSize r line (now fields) (now heads) ≤ length (now out)) ⌝ }
+    ensures { λ z. ⌜ Put (now (out .entry)) at (headTextIn (now (s .entry)) r line (now (fields .entry)) (now (heads .entry))) (headSize r line (now (fields .entry)) (now (heads .entry))) (now (out .exit)) z ⌝ }
 {
     let k = fields_before(heads, r.informational);
     let a = put_lead(out, at, s, r, fields, heads);
-    let b = put_length(out, a, r);
+    let b = put_length(out, a, line);
     put_section(out, b, s, fields, k, r.headers)
 }
 
 // How long they are.
-pub fn measure_head(r: Record, fields: &[u32], heads: &[u32]) -> usize
+pub fn measure_head(r: Record, line: LengthLine, fields: &[u32], heads: &[u32]) -> usize
     requires { ⌜ ((s : List ℕ) × (cs : List ℕ) × (ts : List ℕ) × MessageWithin s r (now fields) (now heads) cs ts) ⌝ }
-    ensures { λ n. ⌜ (n ≡ headSize r (now (fields .entry)) (now (heads .entry))) × (n ≤ 4398046511104) ⌝ }
+    ensures { λ n. ⌜ (n ≡ headSize r line (now (fields .entry)) (now (heads .entry))) × (n ≤ 4398046511104) ⌝ }
 {
     let k = fields_before(heads, r.informational);
-    lead_size(r, fields, heads) + length_size(r) + section_size(fields, k, r.headers)
+    lead_size(r, fields, heads) + length_size(line) + section_size(fields, k, r.headers)
 }

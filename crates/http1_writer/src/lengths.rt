@@ -1,4 +1,5 @@
-// The length line of a message.
+// The length line of a head: decided once, by `length_line`; all below take its answer.
+use crate::LengthLine;
 use messages::Record;
 use messages::parts::is_bodyless;
 use numbers::digit_count;
@@ -8,7 +9,7 @@ ghost use mathlib.Core.Path.{_≡_};
 ghost use Prim.Native.Nat.{_+_, _≤_};
 ghost use lib.ListN.{length};
 ghost use Rattle.output.specs.Splice.{Put};
-ghost use Rattle.http1_writer.specs.Numbered.{unmeasuredIn, lengthFields, linesText, lengthSize};
+ghost use Rattle.http1_writer.specs.Numbered.{unmeasuredIn, lengthLineIn, lengthText, lengthSize, lengthCount};
 
 // Whether a message without trailers goes without a length line.
 fn is_unmeasured(r: Record) -> bool
@@ -20,42 +21,53 @@ fn is_unmeasured(r: Record) -> bool
     r.content == 0
 }
 
-pub fn length_size(r: Record) -> usize
-    ensures { λ n. ⌜ (n ≡ lengthSize r) × (n ≤ 38) ⌝ }
+// Which length line a message has.
+pub fn length_line(r: Record) -> LengthLine
+    ensures { λ l. ⌜ l ≡ lengthLineIn r ⌝ }
 {
     if r.trailers == 0 {
         if is_unmeasured(r) {
-            return 0;
+            return LengthLine::Nothing;
         }
-        return 16 + digit_count(r.content, 10) + 2;
+        return LengthLine::Length(r.content);
     }
-    28
+    LengthLine::Chunked
 }
 
-pub fn put_length(out: &mut [u8], at: usize, r: Record) -> usize
-    requires { ⌜ at + lengthSize r ≤ length (now out) ⌝ }
-    ensures { λ z. ⌜ Put (now (out .entry)) at (linesText (lengthFields r)) (lengthSize r) (now (out .exit)) z ⌝ }
+// How long it is.
+pub fn length_size(line: LengthLine) -> usize
+    ensures { λ n. ⌜ (n ≡ lengthSize line) × (n ≤ 38) ⌝ }
 {
-    if r.trailers == 0 {
-        if is_unmeasured(r) {
-            return at;
-        }
-        let a = put_text(out, at, b"content-length: ");
-        let b = put_decimal(out, a, r.content);
-        return put_text(out, b, b"\r\n");
+    match line {
+        LengthLine::Nothing => return 0,
+        LengthLine::Length(n) => return 16 + digit_count(n, 10) + 2,
+        LengthLine::Chunked => return 28,
     }
-    put_text(out, at, b"transfer-encoding: chunked\r\n")
+}
+
+// The line itself.
+pub fn put_length(out: &mut [u8], at: usize, line: LengthLine) -> usize
+    requires { ⌜ at + lengthSize line ≤ length (now out) ⌝ }
+    ensures { λ z. ⌜ Put (now (out .entry)) at (lengthText line) (lengthSize line) (now (out .exit)) z ⌝ }
+{
+    match line {
+        LengthLine::Nothing => return at,
+        LengthLine::Length(n) => {
+            let a = put_text(out, at, b"content-length: ");
+            let b = put_decimal(out, a, n);
+            return put_text(out, b, b"\r\n");
+        }
+        LengthLine::Chunked => return put_text(out, at, b"transfer-encoding: chunked\r\n"),
+    }
 }
 
 // How many lines it is.
-pub fn length_lines(r: Record) -> usize
-    ensures { λ n. ⌜ (n ≡ length (lengthFields r)) × (n ≤ 1) ⌝ }
+pub fn length_lines(line: LengthLine) -> usize
+    ensures { λ n. ⌜ (n ≡ lengthCount line) × (n ≤ 1) ⌝ }
 {
-    if r.trailers == 0 {
-        if is_unmeasured(r) {
-            return 0;
-        }
-        return 1;
+    match line {
+        LengthLine::Nothing => return 0,
+        LengthLine::Length(_) => return 1,
+        LengthLine::Chunked => return 1,
     }
-    1
 }

@@ -5,13 +5,22 @@ pub mod heads; // heads.rt: start lines and heads
 pub mod bodies; // bodies.rt: content and trailers
 pub mod fitting; // fitting.rt: whether a message may be written
 
+// The length line of a head: none, the length of the content, or that it is in chunks.
+pub enum LengthLine {
+    Nothing,
+    Length(usize),
+    Chunked,
+}
+
 use bodies::body_size;
 use bodies::put_body;
 use fitting::is_connected;
 use fitting::sizes_fit;
 use heads::measure_head;
 use heads::put_head;
+use lengths::length_line;
 use messages::Record;
+use messages::Told;
 use octets::Refusals;
 use output::Written;
 ghost use mathlib.Core.Path.{_≡_};
@@ -21,13 +30,14 @@ ghost use Rattle.messages.specs.Message.{Message};
 ghost use Rattle.ranges.specs.Ranges.{Held};
 ghost use Rattle.ranges.specs.Entries.{meaningIn, MessageWithin};
 ghost use Rattle.http1_writer.specs.Write.{http1Of, toHttp1};
-ghost use Rattle.http1_writer.specs.Numbered.{headSize};
+ghost use Rattle.http1_writer.specs.Numbered.{lengthLineIn, headSize};
 ghost use Rattle.http1_writer.specs.Promise.{Http1Written};
 
-// A message within the sizes, whose heads are of so many octets; 13 at 0 where there is no room for it.
+// A message within the sizes, with its length line, whose heads are of so many octets; 13 at 0 where there is no room for it.
 fn put_message(
     s: &[u8],
     r: Record,
+    line: LengthLine,
     headers: &[u32],
     heads: &[u32],
     chunks: &[u32],
@@ -35,7 +45,7 @@ fn put_message(
     head: usize,
     out: &mut [u8],
 ) -> Written
-    requires { ⌜ MessageWithin (now s) r (now headers) (now heads) (now chunks) (now trailers) × (head ≡ headSize r (now headers) (now heads)) × (head ≤ 4398046511104) ⌝ }
+    requires { ⌜ MessageWithin (now s) r (now headers) (now heads) (now chunks) (now trailers) × (line ≡ lengthLineIn r) × (head ≡ headSize r line (now headers) (now heads)) × (head ≤ 4398046511104) ⌝ }
     ensures { λ w. ⌜ Served (writes (http1Of (meaningIn (now (s .entry)) r (now (headers .entry)) (now (heads .entry)) (now (chunks .entry)) (now (trailers .entry))))) (now (out .entry)) (now (out .exit)) w ⌝ }
 {
     let size = head + body_size(r.content, trailers, r.trailers);
@@ -45,15 +55,15 @@ fn put_message(
             place: 0,
         };
     }
-    let a = put_head(out, 0, s, r, headers, heads);
+    let a = put_head(out, 0, s, r, line, headers, heads);
     let b = put_body(out, a, s, chunks, r.chunks, r.content, trailers, r.trailers);
     Written::Done(b)
 }
 
-// The message that the numbers name, on a connection of this scheme.
+// The message that the numbers name, on the connection told.
 fn write_named(
     s: &[u8],
-    scheme: u32,
+    told: Told,
     r: Record,
     headers: &[u32],
     heads: &[u32],
@@ -62,12 +72,13 @@ fn write_named(
     out: &mut [u8],
 ) -> Written
     requires { ⌜ MessageWithin (now s) r (now headers) (now heads) (now chunks) (now trailers) ⌝ }
-    ensures { λ w. ⌜ Served (toHttp1 (record { scheme = scheme }) (meaningIn (now (s .entry)) r (now (headers .entry)) (now (heads .entry)) (now (chunks .entry)) (now (trailers .entry)))) (now (out .entry)) (now (out .exit)) w ⌝ }
+    ensures { λ w. ⌜ Served (toHttp1 told (meaningIn (now (s .entry)) r (now (headers .entry)) (now (heads .entry)) (now (chunks .entry)) (now (trailers .entry)))) (now (out .entry)) (now (out .exit)) w ⌝ }
 {
-    if is_connected(scheme, r) {
-        let head = measure_head(r, headers, heads);
-        if sizes_fit(head, r, trailers) {
-            return put_message(s, r, headers, heads, chunks, trailers, head, out);
+    if is_connected(told, r) {
+        let line = length_line(r);
+        let head = measure_head(r, line, headers, heads);
+        if sizes_fit(head, r, line, trailers) {
+            return put_message(s, r, line, headers, heads, chunks, trailers, head, out);
         }
         return Written::Refused {
             number: Refusals::TOO_LARGE,
@@ -84,7 +95,7 @@ fn write_named(
 // connection's, 8 at 0 where a written size is passed, 13 at 0 where there is no room; a refusal writes nothing.
 pub fn write_message(
     s: &[u8],
-    scheme: u32,
+    told: Told,
     r: Record,
     headers: &[u32],
     heads: &[u32],
@@ -93,7 +104,7 @@ pub fn write_message(
     out: &mut [u8],
 ) -> Written
     requires { ⌜ ((n : ℕ) × (m : Message) × Held (now s) n m r (now headers) (now heads) (now chunks) (now trailers)) ⌝ }
-    ensures { λ w. ⌜ Http1Written scheme (now (s .entry)) r (now (headers .entry)) (now (heads .entry)) (now (chunks .entry)) (now (trailers .entry)) (now (out .entry)) (now (out .exit)) w ⌝ }
+    ensures { λ w. ⌜ Http1Written told (now (s .entry)) r (now (headers .entry)) (now (heads .entry)) (now (chunks .entry)) (now (trailers .entry)) (now (out .entry)) (now (out .exit)) w ⌝ }
 {
-    write_named(s, scheme, r, headers, heads, chunks, trailers, out)
+    write_named(s, told, r, headers, heads, chunks, trailers, out)
 }

@@ -1,7 +1,7 @@
 -- Laws of `splice` and `part`.
 -- Assumes nothing.
 use mathlib.Core.Logic.{_≢_}
-use mathlib.Core.Path.{_≡_, refl, ap, _∙_}
+use mathlib.Core.Path.{_≡_, refl, sym, ap, _∙_}
 use mathlib.Core.List.{List, [], _∷_, _++_}
 use Prim.Native.Nat.{ℕ, zero, suc, _+_, _-_, _≤_, _<_}
 use native.Mathlib.Nat.{add-zero}
@@ -77,6 +77,10 @@ put-then {o} {o₁} {o₂} {a} {b} {at} {m} {n} p q =
 pub put-count : {o o₁ a : List ℕ} {at m n r : ℕ} → m ≡ n → Put o at a m o₁ r → Put o at a n o₁ r
 put-count e p = rw e at p
 
+-- a write said in other words
+pub put-as : {o o₁ a b : List ℕ} {at m n r : ℕ} → (b ≡ a) × (n ≡ m) → Put o at a m o₁ r → Put o at b n o₁ r
+put-as e p = rw (e .0, e .1) p
+
 -- a run of writes: where it begins, a write of it, and where it ends
 pub left-start : (o : List ℕ) (at : ℕ) (bs : List ℕ) (n : ℕ) → Left o at bs n o at bs n
 left-start o at bs n = record { next = refl; kept = refl; all = refl }
@@ -93,6 +97,18 @@ left-step {o₀} {bs₀} {o} {o₁} {a} {b} {at₀} {n₀} {at} {m} {n} {r} l p 
 
 pub left-end : {o₀ bs₀ o : List ℕ} {at₀ n₀ at : ℕ} → length bs₀ ≡ n₀ → Left o₀ at₀ bs₀ n₀ o at [] 0 → Put o₀ at₀ bs₀ n₀ o at
 left-end e l = record { next = omega (arith, l .next); size = e; all = l .all }
+
+-- the same where what is left is said in other words: a turn, the last write, and nothing left
+module _ {o₀ bs₀ o bs : List ℕ} {at₀ n₀ at n : ℕ} (l : Left o₀ at₀ bs₀ n₀ o at bs n) where
+  pub left-turn : {o₁ a b : List ℕ} {r m k : ℕ} → (bs ≡ a ++ b) × (n ≡ m + k) → Put o at a m o₁ r → Left o₀ at₀ bs₀ n₀ o₁ r b k
+  left-turn e p = left-step (rw (e .0, e .1) at l) p
+
+  pub left-last : {o₁ a : List ℕ} {r m : ℕ} → length bs₀ ≡ n₀ → (bs ≡ a) × (n ≡ m) → Put o at a m o₁ r → Put o₀ at₀ bs₀ n₀ o₁ r
+  left-last {o₁} {a} {r} {m} z e p =
+      record { next = omega (arith, l .next, p .next, e .1); size = z; all = p .all ∙ ap (splice o at) (sym (e .0)) ∙ l .all }
+
+  pub left-none : length bs₀ ≡ n₀ → (bs ≡ []) × (n ≡ 0) → Put o₀ at₀ bs₀ n₀ o at
+  left-none z e = left-end z (rw (e .0, e .1) at l)
 
 -- ---- a part that is lent, and octets put before others
 

@@ -3,3 +3,4 @@ pub mod Outcomes
 pub mod ByValue
 pub mod Entries
 pub mod HeadsStored
+pub mod Content

@@ -37,6 +37,10 @@ unfoldable pub chunksIn : List ℕ → List ℕ → ℕ → ℕ → List Piece
 chunksIn s cs k zero = []
 chunksIn s cs k (suc n) = chunkIn s cs k ∷ chunksIn s cs (k + 1) n
 
+-- the octets of the first n chunks, one behind the other
+abbrev pub contentIn : List ℕ → List ℕ → ℕ → List ℕ
+contentIn s cs n = contentOf (chunksIn s cs 0 n)
+
 -- how many fields the first i informational heads have together: the fields of the head i begin at that entry
 unfoldable pub fieldsBefore : List ℕ → ℕ → ℕ
 fieldsBefore ns zero = 0

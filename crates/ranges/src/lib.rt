@@ -4,13 +4,14 @@ use messages::Ranges;
 use messages::Reading;
 use messages::answers::more;
 use messages::answers::refusal;
+use output::put_part;
 ghost use mathlib.Core.Path.{_≡_};
 ghost use mathlib.Core.List.{[], _∷_};
 ghost use Prim.Native.Nat.{_+_, _*_, _≤_, _<_};
 ghost use lib.ListN.{length, getD};
-ghost use Rattle.output.specs.Splice.{splice};
+ghost use Rattle.output.specs.Splice.{splice, Put};
 ghost use Rattle.ranges.specs.Ranges.{placesEnd, StoredIf, readingFrom};
-ghost use Rattle.ranges.specs.Entries.{fieldsBefore};
+ghost use Rattle.ranges.specs.Entries.{fieldsBefore, contentIn, ChunksWithin};
 
 // Two numbers are stored as the entry k: start and length of a chunk, or status and number of kept fields of an informational head.
 pub fn store(out: &mut [u32], k: usize, a: u32, b: u32)
@@ -100,4 +101,21 @@ pub fn fields_before(heads: &[u32], n: usize) -> usize
         i += 1;
     }
     k
+}
+
+// The octets of the first n chunks, one behind the other.
+pub fn put_chunks(out: &mut [u8], at: usize, s: &[u8], chunks: &[u32], n: usize) -> usize
+    requires { ⌜ ChunksWithin (length (now s)) (now chunks) n × (at + length (contentIn (now s) (now chunks) n) ≤ length (now out)) ⌝ }
+    ensures { λ r. ⌜ Put (now (out .entry)) at (contentIn (now (s .entry)) (now (chunks .entry)) n)
+        (length (contentIn (now (s .entry)) (now (chunks .entry)) n)) (now (out .exit)) r ⌝ }
+{
+    let mut i = 0;
+    let mut a = at;
+    while i < n {
+        let start = number_at(chunks, i * 2);
+        let len = number_at(chunks, i * 2 + 1);
+        a = put_part(out, a, s, start, len);
+        i += 1;
+    }
+    a
 }

@@ -1,1 +1,1 @@
-// What turning a message into Binary HTTP keeps: definitions and laws, no code.
+// What follows from demand 2 of writing Binary HTTP anew: definitions and laws, no code.

@@ -1,6 +1,7 @@
 // Binary HTTP anew as Binary, and into HTTP/1.1.
 use binary_reader::whole::binary_in;
 use messages::Outcome;
+use messages::Told;
 use messages::parts::is_scheme;
 use octets::Refusals;
 use octets::class_table;
@@ -89,7 +90,7 @@ fn turn_http1(
         Outcome::Refusal { number, place } => return Written::Refused { number, place },
         Outcome::Message(r) => return http1_writer::write_message(
             input,
-            scheme,
+            Told { scheme },
             r,
             headers,
             heads,
