@@ -110,7 +110,7 @@ module _ (w : Turning) (turn : List ℕ → Reply) (replies : (s : List ℕ) →
 
 -- ---- into Binary
 
-binary-reply : (told : Bool) (read : List ℕ → Answer Message) (n : ℕ) (x : Answer Message) → turn.replyTo n x toBinary ≡ replyFor (intoBinary told read) n x
+binary-reply : (told : Bool) (read : List ℕ → Answer Message) (n : ℕ) (x : Answer Message) → turn.replyFrom n x toBinary ≡ replyFor (intoBinary told read) n x
 unfolding toBinary
 binary-reply told read n (accepted k m) = refl
 binary-reply told read n (refused k p) = refl
@@ -130,7 +130,7 @@ unfolding requestToBinary readRequest
 request-replies t s = go (isScheme (t .scheme)) (run (script.request t) 0 s)
   where
     go : (b : Bool) (x : Answer Message)
-        → turn.replyTo (length s) (cond b x (refused notSupported 0)) toBinary
+        → turn.replyFrom (length s) (cond b x (refused notSupported 0)) toBinary
         ≡ cond b (replyFor (requestsAsBinary t) (length s) (cond b x (refused notSupported 0))) (refuses notSupported 0)
     go true x = binary-reply _ _ (length s) x
     go false x = refl
@@ -148,7 +148,7 @@ anew-replies s = binary-reply _ _ (length s) (readBinary s)
 pub binary-valid : (s : List ℕ) (n : ℕ) (m : Message) → readBinary s ≡ accepted n m → valid (meaning m) ≡ true
 binary-valid s n m e = binary-sound s n m e .sound .valid
 
-http1-reply : (t : Told) (n : ℕ) (x : Answer Message) → turn.replyTo n x (toHttp1 t) ≡ replyFor (binaryAsHttp1 t) n x
+http1-reply : (t : Told) (n : ℕ) (x : Answer Message) → turn.replyFrom n x (toHttp1 t) ≡ replyFor (binaryAsHttp1 t) n x
 unfolding toHttp1
 http1-reply t n (accepted k m) = refl
 http1-reply t n (refused k p) = refl
