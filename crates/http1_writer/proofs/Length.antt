@@ -30,11 +30,11 @@ unmeasured-request r e = rw e
 -- which it is
 module _ (r : Record) where
   pub line-none : r .trailers ≡ 0 → unmeasuredIn r ≡ true → Nothing ≡ lengthLineIn r
-  unfolding lengthLineIn
+  unfolding lengthLineIn unmeasuredIn
   line-none z u = rw (z, u)
 
   pub line-length : r .trailers ≡ 0 → unmeasuredIn r ≡ false → Length (r .content) ≡ lengthLineIn r
-  unfolding lengthLineIn
+  unfolding lengthLineIn unmeasuredIn
   line-length z u = rw (z, u)
 
   pub line-chunked : (r .trailers ≡ 0 → ⊥) → Chunked ≡ lengthLineIn r

@@ -1,7 +1,7 @@
 -- What a writer leaves in the octets that it was lent, and the part of a source that it copies (01, "Numbers a call answers with": a refusal writes
 -- nothing, and all behind what is written stays).
 use mathlib.Core.Path.{_≡_}
-use mathlib.Core.Bool.{Bool, cond}
+use mathlib.Core.Bool.{Bool, false, cond}
 use mathlib.Core.List.{List, [], _∷_}
 use Prim.Native.Nat.{ℕ, zero, suc, _+_, _≤_}
 use lib.Dec.{leb}
@@ -30,6 +30,10 @@ pub record Put (o : List ℕ) (at : ℕ) (bs : List ℕ) (n : ℕ) (o′ : List 
 -- whether `n` octets from the place `at` on lie within `o`: where they are to be written, that there is room
 abbrev pub liesWithin : List ℕ → ℕ → ℕ → Bool
 liesWithin o at n = leb (at + n) (length o)
+
+-- whether `n` octets of `src` from the place `from` on may be copied into `o` from `at` on: both have them
+abbrev pub mayCopy : List ℕ → ℕ → ℕ → List ℕ → ℕ → Bool
+mayCopy src from n o at = cond (liesWithin src from n) (liesWithin o at n) false
 
 -- what a writer of all or nothing leaves, which writes where the test `may` passes: the same; else `o` as it was, and its answer is `at`
 pub record PutIf (may : Bool) (o : List ℕ) (at : ℕ) (bs : List ℕ) (n : ℕ) (o′ : List ℕ) (r : ℕ) : Type 0 where

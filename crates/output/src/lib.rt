@@ -1,6 +1,5 @@
 // Writers into lent octets. Each writes all or nothing, and answers with the place behind what it wrote.
 ghost use mathlib.Core.Path.{_≡_};
-ghost use mathlib.Core.Bool.{cond, false};
 ghost use mathlib.Core.List.{[], _∷_, map};
 ghost use Prim.Native.Nat.{_+_, _≤_, _<_};
 ghost use lib.Dec.{leb};
@@ -8,7 +7,7 @@ ghost use lib.ListN.{length};
 ghost use Rattle.octets.specs.Text.{lowerOf};
 ghost use Rattle.numbers.specs.Integer.{integerEnd, intLen, intBytes};
 ghost use Rattle.numbers.specs.Digits.{charOf, countOf, digits};
-ghost use Rattle.output.specs.Splice.{part, liesWithin, Put, PutIf};
+ghost use Rattle.output.specs.Splice.{part, liesWithin, mayCopy, Put, PutIf};
 use numbers::digit_count;
 use numbers::int_len;
 use numbers::int_tag;
@@ -104,7 +103,7 @@ fn put_digits(out: &mut [u8], at: usize, n: usize, base: usize) -> usize
 }
 
 // Whether n octets from the place `at` on lie within `size` octets.
-pub fn lies_within(size: usize, at: usize, n: usize) -> bool
+fn lies_within(size: usize, at: usize, n: usize) -> bool
     ensures { λ r. ⌜ r ≡ leb (at + n) size ⌝ }
 {
     if at <= size {
@@ -126,7 +125,8 @@ pub fn put_octet(out: &mut [u8], at: usize, b: u8) -> usize
 
 // So many octets of the source, from a place on; nothing where the source has not so many.
 pub fn put_part(out: &mut [u8], at: usize, src: &[u8], from: usize, len: usize) -> usize
-    ensures { λ r. ⌜ PutIf (cond (liesWithin (now (src .entry)) from len) (liesWithin (now (out .entry)) at len) false) (now (out .entry)) at (part (now (src .entry)) from len) len (now (out .exit)) r ⌝ }
+    ensures { λ r. ⌜ PutIf (mayCopy (now (src .entry)) from len (now (out .entry)) at) (now (out .entry)) at
+        (part (now (src .entry)) from len) len (now (out .exit)) r ⌝ }
 {
     if lies_within(src.len(), from, len) {
         if lies_within(out.len(), at, len) {
@@ -138,7 +138,8 @@ pub fn put_part(out: &mut [u8], at: usize, src: &[u8], from: usize, len: usize) 
 
 // The same in lower case.
 pub fn put_lower(out: &mut [u8], at: usize, src: &[u8], from: usize, len: usize) -> usize
-    ensures { λ r. ⌜ PutIf (cond (liesWithin (now (src .entry)) from len) (liesWithin (now (out .entry)) at len) false) (now (out .entry)) at (map lowerOf (part (now (src .entry)) from len)) len (now (out .exit)) r ⌝ }
+    ensures { λ r. ⌜ PutIf (mayCopy (now (src .entry)) from len (now (out .entry)) at) (now (out .entry)) at
+        (map lowerOf (part (now (src .entry)) from len)) len (now (out .exit)) r ⌝ }
 {
     if lies_within(src.len(), from, len) {
         if lies_within(out.len(), at, len) {
@@ -150,7 +151,8 @@ pub fn put_lower(out: &mut [u8], at: usize, src: &[u8], from: usize, len: usize)
 
 // A whole text.
 pub fn put_text(out: &mut [u8], at: usize, text: &[u8]) -> usize
-    ensures { λ r. ⌜ PutIf (liesWithin (now (out .entry)) at (length (now (text .entry)))) (now (out .entry)) at (now (text .entry)) (length (now (text .entry))) (now (out .exit)) r ⌝ }
+    ensures { λ r. ⌜ PutIf (liesWithin (now (out .entry)) at (length (now (text .entry)))) (now (out .entry)) at
+        (now (text .entry)) (length (now (text .entry))) (now (out .exit)) r ⌝ }
 {
     if lies_within(out.len(), at, text.len()) {
         return copy_part(out, at, text, 0, text.len());

@@ -9,7 +9,7 @@ use native.Mathlib.Numerals.{add-one}
 use native.Mathlib.Omega.{arith}
 use lib.ListN.{length, getD, take, drop, length-append}
 use lib.Seq.{getD-at}
-use Rattle.octets.specs.Limits.{linesMost, informationalMost}
+use Rattle.octets.specs.Limits.{linesMost, chunksMost, informationalMost}
 use Rattle.script.specs.Script.{Lies}
 use Rattle.script.specs.Do.{Piece, piece}
 use Rattle.script.proofs.Places.{lies-part, lies-at, lies-in}
@@ -166,7 +166,7 @@ module _ (s cs : List ℕ) where
   chunks-long [] = refl
   chunks-long (p ∷ ps) = omega (arith, chunks-long ps)
 
-  pub chunks-within : (ps : List Piece) → ChunksAt s cs 0 ps → length ps ≤ 256 → ChunksWithin (length s) cs (length ps)
+  pub chunks-within : (ps : List Piece) → ChunksAt s cs 0 ps → length ps ≤ chunksMost → ChunksWithin (length s) cs (length ps)
   chunks-within ps h l = record {
     entries = omega (arith, lies-in (h .numbers), chunks-long ps);
     few = l;

@@ -9,6 +9,7 @@ ghost use mathlib.Core.Path.{_≡_};
 ghost use mathlib.Core.List.{[], _∷_};
 ghost use Prim.Native.Nat.{_+_, _*_, _≤_, _<_};
 ghost use lib.ListN.{length, getD};
+ghost use Rattle.octets.specs.Limits.{informationalMost};
 ghost use Rattle.output.specs.Splice.{splice, Put};
 ghost use Rattle.ranges.specs.Ranges.{placesEnd, StoredIf, readingFrom};
 ghost use Rattle.ranges.specs.Entries.{fieldsBefore, contentIn, ChunksWithin};
@@ -91,7 +92,7 @@ pub fn number_at(ranges: &[u32], i: usize) -> usize
 
 // How many fields the first n informational heads have: the fields of the head behind them begin at that entry.
 pub fn fields_before(heads: &[u32], n: usize) -> usize
-    requires { ⌜ (n * 2 ≤ length (now heads)) × (n ≤ 4) ⌝ }
+    requires { ⌜ (n * 2 ≤ length (now heads)) × (n ≤ informationalMost) ⌝ }
     ensures { λ r. ⌜ r ≡ fieldsBefore (now (heads .entry)) n ⌝ }
 {
     let mut i = 0;

@@ -2,20 +2,21 @@ use borrow.Author.Needs.{needs}
 use native.Mathlib.Omega.{arith}
 use Rattle.output.proofs.Laws.{put-count}
 use Rattle.output.proofs.Room.{puts, puts-then}
-use Rattle.http1_writer.proofs.Body.{body-plain, body-chunked, put-as}
+use Rattle.http1_writer.proofs.Body.{body-plain, body-chunked}
+use Rattle.output.proofs.Laws.{put-as}
 use Rattle.http1_writer.proofs.bodies.put_body.Statement.{statement}
 use Rattle.http1_writer.proofs.bodies.put_body.Tie as tie
 use Rattle.http1_writer.proofs.bodies.put_body.Reads as reads
 use Rattle.http1_writer.proofs.bodies.put_body.Lts as lts
 
-put-content-requires : tie.Need-put-content-requires
-put-content-requires c κs = (c .before .before .before .before .before .before .pre .0, omega (arith, body-plain (c .before .before .before .before .before .before .args .s .now) (c .before .before .before .before .before .before .args .trailers .now) (c .before .before .before .before .before .before .args .s .now) (c .before .before .before .before .before .before .args .size) (c .before .before .before .before .before .before .args .count) (c .before .if1 .taken) .1, c .before .before .before .before .before .before .pre .1, c .before .before .before .before .before .before .pre .3))
+put-chunks-requires : tie.Need-put-chunks-requires
+put-chunks-requires c κs = (c .before .before .before .before .before .before .pre .0, omega (arith, body-plain (c .before .before .before .before .before .before .args .s .now) (c .before .before .before .before .before .before .args .trailers .now) (c .before .before .before .before .before .before .args .s .now) (c .before .before .before .before .before .before .args .size) (c .before .before .before .before .before .before .args .count) (c .before .if1 .taken) .1, c .before .before .before .before .before .before .pre .1, c .before .before .before .before .before .before .pre .3))
 
 same-length : tie.Need-same-length
 same-length c = search needs
 
 returns : tie.Need-returns
-returns c = put-as (body-plain (c .before .before .before .before .before .before .before .before .before .args .s .now) (c .before .before .before .before .before .before .before .before .before .args .trailers .now) _ (c .before .before .before .before .before .before .before .before .before .args .size) (c .before .before .before .before .before .before .before .before .before .args .count) (c .before .before .before .before .if1 .taken)) (put-count (c .before .before .before .before .before .before .before .before .before .pre .1) (c .before .before .put-content .ensures))
+returns c = put-as (body-plain (c .before .before .before .before .before .before .before .before .before .args .s .now) (c .before .before .before .before .before .before .before .before .before .args .trailers .now) _ (c .before .before .before .before .before .before .before .before .before .args .size) (c .before .before .before .before .before .before .before .before .before .args .count) (c .before .before .before .before .if1 .taken)) (put-count (c .before .before .before .before .before .before .before .before .before .pre .1) (c .before .before .put-chunks .ensures))
 
 put-chunk-requires : tie.Need-put-chunk-requires
 put-chunk-requires c κs = (c .before .before .before .before .before .before .pre .0, c .before .before .before .before .before .before .pre .1, omega (arith, body-chunked (c .before .before .before .before .before .before .args .s .now) (c .before .before .before .before .before .before .args .trailers .now) (c .before .before .before .before .before .before .args .s .now) (c .before .before .before .before .before .before .args .size) (c .before .before .before .before .before .before .args .count) (c .before .if1 .left) .1, c .before .before .before .before .before .before .pre .3))
@@ -42,7 +43,7 @@ pub put-body-spec : {M : Type 1} → statement M
 put-body-spec =
     tie.close
     (tie.spec
-    put-content-requires
+    put-chunks-requires
     same-length
     returns
     put-chunk-requires

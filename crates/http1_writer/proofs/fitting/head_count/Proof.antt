@@ -14,7 +14,7 @@ add-result : tie.Need-add-result
 add-result c = omega (arith, c .before .length-lines .ensures .1, c .before .before .before .pre)
 
 returns : tie.Need-returns
-returns c = omega (arith, count-response (c .before .before .before .args .r) (c .before .before .if1 .taken), c .before .length-lines .ensures .0)
+returns c = omega (arith, count-response (c .before .before .before .args .r) (c .before .before .before .args .line) (c .before .before .if1 .taken), c .before .length-lines .ensures .0)
 
 length-lines-requires-2 : tie.Need-length-lines-requires-2
 length-lines-requires-2 c κs = search needs
@@ -26,7 +26,7 @@ add-result-3 : tie.Need-add-result-3
 add-result-3 c = omega (arith, c .before .length-lines2 .ensures .1, c .before .before .before .pre)
 
 returns-2 : tie.Need-returns-2
-returns-2 c = omega (arith, count-request (c .before .before .before .args .r) (c .before .before .if1 .left), c .before .length-lines2 .ensures .0)
+returns-2 c = omega (arith, count-request (c .before .before .before .args .r) (c .before .before .before .args .line) (c .before .before .if1 .left), c .before .length-lines2 .ensures .0)
 
 pub head-count-spec : {M : Type 1} → statement M
 head-count-spec =

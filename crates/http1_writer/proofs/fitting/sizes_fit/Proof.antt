@@ -22,13 +22,13 @@ trailers-fit-requires : tie.Need-trailers-fit-requires
 trailers-fit-requires c κs = (c .before .before .before .before .before .before .pre .1, c .before .before .before .before .before .before .pre .2)
 
 returns : tie.Need-returns
-returns c = c .trailers-fit .ensures ∙ fits-trailers (c .before .before .before .before .before .before .before .args .head) (c .before .before .before .before .before .before .before .args .r) (c .before .before .before .before .before .before .before .args .trailers .now) (sym (c .before .before .before .before .before .fits2 .ensures) ∙ c .before .before .before .before .if1 .taken) (rw (sym (c .before .before .before .head-count .ensures)) (sym (c .before .before .fits3 .ensures) ∙ c .before .if2 .taken))
+returns c = c .trailers-fit .ensures ∙ fits-trailers (c .before .before .before .before .before .before .before .args .head) (c .before .before .before .before .before .before .before .args .r) (c .before .before .before .before .before .before .before .args .line) (c .before .before .before .before .before .before .before .args .trailers .now) (sym (c .before .before .before .before .before .fits2 .ensures) ∙ c .before .before .before .before .if1 .taken) (rw (sym (c .before .before .before .head-count .ensures)) (sym (c .before .before .fits3 .ensures) ∙ c .before .if2 .taken))
 
 returns-2 : tie.Need-returns-2
-returns-2 c = fits-lines (c .before .before .before .before .before .before .args .head) (c .before .before .before .before .before .before .args .r) (c .before .before .before .before .before .before .args .trailers .now) (sym (c .before .before .before .before .fits2 .ensures) ∙ c .before .before .before .if1 .taken) (rw (sym (c .before .before .head-count .ensures)) (sym (c .before .fits3 .ensures) ∙ c .if2 .left))
+returns-2 c = fits-lines (c .before .before .before .before .before .before .args .head) (c .before .before .before .before .before .before .args .r) (c .before .before .before .before .before .before .args .line) (c .before .before .before .before .before .before .args .trailers .now) (sym (c .before .before .before .before .fits2 .ensures) ∙ c .before .before .before .if1 .taken) (rw (sym (c .before .before .head-count .ensures)) (sym (c .before .fits3 .ensures) ∙ c .if2 .left))
 
 returns-3 : tie.Need-returns-3
-returns-3 c = fits-head (c .before .before .before .args .head) (c .before .before .before .args .r) (c .before .before .before .args .trailers .now) (sym (c .before .fits2 .ensures) ∙ c .if1 .left)
+returns-3 c = fits-head (c .before .before .before .args .head) (c .before .before .before .args .r) (c .before .before .before .args .line) (c .before .before .before .args .trailers .now) (sym (c .before .fits2 .ensures) ∙ c .if1 .left)
 
 pub sizes-fit-spec : {M : Type 1} → statement M
 sizes-fit-spec =

@@ -26,7 +26,7 @@ add-result-2 : tie.Need-add-result-2
 add-result-2 c = omega (arith, c .before .before .lead-size .ensures .1, c .before .length-size .ensures .1, c .section-size .ensures .1)
 
 returns : tie.Need-returns
-returns c = let e = head-parts [] (c .before .before .before .before .before .before .args .r) (c .before .before .before .before .before .before .args .fields .now) (c .before .before .before .before .before .before .args .heads .now) _ (c .before .before .before .fields-before .ensures) in (omega (arith, e .1, c .before .before .lead-size .ensures .0, c .before .length-size .ensures .0, c .section-size .ensures .0), omega (arith, c .before .before .lead-size .ensures .1, c .before .length-size .ensures .1, c .section-size .ensures .1))
+returns c = let e = head-parts [] (c .before .before .before .before .before .before .args .r) (c .before .before .before .before .before .before .args .fields .now) (c .before .before .before .before .before .before .args .heads .now) (c .before .before .before .before .before .before .args .line) _ (c .before .before .before .fields-before .ensures) in (omega (arith, e .1, c .before .before .lead-size .ensures .0, c .before .length-size .ensures .0, c .section-size .ensures .0), omega (arith, c .before .before .lead-size .ensures .1, c .before .length-size .ensures .1, c .section-size .ensures .1))
 
 pub measure-head-spec : {M : Type 1} → statement M
 measure-head-spec =

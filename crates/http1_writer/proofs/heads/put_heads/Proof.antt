@@ -5,7 +5,8 @@ use native.Mathlib.Omega.{arith}
 use lib.ListN.{length}
 use Rattle.ranges.specs.Entries.{fieldsBefore, FieldsWithin, HeadsWithin}
 use Rattle.ranges.proofs.Entries.{before-next, before-none}
-use Rattle.http1_writer.proofs.Turns.{left-turn, left-none, HeadsLeft, heads-start, heads-length, head-next, head-none, head-within}
+use Rattle.output.proofs.Laws.{left-turn, left-none}
+use Rattle.http1_writer.proofs.Turns.{HeadsLeft, heads-start, heads-length, head-next, head-none, head-within}
 use Rattle.http1_writer.proofs.heads.put_heads.Statement.{statement}
 use Rattle.http1_writer.proofs.heads.put_heads.Tie as tie
 use Rattle.http1_writer.proofs.heads.put_heads.Reads as reads

@@ -1,7 +1,7 @@
 use borrow.Author.Needs.{needs}
 use native.Mathlib.Omega.{arith}
 use Rattle.output.proofs.Laws.{put-then}
-use Rattle.http1_writer.proofs.Body.{put-as}
+use Rattle.output.proofs.Laws.{put-as}
 use Rattle.http1_writer.proofs.Head.{lead-response, lead-request}
 use Rattle.http1_writer.proofs.heads.put_lead.Statement.{statement}
 use Rattle.http1_writer.proofs.heads.put_lead.Tie as tie

@@ -1,20 +1,22 @@
 use borrow.Author.Needs.{needs}
 use native.Mathlib.Omega.{arith}
-use mathlib.Core.Path.{sym, _∙_}
 use Rattle.output.proofs.Laws.{put-none}
 use Rattle.output.proofs.Room.{puts, puts-then}
-use Rattle.http1_writer.proofs.Body.{put-as}
-use Rattle.http1_writer.proofs.Length.{length-none, length-plain, length-coded}
+use Rattle.output.proofs.Laws.{put-as}
+use Rattle.http1_writer.proofs.Length.{is-none, is-length, is-chunked}
 use Rattle.http1_writer.proofs.lengths.put_length.Statement.{statement}
 use Rattle.http1_writer.proofs.lengths.put_length.Tie as tie
 use Rattle.http1_writer.proofs.lengths.put_length.Reads as reads
 use Rattle.http1_writer.proofs.lengths.put_length.Lts as lts
 
-is-unmeasured-requires : tie.Need-is-unmeasured-requires
-is-unmeasured-requires c κs = search needs
+enum-told : tie.Need-enum-told
+enum-told c = search needs
 
 returns : tie.Need-returns
-returns c = let e = length-none (c .before .before .before .before .before .args .r) (c .before .before .if1 .taken) (sym (c .before .is-unmeasured .ensures) ∙ c .if2 .taken) in put-as (e .text, e .size) (put-none _ _)
+returns c = let e = is-none (c .enum-told .given .1) in put-as (e .text, e .size) (put-none _ _)
+
+enum-known-line : tie.Need-enum-known-line
+enum-known-line c = search needs
 
 slice-aggregate-put-text : tie.Need-slice-aggregate-put-text
 slice-aggregate-put-text c = search needs
@@ -35,7 +37,10 @@ same-length : tie.Need-same-length
 same-length c = search needs
 
 returns-2 : tie.Need-returns-2
-returns-2 c = let e = length-plain (c .before .before .before .before .before .before .before .before .before .before .before .before .before .before .before .before .before .before .before .args .r) (c .before .before .before .before .before .before .before .before .before .before .before .before .before .before .before .before .if1 .taken) (sym (c .before .before .before .before .before .before .before .before .before .before .before .before .before .before .before .is-unmeasured .ensures) ∙ c .before .before .before .before .before .before .before .before .before .before .before .before .before .before .if2 .left) in put-as (e .text, e .size) (puts-then (puts-then (puts (c .before .before .before .before .before .before .before .before .before .before .before .put-text .ensures)) (puts (c .before .before .before .before .before .before .before .put-decimal .ensures))) (puts (c .before .before .put-text2 .ensures)) (omega (arith, e .size, c .before .before .before .before .before .before .before .before .before .before .before .before .before .before .before .before .before .before .before .pre)))
+returns-2 c = let e = is-length (c .before .before .before .before .before .before .before .before .before .before .before .before .before .before .before .line .given .1) in put-as (e .text, e .size) (puts-then (puts-then (puts (c .before .before .before .before .before .before .before .before .before .before .before .put-text .ensures)) (puts (c .before .before .before .before .before .before .before .put-decimal .ensures))) (puts (c .before .before .put-text2 .ensures)) (omega (arith, e .size, c .before .before .before .before .before .before .before .before .before .before .before .before .before .before .before .before .before .before .pre)))
+
+enum-told-2 : tie.Need-enum-told-2
+enum-told-2 c = search needs
 
 slice-aggregate-put-text-3 : tie.Need-slice-aggregate-put-text-3
 slice-aggregate-put-text-3 c = search needs
@@ -47,14 +52,15 @@ same-length-2 : tie.Need-same-length-2
 same-length-2 c = search needs
 
 returns-3 : tie.Need-returns-3
-returns-3 c = let e = length-coded (c .before .before .before .before .before .before .before .before .args .r) (c .before .before .before .before .before .if1 .left) in put-as (e .text, e .size) (puts (c .before .before .put-text3 .ensures) (omega (arith, e .size, c .before .before .before .before .before .before .before .before .pre)))
+returns-3 c = let e = is-chunked (c .before .before .before .before .before .enum-told2 .given .1) in put-as (e .text, e .size) (puts (c .before .before .put-text3 .ensures) (omega (arith, e .size, c .before .before .before .before .before .before .before .before .pre)))
 
 pub put-length-spec : {M : Type 1} → statement M
 put-length-spec =
     tie.close
     (tie.spec
-    is-unmeasured-requires
+    enum-told
     returns
+    enum-known-line
     slice-aggregate-put-text
     put-text-requires
     put-decimal-requires
@@ -62,6 +68,7 @@ put-length-spec =
     put-text-requires-2
     same-length
     returns-2
+    enum-told-2
     slice-aggregate-put-text-3
     put-text-requires-3
     same-length-2

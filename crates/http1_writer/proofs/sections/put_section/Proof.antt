@@ -4,7 +4,8 @@ use mathlib.Core.Path.{_≡_, refl, sym, ap, _∙_}
 use native.Mathlib.Omega.{arith}
 use lib.ListN.{length}
 use Rattle.output.proofs.Room.{puts}
-use Rattle.http1_writer.proofs.Turns.{left-turn, left-last, LinesLeft, section-start, section-length, section-more, section-none}
+use Rattle.output.proofs.Laws.{left-turn, left-last}
+use Rattle.http1_writer.proofs.Turns.{LinesLeft, section-start, section-length, section-more, section-none}
 use Rattle.http1_writer.proofs.sections.put_section.Statement.{statement}
 use Rattle.http1_writer.proofs.sections.put_section.Tie as tie
 use Rattle.http1_writer.proofs.sections.put_section.Reads as reads
