@@ -4,12 +4,13 @@ use mathlib.Core.List.{map}
 use native.Mathlib.Omega.{arith}
 use lib.ListN.{length, getD}
 use Rattle.output.specs.Splice.{Left}
+use Rattle.output.proofs.Laws.{left-none}
 use Rattle.messages.specs.Meaning.{fieldMeans}
 use Rattle.ranges.specs.Entries.{fieldsIn}
 use Rattle.binary_writer.specs.Write.{fieldsBytes}
 use Rattle.binary_writer.specs.Sizes.{fieldsSize}
 use Rattle.binary_writer.proofs.Lengths.{fields-length}
-use Rattle.binary_writer.proofs.Steps.{size-more, size-none, left-over, fields-begin, left-field, fields-bytes-none}
+use Rattle.binary_writer.proofs.Steps.{size-more, size-none, fields-begin, left-field, fields-bytes-none}
 use Rattle.binary_writer.proofs.put.put_fields.Statement.{statement}
 use Rattle.binary_writer.proofs.put.put_fields.Tie as tie
 use Rattle.binary_writer.proofs.put.put_fields.Reads as reads
@@ -52,7 +53,7 @@ same-length c = c .before .loop .inv .1 .kept
 
 -- src/put.rt:87:1
 returns : tie.Need-returns Inv-loop μ-loop
-returns c = left-over (fields-bytes-none (c .before .before .before .before .before .args .s .now) (c .before .before .before .before .before .args .ranges .now) (c .before .before .before .before .before .args .k) (c .before .before .before .before .before .args .n) (c .before .loop .i) (c .loop-test .left)) (size-none (c .before .before .before .before .before .args .ranges .now) (c .before .before .before .before .before .args .k) (c .before .before .before .before .before .args .n) (c .before .loop .i) (c .loop-test .left)) (fields-length (c .before .before .before .before .before .args .s .now) (c .before .before .before .before .before .args .ranges .now) (c .before .before .before .before .before .args .k) (c .before .before .before .before .before .args .n)) (c .before .loop .inv .1)
+returns c = left-none (c .before .loop .inv .1) (fields-length (c .before .before .before .before .before .args .s .now) (c .before .before .before .before .before .args .ranges .now) (c .before .before .before .before .before .args .k) (c .before .before .before .before .before .args .n)) (fields-bytes-none (c .before .before .before .before .before .args .s .now) (c .before .before .before .before .before .args .ranges .now) (c .before .before .before .before .before .args .k) (c .before .before .before .before .before .args .n) (c .before .loop .i) (c .loop-test .left), size-none (c .before .before .before .before .before .args .ranges .now) (c .before .before .before .before .before .args .k) (c .before .before .before .before .before .args .n) (c .before .loop .i) (c .loop-test .left))
 
 pub put-fields-spec : {M : Type 1} → statement M
 put-fields-spec =

@@ -3,12 +3,13 @@ use mathlib.Core.Path.{_≡_, refl, sym, ap, _∙_}
 use native.Mathlib.Omega.{arith}
 use lib.ListN.{length, getD}
 use Rattle.output.specs.Splice.{Left}
+use Rattle.output.proofs.Laws.{left-none}
 use Rattle.ranges.specs.Entries.{fieldsBefore, headsIn}
 use Rattle.ranges.proofs.Entries.{before-next, before-none}
 use Rattle.binary_writer.specs.Write.{informationalBytes}
 use Rattle.binary_writer.specs.Sizes.{headsSize}
 use Rattle.binary_writer.proofs.Lengths.{heads-length}
-use Rattle.binary_writer.proofs.Steps.{heads-size-more, heads-size-none, head-as, within-as, left-over, heads-begin, left-head, heads-bytes-none}
+use Rattle.binary_writer.proofs.Steps.{heads-size-more, heads-size-none, head-as, within-as, heads-begin, left-head, heads-bytes-none}
 use Rattle.binary_writer.proofs.put.put_heads.Statement.{statement}
 use Rattle.binary_writer.proofs.put.put_heads.Tie as tie
 use Rattle.binary_writer.proofs.put.put_heads.Reads as reads
@@ -72,7 +73,7 @@ same-length c = c .before .loop .inv .2 .kept
 
 -- src/put.rt:130:1
 returns : tie.Need-returns Inv-loop μ-loop
-returns c = left-over (heads-bytes-none (c .before .before .before .before .before .before .args .s .now) (c .before .before .before .before .before .before .args .fields .now) (c .before .before .before .before .before .before .args .heads .now) (c .before .before .before .before .before .before .args .n) (c .before .loop .i) (c .loop-test .left)) (heads-size-none (c .before .before .before .before .before .before .args .fields .now) (c .before .before .before .before .before .before .args .heads .now) (c .before .before .before .before .before .before .args .n) (c .before .loop .i) (c .loop-test .left)) (heads-length (c .before .before .before .before .before .before .args .s .now) (c .before .before .before .before .before .before .args .fields .now) (c .before .before .before .before .before .before .args .heads .now) 0 (c .before .before .before .before .before .before .args .n)) (c .before .loop .inv .2)
+returns c = left-none (c .before .loop .inv .2) (heads-length (c .before .before .before .before .before .before .args .s .now) (c .before .before .before .before .before .before .args .fields .now) (c .before .before .before .before .before .before .args .heads .now) 0 (c .before .before .before .before .before .before .args .n)) (heads-bytes-none (c .before .before .before .before .before .before .args .s .now) (c .before .before .before .before .before .before .args .fields .now) (c .before .before .before .before .before .before .args .heads .now) (c .before .before .before .before .before .before .args .n) (c .before .loop .i) (c .loop-test .left), heads-size-none (c .before .before .before .before .before .before .args .fields .now) (c .before .before .before .before .before .before .args .heads .now) (c .before .before .before .before .before .before .args .n) (c .before .loop .i) (c .loop-test .left))
 
 pub put-heads-spec : {M : Type 1} → statement M
 put-heads-spec =
