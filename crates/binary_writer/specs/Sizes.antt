@@ -8,6 +8,7 @@ use lib.ListN.{getD}
 use Rattle.numbers.specs.Integer.{intLen}
 use Rattle.messages.specs.Message.{Message}
 use Rattle.messages.specs.Meaning.{meaning}
+use Rattle.messages.specs.declared.Part.{Part}
 use Rattle.messages.specs.declared.Record.{Record}
 use Rattle.output.specs.Reply.{Served}
 use Rattle.output.specs.declared.Written.{Written}
@@ -45,17 +46,34 @@ headsSize hs ns i (suc n) = headSize hs ns i + headsSize hs ns (i + 1) n
 unfoldable pub schemeSize : ℕ → ℕ
 schemeSize s = cond (eqb s 0) 5 6
 
--- framing and control data of a response, or of a request
+-- framing indicator and control data of a response with n informational heads
+abbrev pub responseSize : List ℕ → List ℕ → ℕ → ℕ → ℕ
+responseSize hs ns n status = 1 + headsSize hs ns 0 n + intLen status
+
+-- the same of a request, by its method, scheme, authority and path
+abbrev pub requestSize : Part → ℕ → Part → Part → ℕ
+requestSize m scheme a p = 1 + countedSize (m .len) + schemeSize scheme + countedSize (a .len) + countedSize (p .len)
+
+-- framing indicator and control data of a response, or of a request
 unfoldable pub controlSize : Bool → Record → List ℕ → List ℕ → ℕ
-controlSize true r hs ns = 1 + headsSize hs ns 0 (r .informational) + intLen (r .status)
-controlSize false r hs ns = 1 + countedSize (r .method .len) + schemeSize (r .scheme) + countedSize (r .authority .len) + countedSize (r .path .len)
+controlSize true r hs ns = responseSize hs ns (r .informational) (r .status)
+controlSize false r hs ns = requestSize (r .method) (r .scheme) (r .authority) (r .path)
 
 -- a whole message
 unfoldable pub messageSize : Record → List ℕ → List ℕ → List ℕ → ℕ
 messageSize r hs ns ts =
-    controlSize (r .response) r hs ns + sectionSize hs (fieldsBefore ns (r .informational)) (r .headers) + countedSize (r .content) + sectionSize ts 0 (r .trailers)
+    controlSize (r .response) r hs ns + sectionSize hs (fieldsBefore ns (r .informational)) (r .headers)
+    + countedSize (r .content) + sectionSize ts 0 (r .trailers)
 
--- bounds, so that no sum passes 2 ^ 62. A field: two lengths of 32 bits, each with its count
+-- bounds, so that no sum passes 2 ^ 62. The count in front of a part
+abbrev pub countMost : ℕ
+countMost = 8
+
+-- a scheme's name
+abbrev pub schemeMost : ℕ
+schemeMost = 6
+
+-- a field: two lengths of 32 bits, each with its count
 abbrev pub entryMost : ℕ
 entryMost = 8589934606
 
@@ -63,9 +81,21 @@ entryMost = 8589934606
 abbrev pub fieldsMost : ℕ
 fieldsMost = 549755814784
 
--- four heads: status, count and fields
+-- a section of them: count and fields
+abbrev pub sectionMost : ℕ
+sectionMost = 549755814792
+
+-- an informational head: status and section
+abbrev pub headMost : ℕ
+headMost = 549755814800
+
+-- four of them
 abbrev pub headsMost : ℕ
 headsMost = 2199023259200
+
+-- framing indicator and control data
+abbrev pub controlMost : ℕ
+controlMost = 2199023259209
 
 -- one length of 32 bits, with its count
 abbrev pub partMost : ℕ

@@ -1,5 +1,5 @@
 // Writing Binary HTTP (RFC 9292).
-pub mod measure; // measure.rt: sizes by numbers
+mod measure; // measure.rt: sizes by numbers
 mod put; // put.rt: the parts of a message
 
 use crate::measure::message_size;
@@ -27,22 +27,24 @@ fn write_within(
     out: &mut [u8],
 ) -> Written
     requires { ⌜ MessageWithin (now s) r (now headers) (now heads) (now chunks) (now trailers) ⌝ }
-    ensures { λ w. ⌜ Served (toBinary (meaningIn (now (s .entry)) r (now (headers .entry)) (now (heads .entry)) (now (chunks .entry)) (now (trailers .entry)))) (now (out .entry)) (now (out .exit)) w ⌝ }
+    ensures { λ w. ⌜ Served
+        (toBinary (meaningIn (now (s .entry)) r (now (headers .entry)) (now (heads .entry)) (now (chunks .entry)) (now (trailers .entry))))
+        (now (out .entry)) (now (out .exit)) w ⌝ }
 {
     let n = message_size(r, headers, heads, trailers);
-    if Limits::BINARY < n {
-        return Written::Refused {
-            number: Refusals::TOO_LARGE,
-            place: 0,
-        };
+    if Limits::fits(n, Limits::BINARY) {
+        if out.len() < n {
+            return Written::Refused {
+                number: Refusals::NO_ROOM,
+                place: 0,
+            };
+        }
+        return Written::Done(put_message(out, s, r, headers, heads, chunks, trailers));
     }
-    if out.len() < n {
-        return Written::Refused {
-            number: Refusals::NO_ROOM,
-            place: 0,
-        };
+    Written::Refused {
+        number: Refusals::TOO_LARGE,
+        place: 0,
     }
-    Written::Done(put_message(out, s, r, headers, heads, chunks, trailers))
 }
 
 // An accepted message, of either form, as Binary. A refusal writes nothing.
@@ -56,7 +58,8 @@ pub fn write_message(
     out: &mut [u8],
 ) -> Written
     requires { ⌜ ((n : ℕ) × (m : Message) × Held (now s) n m r (now headers) (now heads) (now chunks) (now trailers)) ⌝ }
-    ensures { λ w. ⌜ BinaryWritten (now (s .entry)) r (now (headers .entry)) (now (heads .entry)) (now (chunks .entry)) (now (trailers .entry)) (now (out .entry)) (now (out .exit)) w ⌝ }
+    ensures { λ w. ⌜ BinaryWritten (now (s .entry)) r (now (headers .entry)) (now (heads .entry)) (now (chunks .entry)) (now (trailers .entry))
+        (now (out .entry)) (now (out .exit)) w ⌝ }
 {
     write_within(s, r, headers, heads, chunks, trailers, out)
 }

@@ -9,13 +9,16 @@ ghost use Prim.Native.Nat.{ℕ, _+_, _*_, _≤_, _<_};
 ghost use mathlib.Core.List.{List};
 ghost use lib.ListN.{length};
 ghost use Rattle.numbers.specs.Integer.{integerEnd, intLen};
-ghost use Rattle.ranges.specs.Entries.{HeadsWithin, MessageWithin};
-ghost use Rattle.binary_writer.specs.Sizes.{countedSize, entrySize, fieldsSize, sectionSize, headsSize, schemeSize, controlSize, messageSize, entryMost, fieldsMost, headsMost, partMost};
+ghost use Rattle.octets.specs.Limits.{linesMost};
+ghost use Rattle.ranges.specs.Entries.{HeadsCounted, MessageWithin};
+ghost use Rattle.binary_writer.specs.Sizes.{countedSize, entrySize, fieldsSize, sectionSize, headsSize};
+ghost use Rattle.binary_writer.specs.Sizes.{schemeSize, requestSize, responseSize, controlSize, messageSize};
+ghost use Rattle.binary_writer.specs.Sizes.{countMost, schemeMost, entryMost, fieldsMost, sectionMost, headMost, headsMost, partMost, controlMost};
 
 // So many octets with their count in front.
-pub fn counted_size(n: usize) -> usize
+fn counted_size(n: usize) -> usize
     requires { ⌜ n < integerEnd ⌝ }
-    ensures { λ r. ⌜ (r ≡ countedSize n) × (r ≤ n + 8) ⌝ }
+    ensures { λ r. ⌜ (r ≡ countedSize n) × (r ≤ n + countMost) ⌝ }
 {
     int_len(n) + n
 }
@@ -32,7 +35,7 @@ fn entry_size(ranges: &[u32], k: usize) -> usize
 
 // The fields of n entries from the entry k on.
 pub fn fields_size(ranges: &[u32], k: usize, n: usize) -> usize
-    requires { ⌜ ((k + n) * 4 ≤ length (now ranges)) × (n ≤ 64) ⌝ }
+    requires { ⌜ ((k + n) * 4 ≤ length (now ranges)) × (n ≤ linesMost) ⌝ }
     ensures { λ r. ⌜ (r ≡ fieldsSize (now (ranges .entry)) k n) × (r ≤ fieldsMost) ⌝ }
 {
     let mut i = 0;
@@ -45,9 +48,9 @@ pub fn fields_size(ranges: &[u32], k: usize, n: usize) -> usize
 }
 
 // A section of them.
-pub fn section_size(ranges: &[u32], k: usize, n: usize) -> usize
-    requires { ⌜ ((k + n) * 4 ≤ length (now ranges)) × (n ≤ 64) ⌝ }
-    ensures { λ r. ⌜ (r ≡ sectionSize (now (ranges .entry)) k n) × (r ≤ fieldsMost + 8) ⌝ }
+fn section_size(ranges: &[u32], k: usize, n: usize) -> usize
+    requires { ⌜ ((k + n) * 4 ≤ length (now ranges)) × (n ≤ linesMost) ⌝ }
+    ensures { λ r. ⌜ (r ≡ sectionSize (now (ranges .entry)) k n) × (r ≤ sectionMost) ⌝ }
 {
     let size = fields_size(ranges, k, n);
     counted_size(size)
@@ -55,15 +58,15 @@ pub fn section_size(ranges: &[u32], k: usize, n: usize) -> usize
 
 // The status and the section of an informational head.
 fn head_size(status: usize, ranges: &[u32], k: usize, n: usize) -> usize
-    requires { ⌜ ((k + n) * 4 ≤ length (now ranges)) × (n ≤ 64) × (status < integerEnd) ⌝ }
-    ensures { λ r. ⌜ (r ≡ intLen status + sectionSize (now (ranges .entry)) k n) × (r ≤ fieldsMost + 16) ⌝ }
+    requires { ⌜ ((k + n) * 4 ≤ length (now ranges)) × (n ≤ linesMost) × (status < integerEnd) ⌝ }
+    ensures { λ r. ⌜ (r ≡ intLen status + sectionSize (now (ranges .entry)) k n) × (r ≤ headMost) ⌝ }
 {
     int_len(status) + section_size(ranges, k, n)
 }
 
 // The first n informational heads.
 fn heads_size(fields: &[u32], heads: &[u32], n: usize) -> usize
-    requires { ⌜ ((l : ℕ) × HeadsWithin l (now fields) (now heads) n) ⌝ }
+    requires { ⌜ HeadsCounted (now fields) (now heads) n ⌝ }
     ensures { λ r. ⌜ (r ≡ headsSize (now (fields .entry)) (now (heads .entry)) 0 n) × (r ≤ headsMost) ⌝ }
 {
     let mut i = 0;
@@ -81,7 +84,7 @@ fn heads_size(fields: &[u32], heads: &[u32], n: usize) -> usize
 
 // The name of a scheme with its count.
 fn scheme_size(scheme: u32) -> usize
-    ensures { λ r. ⌜ (r ≡ schemeSize scheme) × (r ≤ 6) ⌝ }
+    ensures { λ r. ⌜ (r ≡ schemeSize scheme) × (r ≤ schemeMost) ⌝ }
 {
     if scheme == 0 {
         return 5;
@@ -98,23 +101,23 @@ fn part_size(p: Part) -> usize
 
 // The control data of a request, with the framing indicator.
 fn request_size(method: Part, scheme: u32, authority: Part, path: Part) -> usize
-    ensures { λ r. ⌜ (r ≡ 1 + countedSize (method .len) + schemeSize scheme + countedSize (authority .len) + countedSize (path .len)) × (r ≤ headsMost) ⌝ }
+    ensures { λ r. ⌜ (r ≡ requestSize method scheme authority path) × (r ≤ headsMost) ⌝ }
 {
     1 + part_size(method) + scheme_size(scheme) + part_size(authority) + part_size(path)
 }
 
 // The control data of a response, with the framing indicator.
 fn response_size(fields: &[u32], heads: &[u32], n: usize, status: u32) -> usize
-    requires { ⌜ ((l : ℕ) × HeadsWithin l (now fields) (now heads) n) ⌝ }
-    ensures { λ r. ⌜ (r ≡ 1 + headsSize (now (fields .entry)) (now (heads .entry)) 0 n + intLen status) × (r ≤ headsMost + 9) ⌝ }
+    requires { ⌜ HeadsCounted (now fields) (now heads) n ⌝ }
+    ensures { λ r. ⌜ (r ≡ responseSize (now (fields .entry)) (now (heads .entry)) n status) × (r ≤ controlMost) ⌝ }
 {
     1 + heads_size(fields, heads, n) + int_len(status as usize)
 }
 
 // Framing indicator and control data of a message.
 fn control_size(r: Record, fields: &[u32], heads: &[u32]) -> usize
-    requires { ⌜ ((l : ℕ) × HeadsWithin l (now fields) (now heads) (r .informational)) ⌝ }
-    ensures { λ z. ⌜ (z ≡ controlSize (r .response) r (now (fields .entry)) (now (heads .entry))) × (z ≤ headsMost + 9) ⌝ }
+    requires { ⌜ HeadsCounted (now fields) (now heads) (r .informational) ⌝ }
+    ensures { λ z. ⌜ (z ≡ controlSize (r .response) r (now (fields .entry)) (now (heads .entry))) × (z ≤ controlMost) ⌝ }
 {
     if r.response {
         return response_size(fields, heads, r.informational, r.status);

@@ -11,16 +11,18 @@ use ranges::fields_before;
 use ranges::number_at;
 use ranges::put_chunks;
 ghost use mathlib.Core.Path.{_≡_};
-ghost use mathlib.Core.List.{List, map, _++_};
-ghost use Prim.Native.Nat.{ℕ, _+_, _*_, _≤_, _<_};
+ghost use mathlib.Core.List.{map, _++_};
+ghost use Prim.Native.Nat.{_+_, _*_, _≤_, _<_};
 ghost use lib.ListN.{length};
 ghost use Rattle.octets.specs.Text.{lowerOf};
 ghost use Rattle.numbers.specs.Integer.{integerEnd, intLen, intBytes};
 ghost use Rattle.output.specs.Splice.{part, Put};
-ghost use Rattle.messages.specs.Meaning.{request, response, fieldMeans};
-ghost use Rattle.ranges.specs.Entries.{fieldIn, fieldsIn, contentIn, headsIn, partIn, controlIn, meaningIn, EntryWithin, FieldsWithin, HeadsWithin, ChunksWithin, MessageWithin};
+ghost use Rattle.messages.specs.Meaning.{request, response};
+ghost use Rattle.ranges.specs.Entries.{fieldNamed, fieldsNamed, contentIn, headsIn, partIn, controlIn, meaningIn};
+ghost use Rattle.ranges.specs.Entries.{PartWithin, EntryWithin, FieldsWithin, HeadsWithin, ChunksWithin, MessageWithin, HeadWithin};
 ghost use Rattle.binary_writer.specs.Write.{counted, fieldBytes, fieldsBytes, sectionBytes, schemeBytes, informationalBytes, controlBytes, binaryOf};
-ghost use Rattle.binary_writer.specs.Sizes.{countedSize, entrySize, fieldsSize, sectionSize, headsSize, schemeSize, controlSize, messageSize};
+ghost use Rattle.binary_writer.specs.Sizes.{countedSize, entrySize, fieldsSize, sectionSize, headsSize};
+ghost use Rattle.binary_writer.specs.Sizes.{schemeSize, requestSize, responseSize, controlSize, messageSize};
 
 // So many octets of the source with their count in front.
 fn put_counted(out: &mut [u8], at: usize, s: &[u8], from: usize, len: usize) -> usize
@@ -54,7 +56,8 @@ fn put_scheme(out: &mut [u8], at: usize, scheme: u32) -> usize
 // The field of the entry k.
 fn put_entry(out: &mut [u8], at: usize, s: &[u8], ranges: &[u32], k: usize) -> usize
     requires { ⌜ (k * 4 + 4 ≤ length (now ranges)) × EntryWithin (length (now s)) (now ranges) k × (at + entrySize (now ranges) k ≤ length (now out)) ⌝ }
-    ensures { λ r. ⌜ Put (now (out .entry)) at (fieldBytes (fieldMeans (fieldIn (now (s .entry)) (now (ranges .entry)) k))) (entrySize (now (ranges .entry)) k) (now (out .exit)) r ⌝ }
+    ensures { λ r. ⌜ Put (now (out .entry)) at
+        (fieldBytes (fieldNamed (now (s .entry)) (now (ranges .entry)) k)) (entrySize (now (ranges .entry)) k) (now (out .exit)) r ⌝ }
 {
     let name = number_at(ranges, k * 4);
     let nlen = number_at(ranges, k * 4 + 1);
@@ -66,7 +69,8 @@ fn put_entry(out: &mut [u8], at: usize, s: &[u8], ranges: &[u32], k: usize) -> u
 
 // The content: its chunks one behind the other, with their count in front.
 fn put_content(out: &mut [u8], at: usize, s: &[u8], chunks: &[u32], n: usize, len: usize) -> usize
-    requires { ⌜ ChunksWithin (length (now s)) (now chunks) n × (length (contentIn (now s) (now chunks) n) ≡ len) × (len < integerEnd) × (at + countedSize len ≤ length (now out)) ⌝ }
+    requires { ⌜ ChunksWithin (length (now s)) (now chunks) n × (length (contentIn (now s) (now chunks) n) ≡ len) × (len < integerEnd)
+        × (at + countedSize len ≤ length (now out)) ⌝ }
     ensures { λ r. ⌜ Put (now (out .entry)) at (counted (contentIn (now (s .entry)) (now (chunks .entry)) n)) (countedSize len) (now (out .exit)) r ⌝ }
 {
     let a = put_int(out, at, len);
@@ -76,7 +80,8 @@ fn put_content(out: &mut [u8], at: usize, s: &[u8], chunks: &[u32], n: usize, le
 // The fields of n entries from the entry k on.
 fn put_fields(out: &mut [u8], at: usize, s: &[u8], ranges: &[u32], k: usize, n: usize) -> usize
     requires { ⌜ FieldsWithin (length (now s)) (now ranges) k n × (at + fieldsSize (now ranges) k n ≤ length (now out)) ⌝ }
-    ensures { λ r. ⌜ Put (now (out .entry)) at (fieldsBytes (map fieldMeans (fieldsIn (now (s .entry)) (now (ranges .entry)) k n))) (fieldsSize (now (ranges .entry)) k n) (now (out .exit)) r ⌝ }
+    ensures { λ r. ⌜ Put (now (out .entry)) at
+        (fieldsBytes (fieldsNamed (now (s .entry)) (now (ranges .entry)) k n)) (fieldsSize (now (ranges .entry)) k n) (now (out .exit)) r ⌝ }
 {
     let mut i = 0;
     let mut a = at;
@@ -90,7 +95,8 @@ fn put_fields(out: &mut [u8], at: usize, s: &[u8], ranges: &[u32], k: usize, n: 
 // A section of them.
 fn put_section(out: &mut [u8], at: usize, s: &[u8], ranges: &[u32], k: usize, n: usize) -> usize
     requires { ⌜ FieldsWithin (length (now s)) (now ranges) k n × (at + sectionSize (now ranges) k n ≤ length (now out)) ⌝ }
-    ensures { λ r. ⌜ Put (now (out .entry)) at (sectionBytes (map fieldMeans (fieldsIn (now (s .entry)) (now (ranges .entry)) k n))) (sectionSize (now (ranges .entry)) k n) (now (out .exit)) r ⌝ }
+    ensures { λ r. ⌜ Put (now (out .entry)) at
+        (sectionBytes (fieldsNamed (now (s .entry)) (now (ranges .entry)) k n)) (sectionSize (now (ranges .entry)) k n) (now (out .exit)) r ⌝ }
 {
     let size = fields_size(ranges, k, n);
     let a = put_int(out, at, size);
@@ -107,8 +113,11 @@ fn put_head(
     k: usize,
     n: usize,
 ) -> usize
-    requires { ⌜ (status < integerEnd) × FieldsWithin (length (now s)) (now ranges) k n × (at + (intLen status + sectionSize (now ranges) k n) ≤ length (now out)) ⌝ }
-    ensures { λ r. ⌜ Put (now (out .entry)) at (intBytes status ++ sectionBytes (map fieldMeans (fieldsIn (now (s .entry)) (now (ranges .entry)) k n))) (intLen status + sectionSize (now (ranges .entry)) k n) (now (out .exit)) r ⌝ }
+    requires { ⌜ (status < integerEnd) × FieldsWithin (length (now s)) (now ranges) k n
+        × (at + (intLen status + sectionSize (now ranges) k n) ≤ length (now out)) ⌝ }
+    ensures { λ r. ⌜ Put (now (out .entry)) at
+        (intBytes status ++ sectionBytes (fieldsNamed (now (s .entry)) (now (ranges .entry)) k n))
+        (intLen status + sectionSize (now (ranges .entry)) k n) (now (out .exit)) r ⌝ }
 {
     let a = put_int(out, at, status);
     put_section(out, a, s, ranges, k, n)
@@ -117,7 +126,9 @@ fn put_head(
 // The first n informational heads.
 fn put_heads(out: &mut [u8], at: usize, s: &[u8], fields: &[u32], heads: &[u32], n: usize) -> usize
     requires { ⌜ HeadsWithin (length (now s)) (now fields) (now heads) n × (at + headsSize (now fields) (now heads) 0 n ≤ length (now out)) ⌝ }
-    ensures { λ r. ⌜ Put (now (out .entry)) at (informationalBytes (headsIn (now (s .entry)) (now (fields .entry)) (now (heads .entry)) 0 n)) (headsSize (now (fields .entry)) (now (heads .entry)) 0 n) (now (out .exit)) r ⌝ }
+    ensures { λ r. ⌜ Put (now (out .entry)) at
+        (informationalBytes (headsIn (now (s .entry)) (now (fields .entry)) (now (heads .entry)) 0 n))
+        (headsSize (now (fields .entry)) (now (heads .entry)) 0 n) (now (out .exit)) r ⌝ }
 {
     let mut i = 0;
     let mut k = 0;
@@ -134,7 +145,7 @@ fn put_heads(out: &mut [u8], at: usize, s: &[u8], fields: &[u32], heads: &[u32],
 
 // A part of control data with its count in front.
 fn put_counted_part(out: &mut [u8], at: usize, s: &[u8], p: Part) -> usize
-    requires { ⌜ (p .start + p .len ≤ length (now s)) × (at + countedSize (p .len) ≤ length (now out)) ⌝ }
+    requires { ⌜ PartWithin (length (now s)) p × (at + countedSize (p .len) ≤ length (now out)) ⌝ }
     ensures { λ r. ⌜ Put (now (out .entry)) at (counted (partIn (now (s .entry)) p)) (countedSize (p .len)) (now (out .exit)) r ⌝ }
 {
     put_counted(out, at, s, p.start as usize, p.len as usize)
@@ -149,8 +160,11 @@ fn put_request(
     authority: Part,
     path: Part,
 ) -> usize
-    requires { ⌜ (method .start + method .len ≤ length (now s)) × (authority .start + authority .len ≤ length (now s)) × (path .start + path .len ≤ length (now s)) × (1 + countedSize (method .len) + schemeSize scheme + countedSize (authority .len) + countedSize (path .len) ≤ length (now out)) ⌝ }
-    ensures { λ r. ⌜ Put (now (out .entry)) 0 (controlBytes (request (partIn (now (s .entry)) method) scheme (partIn (now (s .entry)) authority) (partIn (now (s .entry)) path))) (1 + countedSize (method .len) + schemeSize scheme + countedSize (authority .len) + countedSize (path .len)) (now (out .exit)) r ⌝ }
+    requires { ⌜ PartWithin (length (now s)) method × PartWithin (length (now s)) authority × PartWithin (length (now s)) path
+        × (requestSize method scheme authority path ≤ length (now out)) ⌝ }
+    ensures { λ r. ⌜ Put (now (out .entry)) 0
+        (controlBytes (request (partIn (now (s .entry)) method) scheme (partIn (now (s .entry)) authority) (partIn (now (s .entry)) path)))
+        (requestSize method scheme authority path) (now (out .exit)) r ⌝ }
 {
     let a = put_octet(out, 0, 0);
     let b = put_counted_part(out, a, s, method);
@@ -168,8 +182,10 @@ fn put_response(
     n: usize,
     status: u32,
 ) -> usize
-    requires { ⌜ HeadsWithin (length (now s)) (now fields) (now heads) n × (1 + headsSize (now fields) (now heads) 0 n + intLen status ≤ length (now out)) ⌝ }
-    ensures { λ r. ⌜ Put (now (out .entry)) 0 (controlBytes (response (headsIn (now (s .entry)) (now (fields .entry)) (now (heads .entry)) 0 n) status)) (1 + headsSize (now (fields .entry)) (now (heads .entry)) 0 n + intLen status) (now (out .exit)) r ⌝ }
+    requires { ⌜ HeadsWithin (length (now s)) (now fields) (now heads) n × (responseSize (now fields) (now heads) n status ≤ length (now out)) ⌝ }
+    ensures { λ r. ⌜ Put (now (out .entry)) 0
+        (controlBytes (response (headsIn (now (s .entry)) (now (fields .entry)) (now (heads .entry)) 0 n) status))
+        (responseSize (now (fields .entry)) (now (heads .entry)) n status) (now (out .exit)) r ⌝ }
 {
     let a = put_octet(out, 0, 1);
     let b = put_heads(out, a, s, fields, heads, n);
@@ -178,8 +194,10 @@ fn put_response(
 
 // Framing indicator and control data, at the front.
 fn put_control_data(out: &mut [u8], s: &[u8], r: Record, fields: &[u32], heads: &[u32]) -> usize
-    requires { ⌜ ((cs : List ℕ) × (ts : List ℕ) × MessageWithin (now s) r (now fields) (now heads) cs ts) × (controlSize (r .response) r (now fields) (now heads) ≤ length (now out)) ⌝ }
-    ensures { λ z. ⌜ Put (now (out .entry)) 0 (controlBytes (controlIn (r .response) (now (s .entry)) r (now (fields .entry)) (now (heads .entry)))) (controlSize (r .response) r (now (fields .entry)) (now (heads .entry))) (now (out .exit)) z ⌝ }
+    requires { ⌜ HeadWithin (now s) r (now fields) (now heads) × (controlSize (r .response) r (now fields) (now heads) ≤ length (now out)) ⌝ }
+    ensures { λ z. ⌜ Put (now (out .entry)) 0
+        (controlBytes (controlIn (r .response) (now (s .entry)) r (now (fields .entry)) (now (heads .entry))))
+        (controlSize (r .response) r (now (fields .entry)) (now (heads .entry))) (now (out .exit)) z ⌝ }
 {
     if r.response {
         return put_response(out, s, fields, heads, r.informational, r.status);
@@ -197,8 +215,11 @@ pub fn put_message(
     chunks: &[u32],
     trailers: &[u32],
 ) -> usize
-    requires { ⌜ MessageWithin (now s) r (now fields) (now heads) (now chunks) (now trailers) × (messageSize r (now fields) (now heads) (now trailers) ≤ length (now out)) ⌝ }
-    ensures { λ z. ⌜ Put (now (out .entry)) 0 (binaryOf (meaningIn (now (s .entry)) r (now (fields .entry)) (now (heads .entry)) (now (chunks .entry)) (now (trailers .entry)))) (messageSize r (now (fields .entry)) (now (heads .entry)) (now (trailers .entry))) (now (out .exit)) z ⌝ }
+    requires { ⌜ MessageWithin (now s) r (now fields) (now heads) (now chunks) (now trailers)
+        × (messageSize r (now fields) (now heads) (now trailers) ≤ length (now out)) ⌝ }
+    ensures { λ z. ⌜ Put (now (out .entry)) 0
+        (binaryOf (meaningIn (now (s .entry)) r (now (fields .entry)) (now (heads .entry)) (now (chunks .entry)) (now (trailers .entry))))
+        (messageSize r (now (fields .entry)) (now (heads .entry)) (now (trailers .entry))) (now (out .exit)) z ⌝ }
 {
     let k = fields_before(heads, r.informational);
     let a = put_control_data(out, s, r, fields, heads);

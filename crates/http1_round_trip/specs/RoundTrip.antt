@@ -50,7 +50,8 @@ ResponsesBack = (m : Meaning) → ResponseOf m → ReadsBack readResponse m
 
 -- the same in one equation, of meanings
 abbrev pub RequestMeanings : Type 0
-RequestMeanings = (t : Told) (m : Meaning) → RequestOf t m → (rest : List ℕ) → means meaning (readRequest t (http1Of m ++ rest)) ≡ accepted (length (http1Of m)) m
+RequestMeanings = (t : Told) (m : Meaning) → RequestOf t m → (rest : List ℕ)
+    → means meaning (readRequest t (http1Of m ++ rest)) ≡ accepted (length (http1Of m)) m
 
 -- the same of responses
 abbrev pub ResponseMeanings : Type 0

@@ -12,9 +12,9 @@ use Rattle.octets.specs.Ascii.{ascii}
 use Rattle.octets.specs.Text.{isEmpty}
 use Rattle.numbers.specs.Digits.{digits, countOf}
 use Rattle.numbers.proofs.DigitLaws.{digits-length}
-use Rattle.ranges.specs.Entries.{fieldsIn}
+use Rattle.ranges.specs.Entries.{fieldsIn, fieldsNamed}
 use Rattle.http1_writer.specs.Write.{crlf, sectionText, chunkText, chunkedText, bodyText}
-use Rattle.http1_writer.specs.Numbered.{fieldsNamed, sectionSize, chunkSize, bodySize}
+use Rattle.http1_writer.specs.Numbered.{sectionSize, chunkSize, bodySize}
 use Rattle.http1_writer.proofs.Turns.{section-length}
 
 -- ---- one chunk

@@ -5,10 +5,10 @@ use mathlib.Core.Path.{_≡_}
 use mathlib.Core.Bool.{true, false}
 use mathlib.Core.List.{List, [], _++_}
 use Rattle.messages.specs.declared.Record.{Record}
-use Rattle.ranges.specs.Entries.{headsIn, partIn, fieldsBefore}
+use Rattle.ranges.specs.Entries.{headsIn, partIn, fieldsBefore, fieldsNamed}
 use Rattle.http1_writer.specs.Write.{fieldText, sectionText, requestLine, statusLine, informationalText, hostField}
 use Rattle.http1_writer.specs.declared.LengthLine.{LengthLine}
-use Rattle.http1_writer.specs.Numbered.{fieldsNamed, sectionSize, headsSize, statusSize, requestSize, hostSize, leadTextIn, leadSize}
+use Rattle.http1_writer.specs.Numbered.{sectionSize, headsSize, statusSize, requestSize, hostSize, leadTextIn, leadSize}
 use Rattle.http1_writer.specs.Numbered.{lengthText, lengthSize, headTextIn, headSize}
 
 module _ (s : List ℕ) (r : Record) (hs ns : List ℕ) where

@@ -18,11 +18,11 @@ use Rattle.messages.specs.declared.Record.{Record}
 use Rattle.messages.specs.Control.{isBodyless}
 use Rattle.messages.specs.Meaning.{Field, contentOf}
 use Rattle.messages.specs.Valid.{noFields}
-use Rattle.ranges.specs.Entries.{fieldsIn, chunksIn, headsIn, partIn, controlIn, fieldsBefore, meaningIn}
+use Rattle.ranges.specs.Entries.{fieldsIn, chunksIn, headsIn, partIn, controlIn, fieldsBefore, meaningIn, fieldsNamed}
 use Rattle.messages.specs.declared.Told.{Told}
 use Rattle.http1_writer.specs.declared.LengthLine.{LengthLine}
 use Rattle.http1_writer.specs.Write.{fieldText, sectionText, requestLine, statusLine, informationalText, hostField, unmeasured, lineFor, lengthLine, lengthFields, hostLine, headLines, startText, headText, bodyText, http1Of, http1Fits, onConnection, toHttp1}
-use Rattle.http1_writer.specs.Numbered.{fieldsNamed, headsSize, statusSize, requestSize, hostSize, unmeasuredIn, lengthLineIn, linesText, lengthText, lengthSize, lengthCount, leadTextIn, leadSize, headTextIn, headSize, headCount, trailersFit, fitsIn, connectedIn}
+use Rattle.http1_writer.specs.Numbered.{headsSize, statusSize, requestSize, hostSize, unmeasuredIn, lengthLineIn, linesText, lengthText, lengthSize, lengthCount, leadTextIn, leadSize, headTextIn, headSize, headCount, trailersFit, fitsIn, connectedIn}
 use Rattle.http1_writer.proofs.Turns.{section-length, heads-length}
 
 -- lines before a section

@@ -16,11 +16,11 @@ use Rattle.output.proofs.Serve.{serve-wrong, serve-small, serve-done}
 use Rattle.messages.specs.declared.Told.{Told}
 use Rattle.messages.specs.declared.Record.{Record}
 use Rattle.messages.specs.Meaning.{contentOf}
-use Rattle.ranges.specs.Entries.{chunksIn, meaningIn, MessageWithin}
+use Rattle.ranges.specs.Entries.{chunksIn, meaningIn, MessageWithin, fieldsNamed}
 use Rattle.ranges.proofs.Entries.{held-means}
 use Rattle.http1_writer.specs.declared.LengthLine.{LengthLine}
 use Rattle.http1_writer.specs.Write.{bodyText, http1Of, toHttp1}
-use Rattle.http1_writer.specs.Numbered.{fieldsNamed, bodySize, lengthLineIn, headTextIn, headSize, fitsIn, connectedIn}
+use Rattle.http1_writer.specs.Numbered.{bodySize, lengthLineIn, headTextIn, headSize, fitsIn, connectedIn}
 use Rattle.http1_writer.specs.Promise.{Http1Written}
 use Rattle.http1_writer.proofs.Body.{body-long}
 use Rattle.http1_writer.proofs.Means.{head-long, http1-means, to-means}

@@ -10,10 +10,10 @@ use Rattle.output.specs.Splice.{Left}
 use Rattle.output.proofs.Laws.{left-start, elements-length}
 use Rattle.numbers.proofs.DigitLaws.{digits-length}
 use Rattle.messages.specs.Meaning.{fieldMeans}
-use Rattle.ranges.specs.Entries.{fieldIn, fieldsIn, headsIn, fieldsBefore, FieldsWithin, HeadsWithin}
+use Rattle.ranges.specs.Entries.{fieldIn, fieldsIn, headsIn, fieldsBefore, FieldsWithin, HeadsWithin, fieldsNamed}
 use Rattle.ranges.proofs.Entries.{fields-more, fields-none, heads-more, heads-none}
 use Rattle.http1_writer.specs.Write.{fieldText, sectionText, statusLine, informationalText}
-use Rattle.http1_writer.specs.Numbered.{fieldsNamed, lineSize, sectionSize, statusSize, headsSize}
+use Rattle.http1_writer.specs.Numbered.{lineSize, sectionSize, statusSize, headsSize}
 
 -- ---- field lines
 

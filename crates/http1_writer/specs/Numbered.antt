@@ -2,7 +2,7 @@
 -- They are the lengths and tests of Write (`headText`, `bodyText`, `http1Fits`, `onConnection`; 01, "How we write", "Sizes").
 use Prim.Native.Nat.{ℕ, zero, suc, _+_, _*_}
 use mathlib.Core.Bool.{Bool, true, cond, _&&_}
-use mathlib.Core.List.{List, [], _∷_, _++_, map}
+use mathlib.Core.List.{List, [], _∷_, _++_}
 use lib.Dec.{eqb, leb}
 use lib.ListN.{length, getD}
 use Rattle.octets.specs.Limits.{headMost, trailerMost, linesMost}
@@ -11,14 +11,10 @@ use Rattle.messages.specs.Control.{isBodyless}
 use Rattle.messages.specs.declared.Part.{Part}
 use Rattle.messages.specs.declared.Told.{Told}
 use Rattle.messages.specs.declared.Record.{Record}
-use Rattle.messages.specs.Meaning.{Field, fieldMeans}
-use Rattle.ranges.specs.Entries.{fieldsIn, fieldsBefore, headsIn, partIn}
+use Rattle.messages.specs.Meaning.{Field}
+use Rattle.ranges.specs.Entries.{fieldsNamed, fieldsBefore, headsIn, partIn}
 use Rattle.http1_writer.specs.declared.LengthLine.{LengthLine}
 use Rattle.http1_writer.specs.Write.{fieldText, sectionText, requestLine, statusLine, informationalText, hostField, lineFor, lengthFields}
-
--- the fields of n entries from the entry k on
-abbrev pub fieldsNamed : List ℕ → List ℕ → ℕ → ℕ → List Field
-fieldsNamed s fs k n = map fieldMeans (fieldsIn s fs k n)
 
 -- the field line of the entry k
 abbrev pub lineSize : List ℕ → ℕ → ℕ
@@ -122,3 +118,41 @@ fitsIn head r l ts = leb head headMost && leb (headCount r l) linesMost && trail
 -- whether the scheme of a request is the connection's
 unfoldable pub connectedIn : Told → Record → Bool
 connectedIn t r = cond (r .response) true (eqb (r .scheme) (t .scheme))
+
+-- ---- bounds of the sizes, so that no sum wraps
+
+-- a status line, with a status of any size
+abbrev pub statusBound : ℕ
+statusBound = 32
+
+-- 64 lines, each with two lengths of 32 bits, and the empty line
+abbrev pub sectionBound : ℕ
+sectionBound = 549755814018
+
+-- four informational heads
+abbrev pub headsBound : ℕ
+headsBound = 2199023256200
+
+-- a request line and a host line: three lengths of 32 bits
+abbrev pub requestBound : ℕ
+requestBound = 12884901905
+
+-- what stands before the length line
+abbrev pub leadBound : ℕ
+leadBound = 2199023256232
+
+-- the length line
+abbrev pub lengthBound : ℕ
+lengthBound = 38
+
+-- all heads
+abbrev pub headBound : ℕ
+headBound = 4398046511104
+
+-- the content as one chunk
+abbrev pub chunkBound : ℕ
+chunkBound = 32792
+
+-- the body
+abbrev pub bodyBound : ℕ
+bodyBound = 549755846813

@@ -11,13 +11,14 @@ ghost use Prim.Native.Nat.{_+_, _*_, _≤_};
 ghost use lib.ListN.{length};
 ghost use Rattle.octets.specs.Limits.{contentMost, linesMost};
 ghost use Rattle.output.specs.Splice.{Put};
-ghost use Rattle.ranges.specs.Entries.{contentIn, ChunksWithin, FieldsWithin};
+ghost use Rattle.ranges.specs.Entries.{fieldsNamed, contentIn, FieldsWithin, ChunksWithin};
 ghost use Rattle.http1_writer.specs.Write.{chunkText, bodyText};
-ghost use Rattle.http1_writer.specs.Numbered.{fieldsNamed, chunkSize, bodySize};
+ghost use Rattle.http1_writer.specs.Numbered.{chunkSize, bodySize, chunkBound, bodyBound};
 
 // The content, of size octets, as one chunk; nothing where it is empty.
 fn put_chunk(out: &mut [u8], at: usize, s: &[u8], chunks: &[u32], n: usize, size: usize) -> usize
-    requires { ⌜ ChunksWithin (length (now s)) (now chunks) n × (length (contentIn (now s) (now chunks) n) ≡ size) × (at + chunkSize size ≤ length (now out)) ⌝ }
+    requires { ⌜ ChunksWithin (length (now s)) (now chunks) n × (length (contentIn (now s) (now chunks) n) ≡ size)
+        × (at + chunkSize size ≤ length (now out)) ⌝ }
     ensures { λ r. ⌜ Put (now (out .entry)) at (chunkText (contentIn (now (s .entry)) (now (chunks .entry)) n)) (chunkSize size) (now (out .exit)) r ⌝ }
 {
     if size == 0 {
@@ -40,8 +41,11 @@ pub fn put_body(
     trailers: &[u32],
     count: usize,
 ) -> usize
-    requires { ⌜ ChunksWithin (length (now s)) (now chunks) n × (length (contentIn (now s) (now chunks) n) ≡ size) × FieldsWithin (length (now s)) (now trailers) 0 count × (at + bodySize size (now trailers) count ≤ length (now out)) ⌝ }
-    ensures { λ r. ⌜ Put (now (out .entry)) at (bodyText (contentIn (now (s .entry)) (now (chunks .entry)) n) (fieldsNamed (now (s .entry)) (now (trailers .entry)) 0 count)) (bodySize size (now (trailers .entry)) count) (now (out .exit)) r ⌝ }
+    requires { ⌜ ChunksWithin (length (now s)) (now chunks) n × (length (contentIn (now s) (now chunks) n) ≡ size)
+        × FieldsWithin (length (now s)) (now trailers) 0 count × (at + bodySize size (now trailers) count ≤ length (now out)) ⌝ }
+    ensures { λ r. ⌜ Put (now (out .entry)) at
+        (bodyText (contentIn (now (s .entry)) (now (chunks .entry)) n) (fieldsNamed (now (s .entry)) (now (trailers .entry)) 0 count))
+        (bodySize size (now (trailers .entry)) count) (now (out .exit)) r ⌝ }
 {
     if count == 0 {
         return put_chunks(out, at, s, chunks, n);
@@ -54,7 +58,7 @@ pub fn put_body(
 
 fn chunk_size(size: usize) -> usize
     requires { ⌜ size ≤ contentMost ⌝ }
-    ensures { λ n. ⌜ (n ≡ chunkSize size) × (n ≤ 32792) ⌝ }
+    ensures { λ n. ⌜ (n ≡ chunkSize size) × (n ≤ chunkBound) ⌝ }
 {
     if size == 0 {
         return 0;
@@ -65,7 +69,7 @@ fn chunk_size(size: usize) -> usize
 // How long the body is.
 pub fn body_size(size: usize, trailers: &[u32], count: usize) -> usize
     requires { ⌜ (size ≤ contentMost) × (count * 4 ≤ length (now trailers)) × (count ≤ linesMost) ⌝ }
-    ensures { λ n. ⌜ (n ≡ bodySize size (now (trailers .entry)) count) × (n ≤ 549755846813) ⌝ }
+    ensures { λ n. ⌜ (n ≡ bodySize size (now (trailers .entry)) count) × (n ≤ bodyBound) ⌝ }
 {
     if count == 0 {
         return size;

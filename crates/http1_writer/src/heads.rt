@@ -14,16 +14,17 @@ use output::put_text;
 use ranges::fields_before;
 use ranges::number_at;
 ghost use mathlib.Core.Path.{_≡_};
-ghost use mathlib.Core.List.{List, _++_};
-ghost use Prim.Native.Nat.{ℕ, _+_, _≤_};
+ghost use mathlib.Core.List.{_++_};
+ghost use Prim.Native.Nat.{_+_, _≤_};
 ghost use lib.ListN.{length};
 ghost use Rattle.output.specs.Splice.{Put};
-ghost use Rattle.ranges.specs.Entries.{headsIn, partIn, FieldsWithin, HeadsWithin, MessageWithin};
+ghost use Rattle.ranges.specs.Entries.{fieldsNamed, headsIn, partIn, PartWithin, FieldsWithin, HeadsWithin, HeadsCounted, HeadWithin, HeadCounted};
 ghost use Rattle.http1_writer.specs.Write.{fieldText, sectionText, requestLine, statusLine, informationalText, hostField};
-ghost use Rattle.http1_writer.specs.Numbered.{fieldsNamed, sectionSize, statusSize, headsSize, requestSize, hostSize, leadTextIn, leadSize, headTextIn, headSize};
+ghost use Rattle.http1_writer.specs.Numbered.{sectionSize, statusSize, headsSize, requestSize, hostSize, leadTextIn, leadSize, headTextIn, headSize};
+ghost use Rattle.http1_writer.specs.Numbered.{statusBound, headsBound, requestBound, leadBound, headBound};
 
 fn status_size(status: usize) -> usize
-    ensures { λ r. ⌜ (r ≡ statusSize status) × (r ≤ 32) ⌝ }
+    ensures { λ r. ⌜ (r ≡ statusSize status) × (r ≤ statusBound) ⌝ }
 {
     digit_count(status, 10) + 12
 }
@@ -49,7 +50,9 @@ fn put_informational(
     n: usize,
 ) -> usize
     requires { ⌜ FieldsWithin (length (now s)) (now fields) k n × (at + (statusSize status + sectionSize (now fields) k n) ≤ length (now out)) ⌝ }
-    ensures { λ r. ⌜ Put (now (out .entry)) at (statusLine status ++ sectionText (fieldsNamed (now (s .entry)) (now (fields .entry)) k n)) (statusSize status + sectionSize (now (fields .entry)) k n) (now (out .exit)) r ⌝ }
+    ensures { λ r. ⌜ Put (now (out .entry)) at
+        (statusLine status ++ sectionText (fieldsNamed (now (s .entry)) (now (fields .entry)) k n))
+        (statusSize status + sectionSize (now (fields .entry)) k n) (now (out .exit)) r ⌝ }
 {
     let a = put_status(out, at, status);
     put_section(out, a, s, fields, k, n)
@@ -58,7 +61,9 @@ fn put_informational(
 // The first n informational heads.
 fn put_heads(out: &mut [u8], at: usize, s: &[u8], fields: &[u32], heads: &[u32], n: usize) -> usize
     requires { ⌜ HeadsWithin (length (now s)) (now fields) (now heads) n × (at + headsSize (now fields) (now heads) 0 n ≤ length (now out)) ⌝ }
-    ensures { λ r. ⌜ Put (now (out .entry)) at (informationalText (headsIn (now (s .entry)) (now (fields .entry)) (now (heads .entry)) 0 n)) (headsSize (now (fields .entry)) (now (heads .entry)) 0 n) (now (out .exit)) r ⌝ }
+    ensures { λ r. ⌜ Put (now (out .entry)) at
+        (informationalText (headsIn (now (s .entry)) (now (fields .entry)) (now (heads .entry)) 0 n))
+        (headsSize (now (fields .entry)) (now (heads .entry)) 0 n) (now (out .exit)) r ⌝ }
 {
     let mut i = 0;
     let mut k = 0;
@@ -75,8 +80,8 @@ fn put_heads(out: &mut [u8], at: usize, s: &[u8], fields: &[u32], heads: &[u32],
 
 // How long they are.
 fn heads_size(fields: &[u32], heads: &[u32], n: usize) -> usize
-    requires { ⌜ ((l : ℕ) × HeadsWithin l (now fields) (now heads) n) ⌝ }
-    ensures { λ r. ⌜ (r ≡ headsSize (now (fields .entry)) (now (heads .entry)) 0 n) × (r ≤ 2199023256200) ⌝ }
+    requires { ⌜ HeadsCounted (now fields) (now heads) n ⌝ }
+    ensures { λ r. ⌜ (r ≡ headsSize (now (fields .entry)) (now (heads .entry)) 0 n) × (r ≤ headsBound) ⌝ }
 {
     let mut i = 0;
     let mut k = 0;
@@ -92,8 +97,9 @@ fn heads_size(fields: &[u32], heads: &[u32], n: usize) -> usize
 }
 
 fn put_request_line(out: &mut [u8], at: usize, s: &[u8], method: Part, path: Part) -> usize
-    requires { ⌜ (method .start + method .len ≤ length (now s)) × (path .start + path .len ≤ length (now s)) × (at + requestSize method path ≤ length (now out)) ⌝ }
-    ensures { λ r. ⌜ Put (now (out .entry)) at (requestLine (partIn (now (s .entry)) method) (partIn (now (s .entry)) path)) (requestSize method path) (now (out .exit)) r ⌝ }
+    requires { ⌜ PartWithin (length (now s)) method × PartWithin (length (now s)) path × (at + requestSize method path ≤ length (now out)) ⌝ }
+    ensures { λ r. ⌜ Put (now (out .entry)) at
+        (requestLine (partIn (now (s .entry)) method) (partIn (now (s .entry)) path)) (requestSize method path) (now (out .exit)) r ⌝ }
 {
     let a = put_part(out, at, s, method.start as usize, method.len as usize);
     let b = put_octet(out, a, 32);
@@ -104,7 +110,7 @@ fn put_request_line(out: &mut [u8], at: usize, s: &[u8], method: Part, path: Par
 
 // The host line.
 fn put_host(out: &mut [u8], at: usize, s: &[u8], authority: Part) -> usize
-    requires { ⌜ (authority .start + authority .len ≤ length (now s)) × (at + hostSize authority ≤ length (now out)) ⌝ }
+    requires { ⌜ PartWithin (length (now s)) authority × (at + hostSize authority ≤ length (now out)) ⌝ }
     ensures { λ r. ⌜ Put (now (out .entry)) at (fieldText (hostField (partIn (now (s .entry)) authority))) (hostSize authority) (now (out .exit)) r ⌝ }
 {
     let a = put_text(out, at, b"host: ");
@@ -114,8 +120,10 @@ fn put_host(out: &mut [u8], at: usize, s: &[u8], authority: Part) -> usize
 
 // What stands before the length line: informational heads and status line, or request line and host line.
 fn put_lead(out: &mut [u8], at: usize, s: &[u8], r: Record, fields: &[u32], heads: &[u32]) -> usize
-    requires { ⌜ ((cs : List ℕ) × (ts : List ℕ) × MessageWithin (now s) r (now fields) (now heads) cs ts) × (at + leadSize r (now fields) (now heads) ≤ length (now out)) ⌝ }
-    ensures { λ z. ⌜ Put (now (out .entry)) at (leadTextIn (now (s .entry)) r (now (fields .entry)) (now (heads .entry))) (leadSize r (now (fields .entry)) (now (heads .entry))) (now (out .exit)) z ⌝ }
+    requires { ⌜ HeadWithin (now s) r (now fields) (now heads) × (at + leadSize r (now fields) (now heads) ≤ length (now out)) ⌝ }
+    ensures { λ z. ⌜ Put (now (out .entry)) at
+        (leadTextIn (now (s .entry)) r (now (fields .entry)) (now (heads .entry))) (leadSize r (now (fields .entry)) (now (heads .entry)))
+        (now (out .exit)) z ⌝ }
 {
     if r.response {
         let a = put_heads(out, at, s, fields, heads, r.informational);
@@ -129,7 +137,7 @@ fn put_lead(out: &mut [u8], at: usize, s: &[u8], r: Record, fields: &[u32], head
 }
 
 fn request_size(method: Part, authority: Part, path: Part) -> usize
-    ensures { λ r. ⌜ (r ≡ requestSize method path + hostSize authority) × (r ≤ 12884901905) ⌝ }
+    ensures { λ r. ⌜ (r ≡ requestSize method path + hostSize authority) × (r ≤ requestBound) ⌝ }
 {
     let line = method.len as usize + path.len as usize + 12;
     line + authority.len as usize + 8
@@ -137,8 +145,8 @@ fn request_size(method: Part, authority: Part, path: Part) -> usize
 
 // How long it is.
 fn lead_size(r: Record, fields: &[u32], heads: &[u32]) -> usize
-    requires { ⌜ ((s : List ℕ) × (cs : List ℕ) × (ts : List ℕ) × MessageWithin s r (now fields) (now heads) cs ts) ⌝ }
-    ensures { λ n. ⌜ (n ≡ leadSize r (now (fields .entry)) (now (heads .entry))) × (n ≤ 2199023256232) ⌝ }
+    requires { ⌜ HeadCounted r (now fields) (now heads) ⌝ }
+    ensures { λ n. ⌜ (n ≡ leadSize r (now (fields .entry)) (now (heads .entry))) × (n ≤ leadBound) ⌝ }
 {
     if r.response {
         return heads_size(fields, heads, r.informational) + status_size(r.status as usize);
@@ -159,8 +167,10 @@ pub fn put_head(
     fields: &[u32],
     heads: &[u32],
 ) -> usize
-    requires { ⌜ ((cs : List ℕ) × (ts : List ℕ) × MessageWithin (now s) r (now fields) (now heads) cs ts) × (at + headSize r line (now fields) (now heads) ≤ length (now out)) ⌝ }
-    ensures { λ z. ⌜ Put (now (out .entry)) at (headTextIn (now (s .entry)) r line (now (fields .entry)) (now (heads .entry))) (headSize r line (now (fields .entry)) (now (heads .entry))) (now (out .exit)) z ⌝ }
+    requires { ⌜ HeadWithin (now s) r (now fields) (now heads) × (at + headSize r line (now fields) (now heads) ≤ length (now out)) ⌝ }
+    ensures { λ z. ⌜ Put (now (out .entry)) at
+        (headTextIn (now (s .entry)) r line (now (fields .entry)) (now (heads .entry))) (headSize r line (now (fields .entry)) (now (heads .entry)))
+        (now (out .exit)) z ⌝ }
 {
     let k = fields_before(heads, r.informational);
     let a = put_lead(out, at, s, r, fields, heads);
@@ -170,8 +180,8 @@ pub fn put_head(
 
 // How long they are.
 pub fn measure_head(r: Record, line: LengthLine, fields: &[u32], heads: &[u32]) -> usize
-    requires { ⌜ ((s : List ℕ) × (cs : List ℕ) × (ts : List ℕ) × MessageWithin s r (now fields) (now heads) cs ts) ⌝ }
-    ensures { λ n. ⌜ (n ≡ headSize r line (now (fields .entry)) (now (heads .entry))) × (n ≤ 4398046511104) ⌝ }
+    requires { ⌜ HeadCounted r (now fields) (now heads) ⌝ }
+    ensures { λ n. ⌜ (n ≡ headSize r line (now (fields .entry)) (now (heads .entry))) × (n ≤ headBound) ⌝ }
 {
     let k = fields_before(heads, r.informational);
     lead_size(r, fields, heads) + length_size(line) + section_size(fields, k, r.headers)

@@ -9,7 +9,7 @@ ghost use mathlib.Core.Path.{_≡_};
 ghost use Prim.Native.Nat.{_+_, _≤_};
 ghost use lib.ListN.{length};
 ghost use Rattle.output.specs.Splice.{Put};
-ghost use Rattle.http1_writer.specs.Numbered.{unmeasuredIn, lengthLineIn, lengthText, lengthSize, lengthCount};
+ghost use Rattle.http1_writer.specs.Numbered.{unmeasuredIn, lengthLineIn, lengthText, lengthSize, lengthCount, lengthBound};
 
 // Whether a message without trailers goes without a length line.
 fn is_unmeasured(r: Record) -> bool
@@ -36,7 +36,7 @@ pub fn length_line(r: Record) -> LengthLine
 
 // How long it is.
 pub fn length_size(line: LengthLine) -> usize
-    ensures { λ n. ⌜ (n ≡ lengthSize line) × (n ≤ 38) ⌝ }
+    ensures { λ n. ⌜ (n ≡ lengthSize line) × (n ≤ lengthBound) ⌝ }
 {
     match line {
         LengthLine::Nothing => return 0,

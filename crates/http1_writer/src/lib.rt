@@ -1,9 +1,9 @@
 // Writing HTTP/1.1.
-pub mod sections; // sections.rt: field lines
-pub mod lengths; // lengths.rt: the length line
-pub mod heads; // heads.rt: start lines and heads
-pub mod bodies; // bodies.rt: content and trailers
-pub mod fitting; // fitting.rt: whether a message may be written
+mod sections; // sections.rt: field lines
+mod lengths; // lengths.rt: the length line
+mod heads; // heads.rt: start lines and heads
+mod bodies; // bodies.rt: content and trailers
+mod fitting; // fitting.rt: whether a message may be written
 
 // The length line of a head: none, the length of the content, or that it is in chunks.
 pub enum LengthLine {
@@ -30,7 +30,7 @@ ghost use Rattle.messages.specs.Message.{Message};
 ghost use Rattle.ranges.specs.Ranges.{Held};
 ghost use Rattle.ranges.specs.Entries.{meaningIn, MessageWithin};
 ghost use Rattle.http1_writer.specs.Write.{http1Of, toHttp1};
-ghost use Rattle.http1_writer.specs.Numbered.{lengthLineIn, headSize};
+ghost use Rattle.http1_writer.specs.Numbered.{lengthLineIn, headSize, headBound};
 ghost use Rattle.http1_writer.specs.Promise.{Http1Written};
 
 // A message within the sizes, with its length line, whose heads are of so many octets; 13 at 0 where there is no room for it.
@@ -45,8 +45,11 @@ fn put_message(
     head: usize,
     out: &mut [u8],
 ) -> Written
-    requires { ⌜ MessageWithin (now s) r (now headers) (now heads) (now chunks) (now trailers) × (line ≡ lengthLineIn r) × (head ≡ headSize r line (now headers) (now heads)) × (head ≤ 4398046511104) ⌝ }
-    ensures { λ w. ⌜ Served (writes (http1Of (meaningIn (now (s .entry)) r (now (headers .entry)) (now (heads .entry)) (now (chunks .entry)) (now (trailers .entry))))) (now (out .entry)) (now (out .exit)) w ⌝ }
+    requires { ⌜ MessageWithin (now s) r (now headers) (now heads) (now chunks) (now trailers) × (line ≡ lengthLineIn r)
+        × (head ≡ headSize r line (now headers) (now heads)) × (head ≤ headBound) ⌝ }
+    ensures { λ w. ⌜ Served
+        (writes (http1Of (meaningIn (now (s .entry)) r (now (headers .entry)) (now (heads .entry)) (now (chunks .entry)) (now (trailers .entry)))))
+        (now (out .entry)) (now (out .exit)) w ⌝ }
 {
     let size = head + body_size(r.content, trailers, r.trailers);
     if out.len() < size {
@@ -72,7 +75,9 @@ fn write_named(
     out: &mut [u8],
 ) -> Written
     requires { ⌜ MessageWithin (now s) r (now headers) (now heads) (now chunks) (now trailers) ⌝ }
-    ensures { λ w. ⌜ Served (toHttp1 told (meaningIn (now (s .entry)) r (now (headers .entry)) (now (heads .entry)) (now (chunks .entry)) (now (trailers .entry)))) (now (out .entry)) (now (out .exit)) w ⌝ }
+    ensures { λ w. ⌜ Served
+        (toHttp1 told (meaningIn (now (s .entry)) r (now (headers .entry)) (now (heads .entry)) (now (chunks .entry)) (now (trailers .entry))))
+        (now (out .entry)) (now (out .exit)) w ⌝ }
 {
     if is_connected(told, r) {
         let line = length_line(r);
@@ -104,7 +109,8 @@ pub fn write_message(
     out: &mut [u8],
 ) -> Written
     requires { ⌜ ((n : ℕ) × (m : Message) × Held (now s) n m r (now headers) (now heads) (now chunks) (now trailers)) ⌝ }
-    ensures { λ w. ⌜ Http1Written told (now (s .entry)) r (now (headers .entry)) (now (heads .entry)) (now (chunks .entry)) (now (trailers .entry)) (now (out .entry)) (now (out .exit)) w ⌝ }
+    ensures { λ w. ⌜ Http1Written told (now (s .entry)) r (now (headers .entry)) (now (heads .entry)) (now (chunks .entry))
+        (now (trailers .entry)) (now (out .entry)) (now (out .exit)) w ⌝ }
 {
     write_named(s, told, r, headers, heads, chunks, trailers, out)
 }

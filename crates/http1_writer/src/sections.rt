@@ -8,15 +8,15 @@ ghost use Prim.Native.Nat.{_+_, _*_, _≤_};
 ghost use lib.ListN.{length};
 ghost use Rattle.octets.specs.Limits.{linesMost};
 ghost use Rattle.output.specs.Splice.{Put};
-ghost use Rattle.messages.specs.Meaning.{fieldMeans};
-ghost use Rattle.ranges.specs.Entries.{fieldIn, EntryWithin, FieldsWithin};
+ghost use Rattle.ranges.specs.Entries.{fieldNamed, fieldsNamed, EntryWithin, FieldsWithin};
 ghost use Rattle.http1_writer.specs.Write.{fieldText, sectionText};
-ghost use Rattle.http1_writer.specs.Numbered.{fieldsNamed, lineSize, sectionSize};
+ghost use Rattle.http1_writer.specs.Numbered.{lineSize, sectionSize, sectionBound};
 
 // The field line of the entry k.
 fn put_line(out: &mut [u8], at: usize, s: &[u8], fields: &[u32], k: usize) -> usize
     requires { ⌜ (k * 4 + 4 ≤ length (now fields)) × EntryWithin (length (now s)) (now fields) k × (at + lineSize (now fields) k ≤ length (now out)) ⌝ }
-    ensures { λ r. ⌜ Put (now (out .entry)) at (fieldText (fieldMeans (fieldIn (now (s .entry)) (now (fields .entry)) k))) (lineSize (now (fields .entry)) k) (now (out .exit)) r ⌝ }
+    ensures { λ r. ⌜ Put (now (out .entry)) at
+        (fieldText (fieldNamed (now (s .entry)) (now (fields .entry)) k)) (lineSize (now (fields .entry)) k) (now (out .exit)) r ⌝ }
 {
     let i = k * 4;
     let a = put_lower(out, at, s, fields[i] as usize, fields[i + 1] as usize);
@@ -28,7 +28,8 @@ fn put_line(out: &mut [u8], at: usize, s: &[u8], fields: &[u32], k: usize) -> us
 // The lines of n entries from the entry k on, and the empty line.
 pub fn put_section(out: &mut [u8], at: usize, s: &[u8], fields: &[u32], k: usize, n: usize) -> usize
     requires { ⌜ FieldsWithin (length (now s)) (now fields) k n × (at + sectionSize (now fields) k n ≤ length (now out)) ⌝ }
-    ensures { λ r. ⌜ Put (now (out .entry)) at (sectionText (fieldsNamed (now (s .entry)) (now (fields .entry)) k n)) (sectionSize (now (fields .entry)) k n) (now (out .exit)) r ⌝ }
+    ensures { λ r. ⌜ Put (now (out .entry)) at
+        (sectionText (fieldsNamed (now (s .entry)) (now (fields .entry)) k n)) (sectionSize (now (fields .entry)) k n) (now (out .exit)) r ⌝ }
 {
     let mut i = 0;
     let mut a = at;
@@ -42,7 +43,7 @@ pub fn put_section(out: &mut [u8], at: usize, s: &[u8], fields: &[u32], k: usize
 // How long they are.
 pub fn section_size(fields: &[u32], k: usize, n: usize) -> usize
     requires { ⌜ ((k + n) * 4 ≤ length (now fields)) × (n ≤ linesMost) ⌝ }
-    ensures { λ r. ⌜ (r ≡ sectionSize (now (fields .entry)) k n) × (r ≤ 549755814018) ⌝ }
+    ensures { λ r. ⌜ (r ≡ sectionSize (now (fields .entry)) k n) × (r ≤ sectionBound) ⌝ }
 {
     let mut i = 0;
     let mut size = 2;

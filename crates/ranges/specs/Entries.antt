@@ -9,7 +9,7 @@ use Rattle.octets.specs.Limits.{linesMost, chunksMost, contentMost, information
 use Rattle.script.specs.Do.{Piece, piece}
 use Rattle.output.specs.Splice.{part}
 use Rattle.messages.specs.Message.{FieldRead}
-use Rattle.messages.specs.Meaning.{Informational, Control, request, response, Meaning, fieldMeans, contentOf}
+use Rattle.messages.specs.Meaning.{Field, Informational, Control, request, response, Meaning, fieldMeans, contentOf}
 use Rattle.messages.specs.declared.Part.{Part}
 use Rattle.messages.specs.declared.Record.{Record}
 
@@ -27,6 +27,13 @@ fieldIn s ranges k =
 unfoldable pub fieldsIn : List ℕ → List ℕ → ℕ → ℕ → List FieldRead
 fieldsIn s ranges k zero = []
 fieldsIn s ranges k (suc n) = fieldIn s ranges k ∷ fieldsIn s ranges (k + 1) n
+
+-- what they mean: the field of the entry k, and the fields of n entries from the entry k on
+abbrev pub fieldNamed : List ℕ → List ℕ → ℕ → Field
+fieldNamed s ranges k = fieldMeans (fieldIn s ranges k)
+
+abbrev pub fieldsNamed : List ℕ → List ℕ → ℕ → ℕ → List Field
+fieldsNamed s ranges k n = map fieldMeans (fieldsIn s ranges k n)
 
 -- the chunk that the entry k names: start and length
 abbrev pub chunkIn : List ℕ → List ℕ → ℕ → Piece
@@ -48,7 +55,7 @@ fieldsBefore ns (suc i) = fieldsBefore ns i + getD ns (i * 2 + 1) 0
 
 -- the informational head i: its status, and as many fields as its entry says
 abbrev pub headIn : List ℕ → List ℕ → List ℕ → ℕ → Informational
-headIn s hs ns i = record { status = getD ns (i * 2) 0; fields = map fieldMeans (fieldsIn s hs (fieldsBefore ns i) (getD ns (i * 2 + 1) 0)) }
+headIn s hs ns i = record { status = getD ns (i * 2) 0; fields = fieldsNamed s hs (fieldsBefore ns i) (getD ns (i * 2 + 1) 0) }
 
 -- n informational heads from the head i on
 unfoldable pub headsIn : List ℕ → List ℕ → List ℕ → ℕ → ℕ → List Informational
@@ -69,12 +76,16 @@ unfoldable pub meaningIn : List ℕ → Record → List ℕ → List ℕ → Lis
 meaningIn s r hs ns cs ts =
     record {
       control = controlIn (r .response) s r hs ns;
-      headers = map fieldMeans (fieldsIn s hs (fieldsBefore ns (r .informational)) (r .headers));
-      content = contentOf (chunksIn s cs 0 (r .chunks));
-      trailers = map fieldMeans (fieldsIn s ts 0 (r .trailers));
+      headers = fieldsNamed s hs (fieldsBefore ns (r .informational)) (r .headers);
+      content = contentIn s cs (r .chunks);
+      trailers = fieldsNamed s ts 0 (r .trailers);
     }
 
 -- ---- that the numbers are within a source of n octets and within the lent entries
+
+-- a part
+abbrev pub PartWithin : ℕ → Part → Type 0
+PartWithin n p = p .start + p .len ≤ n
 
 -- name and value of the entry k
 pub record EntryWithin (n : ℕ) (ranges : List ℕ) (k : ℕ) : Type 0 where
@@ -101,12 +112,24 @@ pub record ChunksWithin (n : ℕ) (cs : List ℕ) (c : ℕ) : Type 0 where
 
 -- a whole message by its record and ranges
 pub record MessageWithin (s : List ℕ) (r : Record) (hs ns cs ts : List ℕ) : Type 0 where
-  pub method : r .method .start + r .method .len ≤ length s
-  pub authority : r .authority .start + r .authority .len ≤ length s
-  pub path : r .path .start + r .path .len ≤ length s
+  pub method : PartWithin (length s) (r .method)
+  pub authority : PartWithin (length s) (r .authority)
+  pub path : PartWithin (length s) (r .path)
   pub heads : HeadsWithin (length s) hs ns (r .informational)
   pub headers : FieldsWithin (length s) hs (fieldsBefore ns (r .informational)) (r .headers)
   pub chunks : ChunksWithin (length s) cs (r .chunks)
-  pub content : length (contentOf (chunksIn s cs 0 (r .chunks))) ≡ r .content
+  pub content : length (contentIn s cs (r .chunks)) ≡ r .content
   pub small : r .content ≤ contentMost
   pub trailers : FieldsWithin (length s) ts 0 (r .trailers)
+
+-- the heads of a message, whatever its chunks and trailers
+abbrev pub HeadWithin : List ℕ → Record → List ℕ → List ℕ → Type 0
+HeadWithin s r hs ns = (cs : List ℕ) × (ts : List ℕ) × MessageWithin s r hs ns cs ts
+
+-- the same of some source: what is measured by numbers alone
+abbrev pub HeadCounted : Record → List ℕ → List ℕ → Type 0
+HeadCounted r hs ns = (s : List ℕ) × (cs : List ℕ) × (ts : List ℕ) × MessageWithin s r hs ns cs ts
+
+-- the first c informational heads, of some source
+abbrev pub HeadsCounted : List ℕ → List ℕ → ℕ → Type 0
+HeadsCounted hs ns c = (n : ℕ) × HeadsWithin n hs ns c
