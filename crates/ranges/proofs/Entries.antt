@@ -173,17 +173,6 @@ module _ (s cs : List ℕ) where
     each = λ j g. let z : 0 + j ≡ j = omega arith in rw z at (chunks-inside 0 ps h j g);
   }
 
-  pub chunks-more : (k i n : ℕ) → i < n → chunksIn s cs (k + i) (n - i) ≡ chunkIn s cs (k + i) ∷ chunksIn s cs (k + (i + 1)) (n - (i + 1))
-  unfolding chunksIn
-  chunks-more k i n h =
-      let e : n - i ≡ suc (n - (i + 1)) = omega arith in
-      let a : k + (i + 1) ≡ k + i + 1 = omega arith in
-      rw (e, a)
-
-  pub chunks-none : (k i n : ℕ) → n ≤ i → chunksIn s cs k (n - i) ≡ []
-  unfolding chunksIn
-  chunks-none k i n h = let e : n - i ≡ 0 = omega arith in rw e
-
 -- ---- informational heads
 
 -- what holds of each line holds of each that is kept

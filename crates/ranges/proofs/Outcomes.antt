@@ -82,14 +82,6 @@ response-outcomed h = record { says = h .says }
 
 -- ---- counts
 
-pub record-length : (n : ℕ) (m : Message) → recordOf n m .length ≡ n
-unfolding recordOf
-record-length n m = go (m .start)
-  where
-    go : (st : Start) → recordFrom st n m .length ≡ n
-    go (requestStart q s a p) = refl
-    go (responseStart hs s) = refl
-
 pub record-chunks : (n : ℕ) (m : Message) → recordOf n m .chunks ≡ length (m .chunks)
 unfolding recordOf
 record-chunks n m = go (m .start)
