@@ -9,15 +9,10 @@ use Rattle.octets.specs.Limits.{binaryMost}
 use Rattle.octets.specs.Refusals.{tooLarge, noRoom}
 use Rattle.output.specs.Splice.{Put}
 use Rattle.output.specs.Reply.{writes, Served}
-use Rattle.output.specs.declared.Written.{Written}
 use Rattle.output.specs.declared.Written.the-variants.{Done, Refused}
 use Rattle.output.proofs.Serve.{serve-wrong, serve-small, serve-done}
 use Rattle.messages.specs.Meaning.{Meaning}
-use Rattle.messages.specs.declared.Record.{Record}
-use Rattle.ranges.specs.Entries.{meaningIn}
-use Rattle.ranges.proofs.Entries.{held-means}
 use Rattle.binary_writer.specs.Write.{binaryOf, binaryFits, toBinary}
-use Rattle.binary_writer.specs.Sizes.{BinaryWritten}
 
 module _ (m : Meaning) {n : ℕ} (e : length (binaryOf m) ≡ n) where
   -- above the size of a Binary input
@@ -41,8 +36,3 @@ module _ (m : Meaning) {n : ℕ} (e : length (binaryOf m) ≡ n) where
 
   pub binary-done : {o o′ : List ℕ} {r : ℕ} → n ≤ binaryMost → n ≤ length o → Put o 0 (binaryOf m) n o′ r → Served (toBinary m) o o′ (Done r)
   binary-done h l p = rw (binary-octets h) (serve-done l p)
-
--- what the numbers of a held message name is that message
-pub binary-written : {s : List ℕ} {r : Record} {hs ns cs ts o o′ : List ℕ} {w : Written} → Served (toBinary (meaningIn s r hs ns cs ts)) o o′ w
-    → BinaryWritten s r hs ns cs ts o o′ w
-binary-written h = record { by = λ n m g. rw (held-means g) at h }

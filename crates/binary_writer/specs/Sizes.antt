@@ -1,20 +1,13 @@
 -- How long a message is in Binary, by its numbers alone (no octet of its source is looked at): the length of `binaryOf` (Write; 01, "How we write", "Sizes").
--- And what the code of the writer promises, in terms of `toBinary`.
 use Prim.Native.Nat.{ℕ, zero, suc, _+_, _*_}
 use mathlib.Core.Bool.{Bool, true, false, cond}
 use mathlib.Core.List.{List}
 use lib.Dec.{eqb}
 use lib.ListN.{getD}
 use Rattle.numbers.specs.Integer.{intLen}
-use Rattle.messages.specs.Message.{Message}
-use Rattle.messages.specs.Meaning.{meaning}
 use Rattle.messages.specs.declared.Part.{Part}
 use Rattle.messages.specs.declared.Record.{Record}
-use Rattle.output.specs.Reply.{Served}
-use Rattle.output.specs.declared.Written.{Written}
-use Rattle.ranges.specs.Ranges.{Held}
 use Rattle.ranges.specs.Entries.{fieldsBefore}
-use Rattle.binary_writer.specs.Write.{toBinary}
 
 -- so many octets with their count in front
 abbrev pub countedSize : ℕ → ℕ
@@ -100,7 +93,3 @@ controlMost = 2199023259209
 -- one length of 32 bits, with its count
 abbrev pub partMost : ℕ
 partMost = 4294967303
-
--- whatever message the record and the ranges hold: it is served as Binary
-pub record BinaryWritten (s : List ℕ) (r : Record) (hs ns cs ts o o′ : List ℕ) (w : Written) : Type 0 where
-  pub by : (n : ℕ) (m : Message) → Held s n m r hs ns cs ts → Served (toBinary (meaning m)) o o′ w

@@ -11,10 +11,9 @@ use output::Written;
 ghost use Prim.Native.Nat.{ℕ};
 ghost use Rattle.messages.specs.Message.{Message};
 ghost use Rattle.output.specs.Reply.{Served};
-ghost use Rattle.ranges.specs.Ranges.{Held};
+ghost use Rattle.ranges.specs.Ranges.{Held, HeldServed};
 ghost use Rattle.ranges.specs.Entries.{meaningIn, MessageWithin};
 ghost use Rattle.binary_writer.specs.Write.{toBinary};
-ghost use Rattle.binary_writer.specs.Sizes.{BinaryWritten};
 
 // The message that the numbers of a record and of ranges name, as Binary; 8 at 0 above the size of a Binary input, 13 at 0 where it does not fit.
 fn write_within(
@@ -58,7 +57,7 @@ pub fn write_message(
     out: &mut [u8],
 ) -> Written
     requires { ⌜ ((n : ℕ) × (m : Message) × Held (now s) n m r (now headers) (now heads) (now chunks) (now trailers)) ⌝ }
-    ensures { λ w. ⌜ BinaryWritten (now (s .entry)) r (now (headers .entry)) (now (heads .entry)) (now (chunks .entry)) (now (trailers .entry))
+    ensures { λ w. ⌜ HeldServed toBinary (now (s .entry)) r (now (headers .entry)) (now (heads .entry)) (now (chunks .entry)) (now (trailers .entry))
         (now (out .entry)) (now (out .exit)) w ⌝ }
 {
     write_within(s, r, headers, heads, chunks, trailers, out)

@@ -17,11 +17,9 @@ use Rattle.messages.specs.declared.Told.{Told}
 use Rattle.messages.specs.declared.Record.{Record}
 use Rattle.messages.specs.Meaning.{contentOf}
 use Rattle.ranges.specs.Entries.{chunksIn, meaningIn, MessageWithin, fieldsNamed}
-use Rattle.ranges.proofs.Entries.{held-means}
 use Rattle.http1_writer.specs.declared.LengthLine.{LengthLine}
 use Rattle.http1_writer.specs.Write.{bodyText, http1Of, toHttp1}
 use Rattle.http1_writer.specs.Numbered.{bodySize, lengthLineIn, headTextIn, headSize, fitsIn, connectedIn}
-use Rattle.http1_writer.specs.Promise.{Http1Written}
 use Rattle.http1_writer.proofs.Body.{body-long}
 use Rattle.http1_writer.proofs.Means.{head-long, http1-means, to-means}
 
@@ -56,8 +54,3 @@ module _ {s : List ℕ} {r : Record} {l : LengthLine} {hs ns cs ts : List ℕ} (
 pub served-other : {s : List ℕ} {r : Record} {hs ns cs ts : List ℕ} → MessageWithin s r hs ns cs ts → (t : Told) (o : List ℕ) → connectedIn t r ≡ false
     → Served (toHttp1 t (meaningIn s r hs ns cs ts)) o o (Refused otherScheme 0)
 served-other {s} {r} {hs} {ns} {cs} {ts} w t o c = rw (to-means s r hs ns cs ts (w .content) t {l = lengthLineIn r} refl, c) (serve-wrong o otherScheme 0)
-
--- the message that the numbers name is the one that they hold
-pub served-held : {t : Told} {s : List ℕ} {r : Record} {hs ns cs ts o o′ : List ℕ} {z : Written}
-    → Served (toHttp1 t (meaningIn s r hs ns cs ts)) o o′ z → Http1Written t s r hs ns cs ts o o′ z
-served-held x = record { by = λ n m h. rw (held-means h) at x }

@@ -27,11 +27,10 @@ ghost use mathlib.Core.Path.{_≡_};
 ghost use Prim.Native.Nat.{ℕ, _≤_};
 ghost use Rattle.output.specs.Reply.{writes, Served};
 ghost use Rattle.messages.specs.Message.{Message};
-ghost use Rattle.ranges.specs.Ranges.{Held};
+ghost use Rattle.ranges.specs.Ranges.{Held, HeldServed};
 ghost use Rattle.ranges.specs.Entries.{meaningIn, MessageWithin};
 ghost use Rattle.http1_writer.specs.Write.{http1Of, toHttp1};
 ghost use Rattle.http1_writer.specs.Numbered.{lengthLineIn, headSize, headBound};
-ghost use Rattle.http1_writer.specs.Promise.{Http1Written};
 
 // A message within the sizes, with its length line, whose heads are of so many octets; 13 at 0 where there is no room for it.
 fn put_message(
@@ -109,7 +108,7 @@ pub fn write_message(
     out: &mut [u8],
 ) -> Written
     requires { ⌜ ((n : ℕ) × (m : Message) × Held (now s) n m r (now headers) (now heads) (now chunks) (now trailers)) ⌝ }
-    ensures { λ w. ⌜ Http1Written told (now (s .entry)) r (now (headers .entry)) (now (heads .entry)) (now (chunks .entry))
+    ensures { λ w. ⌜ HeldServed (toHttp1 told) (now (s .entry)) r (now (headers .entry)) (now (heads .entry)) (now (chunks .entry))
         (now (trailers .entry)) (now (out .entry)) (now (out .exit)) w ⌝ }
 {
     write_named(s, told, r, headers, heads, chunks, trailers, out)

@@ -14,6 +14,8 @@ use Rattle.script.specs.Script.{Lies}
 use Rattle.script.specs.Do.{Piece, piece}
 use Rattle.script.proofs.Places.{lies-part, lies-at, lies-in}
 use Rattle.output.specs.Splice.{part}
+use Rattle.output.specs.Reply.{Reply, Served}
+use Rattle.output.specs.declared.Written.{Written}
 use Rattle.output.proofs.Laws.{elements-take}
 use Rattle.messages.specs.Message.{FieldRead, InformationalRead, Start, requestStart, responseStart, isResponse, Message}
 use Rattle.messages.specs.Names.{lineKind, isEndToEnd, kept, keptTrailers}
@@ -24,8 +26,8 @@ use Rattle.messages.proofs.Valid.{meaning-ok}
 use Rattle.messages.specs.declared.Record.{Record}
 use Rattle.sound.specs.Placed.{Each, OfLine, OfStart, Lying}
 use Rattle.sound.specs.Sound.{GoodSection, GoodHeads, Sound}
-use Rattle.ranges.specs.Ranges.{headNumbers, Begins, Held}
-use Rattle.ranges.specs.Entries.{fieldIn, fieldsIn, chunkIn, chunksIn, fieldsBefore, headIn, headsIn, partIn, meaningIn, EntryWithin, FieldsWithin, HeadsWithin, ChunksWithin, MessageWithin}
+use Rattle.ranges.specs.Ranges.{headNumbers, Begins, Held, HeldServed}
+use Rattle.ranges.specs.Entries.{fieldIn, fieldsIn, chunksIn, fieldsBefore, headIn, headsIn, partIn, meaningIn, EntryWithin, FieldsWithin, HeadsWithin, ChunksWithin, MessageWithin}
 use Rattle.ranges.proofs.Stored.{numbers-append, numbers-length}
 
 -- ---- numbers that stand at a place
@@ -380,7 +382,7 @@ module _ (s : List ℕ) (n : ℕ) (m : Message) (hs ns cs ts : List ℕ) where
     trailers = fields-within s ts 0 (kept false (m .trailers)) (p .trailers) (omega (arith, kept-few false (m .trailers), w .trailers .few));
   }
 
--- the two laws that a writer needs of `Held`
+-- the laws that a writer needs of `Held`
 module _ {s : List ℕ} {n : ℕ} {m : Message} {r : Record} {hs ns cs ts : List ℕ} (h : Held s n m r hs ns cs ts) where
   -- what the numbers name is what was read
   pub held-means : meaningIn s r hs ns cs ts ≡ meaning m
@@ -391,3 +393,8 @@ module _ {s : List ℕ} {n : ℕ} {m : Message} {r : Record} {hs ns cs ts : List
   pub held-within : MessageWithin s r hs ns cs ts
   unfolding recordOf
   held-within = rw (h .numbers) (within-with s n m hs ns cs ts (m .start) (h .sound .placed .start) (h .sound .heads) (h .sound) (held-parts h))
+
+-- so what is served of the message that the numbers name is served of whatever message they hold
+pub served-held : {reply : Meaning → Reply} {s : List ℕ} {r : Record} {hs ns cs ts o o′ : List ℕ} {w : Written}
+    → Served (reply (meaningIn s r hs ns cs ts)) o o′ w → HeldServed reply s r hs ns cs ts o o′ w
+served-held x = record { by = λ n m h. rw (held-means h) at x }

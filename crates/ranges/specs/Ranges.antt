@@ -8,7 +8,10 @@ use lib.ListN.{length}
 use Rattle.octets.specs.Limits.{linesMost, chunksMost, contentMost, informationalMost}
 use Rattle.script.specs.Script.{Answer, accepted, refused, more}
 use Rattle.output.specs.Splice.{splice}
+use Rattle.output.specs.Reply.{Reply, Served}
+use Rattle.output.specs.declared.Written.{Written}
 use Rattle.messages.specs.Message.{FieldRead, InformationalRead, isResponse, Message}
+use Rattle.messages.specs.Meaning.{Meaning, meaning}
 use Rattle.messages.specs.Names.{kept, keptTrailers}
 use Rattle.messages.specs.Answers.{fieldsNumbers, chunksNumbers, informationalNumbers, informationalLines, informationalIn, recordOf, readingOf}
 use Rattle.messages.specs.declared.Outcome.{Outcome}
@@ -105,3 +108,9 @@ pub record Held (s : List ℕ) (n : ℕ) (m : Message) (r : Record) (hs ns cs ts
   pub informational : Begins (informationalNumbers (informationalIn (m .start))) ns
   pub chunks : Begins (chunksNumbers (m .chunks)) cs
   pub trailers : Begins (trailerNumbers m) ts
+
+-- ---- what a writer promises
+
+-- a writer that was lent o leaves o′ and answers w: whatever message the record and the ranges hold, its meaning is served as `reply` says
+pub record HeldServed (reply : Meaning → Reply) (s : List ℕ) (r : Record) (hs ns cs ts o o′ : List ℕ) (w : Written) : Type 0 where
+  pub by : (n : ℕ) (m : Message) → Held s n m r hs ns cs ts → Served (reply (meaning m)) o o′ w

@@ -1,8 +1,7 @@
 use mathlib.Core.Path.{_≡_, refl, sym, ap, _∙_}
 use native.Mathlib.Omega.{arith}
 use borrow.Author.Needs.{needs}
-use Rattle.ranges.proofs.Entries.{held-within}
-use Rattle.binary_writer.proofs.Whole.{binary-written}
+use Rattle.ranges.proofs.Entries.{held-within, served-held}
 use borrow.Author.Needs.{needs}
 use Rattle.binary_writer.proofs.write_message.Statement.{statement}
 use Rattle.binary_writer.proofs.write_message.Tie as tie
@@ -20,7 +19,7 @@ same-length c = search needs
 
 -- src/lib.rt:49:1
 returns : tie.Need-returns
-returns c = binary-written (c .before .before .write-within .ensures)
+returns c = served-held (c .before .before .write-within .ensures)
 
 pub write-message-spec : {M : Type 1} → statement M
 write-message-spec = tie.close (tie.spec write-within-requires same-length returns)

@@ -1,6 +1,5 @@
 use borrow.Author.Needs.{needs}
-use Rattle.ranges.proofs.Entries.{held-within}
-use Rattle.http1_writer.proofs.Serving.{served-held}
+use Rattle.ranges.proofs.Entries.{held-within, served-held}
 use Rattle.http1_writer.proofs.write_message.Statement.{statement}
 use Rattle.http1_writer.proofs.write_message.Tie as tie
 use Rattle.http1_writer.proofs.write_message.Reads as reads
