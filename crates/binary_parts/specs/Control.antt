@@ -7,8 +7,8 @@ use lib.ListN.{length, take, drop}
 use Rattle.octets.specs.Limits.{methodMost, authorityMost, pathMost}
 use Rattle.script.specs.Do.{Piece, piece}
 use Rattle.messages.specs.Control.{methodVerdict, authorityVerdict, pathVerdict}
-use Rattle.binary.specs.Reader.{Got, got, no, Reader, _>>=_, give}
-use Rattle.binary.specs.Read.{RequestControl, ruledPart}
+use Rattle.binary.specs.Reader.{Got, got, no}
+use Rattle.binary.specs.Read.{RequestControl}
 use Rattle.binary_parts.specs.declared.Span.{Span}
 use Rattle.binary_parts.specs.declared.Ruled.{Ruled}
 use Rattle.binary_parts.specs.declared.Ruled.the-variants.{Method, Authority, Path}
@@ -76,10 +76,3 @@ ControlSays s (no n p) r = r ≡ control-is.Refused n p
 -- the promise of control data that are read
 pub record Controlled (s : List ℕ) (x : Got RequestControl) (r : ControlRead) : Type 0 where
   pub says : ControlSays s x r
-
--- authority and path, behind a method and a scheme
-unfoldable pub controlRest : Piece → ℕ → Reader RequestControl
-controlRest m v = do
-  a ← ruledPart authorityMost authorityVerdict
-  p ← ruledPart pathMost pathVerdict
-  give (record { method = m; scheme = v; authority = a; path = p })

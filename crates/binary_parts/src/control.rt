@@ -17,8 +17,8 @@ ghost use lib.ListN.{length, drop};
 ghost use Rattle.octets.specs.Refusals.{cutOff};
 ghost use Rattle.octets.specs.Table.{classes};
 ghost use Rattle.binary.specs.Reader.{string};
-ghost use Rattle.binary.specs.Read.{part, partWithin, ruledPart, schemePart, requestControl};
-ghost use Rattle.binary_parts.specs.Control.{Parted, mostOf, verdictOf, Schemed, pieceOf, controlRest, Controlled};
+ghost use Rattle.binary.specs.Read.{part, partWithin, ruledPart, schemePart, afterScheme, requestControl};
+ghost use Rattle.binary_parts.specs.Control.{Parted, mostOf, verdictOf, Schemed, pieceOf, Controlled};
 
 // The n octets from `at` on of a part that starts at `place`.
 pub fn part_octets(s: &[u8], place: usize, at: usize, n: usize) -> PartRead
@@ -136,9 +136,9 @@ fn scheme_part(s: &[u8], from: usize) -> SchemeRead
 }
 
 // Authority and path from `from` on, behind a method and a scheme.
-fn control_rest(t: &[u8; 256], s: &[u8], from: usize, method: Span, scheme: u32) -> ControlRead
+fn after_scheme(t: &[u8; 256], s: &[u8], from: usize, method: Span, scheme: u32) -> ControlRead
     requires { ⌜ (now t ≡ classes) × (method .start + method .len ≤ length (now s)) × (scheme < 2) ⌝ }
-    ensures { λ r. ⌜ Controlled (now (s .entry)) (controlRest (pieceOf (now (s .entry)) method) scheme from (drop from (now (s .entry)))) r ⌝ }
+    ensures { λ r. ⌜ Controlled (now (s .entry)) (afterScheme (pieceOf (now (s .entry)) method) scheme from (drop from (now (s .entry)))) r ⌝ }
 {
     let a = ruled_part(t, s, from, Ruled::Authority);
     match a {
@@ -177,7 +177,7 @@ pub fn request_control(t: &[u8; 256], s: &[u8], from: usize) -> ControlRead
                     number,
                     place,
                 },
-                SchemeRead::Is { scheme, end } => return control_rest(
+                SchemeRead::Is { scheme, end } => return after_scheme(
                     t,
                     s,
                     end,

@@ -23,8 +23,8 @@ ghost use Rattle.octets.specs.Limits.{linesMost};
 ghost use Rattle.script.specs.Do.{piece};
 ghost use Rattle.messages.specs.Control.{isLowerName, isTrimmedValue};
 ghost use Rattle.ranges.specs.Ranges.{placesEnd};
-ghost use Rattle.binary.specs.Read.{judgedLine, knownLine, knownLines, section};
-ghost use Rattle.binary_parts.specs.Section.{cutNumber, cutPlace, restLine, JudgedLine, Lined, Bodied, Sectioned};
+ghost use Rattle.binary.specs.Read.{judgedLine, cutNumber, cutPlace, afterNameLength, knownLine, knownLines, section};
+ghost use Rattle.binary_parts.specs.Section.{JudgedLine, Lined, Bodied, Sectioned};
 
 // The number of a line that is cut off.
 fn cut_number(known: bool) -> u32
@@ -98,8 +98,8 @@ fn store_line(
     }
 }
 
-// The rest of the line at the place p, from its name of n octets on: `at` is counted in the part s, whose first octet is at the place a.
-fn rest_line(
+// What stands behind the name length n of the line at the place p: `at` is counted in the part s, whose first octet is at the place a.
+fn after_name_length(
     t: &[u8; 256],
     s: &[u8],
     a: usize,
@@ -112,7 +112,7 @@ fn rest_line(
     out: &mut [u32],
 ) -> LineRead
     requires { ⌜ (now t ≡ classes) × (at ≤ length (now s)) × (a + length (now s) < placesEnd) × (kept * 4 + 4 ≤ length (now out)) ⌝ }
-    ensures { λ r. ⌜ Lined (now (s .entry)) a (restLine known p n (a + at) (drop at (now (s .entry)))) host kept (now (out .entry)) (now (out .exit)) r ⌝ }
+    ensures { λ r. ⌜ Lined (now (s .entry)) a (afterNameLength known p n (a + at) (drop at (now (s .entry)))) host kept (now (out .entry)) (now (out .exit)) r ⌝ }
 {
     let number = cut_number(known);
     if s.len() - at < n {
@@ -167,7 +167,7 @@ fn known_line(
             place: p,
         };
     }
-    rest_line(t, s, a, p, next, n, true, host, kept, out)
+    after_name_length(t, s, a, p, next, n, true, host, kept, out)
 }
 
 // The lines that fill the body s of a known-length section, whose first octet is at the place a: at most 64 of them. Kept fields are stored behind
@@ -286,7 +286,7 @@ fn open_section(
                 place: i,
             };
         }
-        let line = rest_line(t, s, 0, i, next, n, false, host, count, out);
+        let line = after_name_length(t, s, 0, i, next, n, false, host, count, out);
         match line {
             LineRead::Refused { number, place } => return Section::Refused { number, place },
             LineRead::Next {

@@ -13,8 +13,8 @@ use Rattle.messages.specs.declared.Notes.{Notes}
 use Rattle.messages.specs.declared.Outcome.{Outcome}
 use Rattle.messages.specs.declared.Outcome.the-variants as outcome
 use Rattle.binary.specs.Reader.{no}
-use Rattle.binary.specs.Read.{afterHeaders}
-use Rattle.binary_reader.specs.Heads.{behindFinal, HeadsFacts}
+use Rattle.binary.specs.Read.{afterHeaders, afterFinal}
+use Rattle.binary_reader.specs.Heads.{HeadsFacts}
 use Rattle.binary_reader.specs.Whole.{MessageIs}
 use Rattle.binary_reader.specs.declared.FinalAnswer.{FinalAnswer}
 use Rattle.binary_reader.specs.declared.FinalAnswer.the-variants as final
@@ -25,8 +25,8 @@ use Rattle.binary_reader.specs.declared.RestRead.the-variants as rest-is
 
 -- behind a final head of status n that states f, at a place: content may follow or not, or the head is refused
 abbrev pub FinalSays : Bool → List InformationalRead → ℕ → Section → Framing → ℕ → List ℕ → FinalAnswer → Type 0
-FinalSays known is n h f at l (final.Good body) = behindFinal known is n h at l ≡ afterHeaders known body (responseStart is n) h f at l
-FinalSays known is n h f at l (final.Refused k p) = behindFinal known is n h at l ≡ no k p
+FinalSays known is n h f at l (final.Good body) = afterFinal known is n h at l ≡ afterHeaders known body (responseStart is n) h f at l
+FinalSays known is n h f at l (final.Refused k p) = afterFinal known is n h at l ≡ no k p
 
 -- a final head of status n that ends at a place and states f: so is each section that does
 pub record FinalJudged (n : ℕ) (f : Framing) (end : ℕ) (r : FinalAnswer) : Type 0 where
@@ -58,4 +58,4 @@ responseOutcome n status heads fields (rest-is.Refused k p) = outcome.Refusal k 
 -- what stands behind any heads that were read up to a place
 pub record FinalRead (s : List ℕ) (known : Bool) (status end heads fields : ℕ) (notes : Notes) (cs cs′ ts ts′ : List ℕ) (r : Outcome) : Type 0 where
   pub by : (is : List InformationalRead) (h : Section) → HeadsFacts s is h status end heads fields notes
-      → MessageIs true is (h .lines) (behindFinal known is status h end (drop end s)) cs cs′ ts ts′ r
+      → MessageIs true is (h .lines) (afterFinal known is status h end (drop end s)) cs cs′ ts ts′ r

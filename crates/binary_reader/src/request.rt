@@ -20,8 +20,8 @@ ghost use Prim.Native.Nat.{_+_, _≤_, _<_};
 ghost use lib.ListN.{length, drop};
 ghost use Rattle.octets.specs.Table.{classes};
 ghost use Rattle.ranges.specs.Ranges.{placesEnd};
-ghost use Rattle.binary.specs.Read.{requestMessage};
-ghost use Rattle.binary_reader.specs.Requests.{HeadJudged, requestOutcome, controlIs, RequestRest, behindControl, Requested};
+ghost use Rattle.binary.specs.Read.{afterControl, requestMessage};
+ghost use Rattle.binary_reader.specs.Requests.{HeadJudged, requestOutcome, controlIs, RequestRest, Requested};
 
 // A request's head that ends at `end`, of whose control data `authority` is: host, then length.
 fn judge_head(t: &[u8; 256], s: &[u8], authority: Span, end: usize, notes: Notes) -> HeadAnswer
@@ -95,7 +95,7 @@ fn request_outcome(
 }
 
 // What stands behind a request's header section that ends at `end` and has `fields` kept fields: its rules, then content, trailers and padding.
-fn request_rest(
+fn after_head(
     t: &[u8; 256],
     s: &[u8],
     known: bool,
@@ -124,7 +124,7 @@ fn request_rest(
 }
 
 // What stands behind the control data of a request that end at `from`.
-fn request_head(
+fn after_control(
     t: &[u8; 256],
     s: &[u8],
     known: bool,
@@ -138,12 +138,12 @@ fn request_head(
     trailers: &mut [u32],
 ) -> Outcome
     requires { ⌜ (now t ≡ classes) × (from ≤ length (now s)) × (length (now s) < placesEnd) × (method .start + method .len ≤ length (now s)) × (authority .start + authority .len ≤ length (now s)) × (path .start + path .len ≤ length (now s)) × (256 ≤ length (now headers)) × (512 ≤ length (now chunks)) × (256 ≤ length (now trailers)) ⌝ }
-    ensures { λ r. ⌜ Requested (behindControl known (controlIs (now (s .entry)) method scheme authority path) from (drop from (now (s .entry)))) (now (headers .entry)) (now (headers .exit)) (now (chunks .entry)) (now (chunks .exit)) (now (trailers .entry)) (now (trailers .exit)) r ⌝ }
+    ensures { λ r. ⌜ Requested (afterControl known (controlIs (now (s .entry)) method scheme authority path) from (drop from (now (s .entry)))) (now (headers .entry)) (now (headers .exit)) (now (chunks .entry)) (now (chunks .exit)) (now (trailers .entry)) (now (trailers .exit)) r ⌝ }
 {
     let h = read_section(t, s, from, known, false, 0, headers);
     match h {
         Section::Refused { number, place } => return Outcome::Refusal { number, place },
-        Section::Done { end, kept, notes } => return request_rest(
+        Section::Done { end, kept, notes } => return after_head(
             t,
             s,
             known,
@@ -182,7 +182,7 @@ pub fn request_in(
             authority,
             path,
             end,
-        } => return request_head(
+        } => return after_control(
             t,
             s,
             known,

@@ -15,11 +15,9 @@ use messages::sections::is_clashing;
 use messages::sections::nothing_stated;
 use octets::Refusals;
 ghost use mathlib.Core.Path.{_≡_};
-ghost use mathlib.Core.List.{[]};
-ghost use Prim.Native.Nat.{suc, _≤_, _<_};
+ghost use Prim.Native.Nat.{_≤_, _<_};
 ghost use lib.ListN.{length, drop};
 ghost use Rattle.octets.specs.Table.{classes};
-ghost use Rattle.octets.specs.Limits.{informationalMost};
 ghost use Rattle.binary.specs.Read.{responseMessage, messageAnswer};
 ghost use Rattle.ranges.specs.Ranges.{placesEnd, Responded};
 ghost use Rattle.binary_reader.specs.Responses.{FinalJudged, responseOutcome, FinalRead};
@@ -111,7 +109,7 @@ pub fn response_in(
     trailers: &mut [u32],
 ) -> Outcome
     requires { ⌜ (now t ≡ classes) × (length (now s) < placesEnd) × (1280 ≤ length (now headers)) × (8 ≤ length (now informational)) × (512 ≤ length (now chunks)) × (256 ≤ length (now trailers)) ⌝ }
-    ensures { λ r. ⌜ Responded (messageAnswer (responseMessage known (suc informationalMost) [] from (drop from (now (s .entry))))) (now (headers .entry)) (now (headers .exit)) (now (informational .entry)) (now (informational .exit)) (now (chunks .entry)) (now (chunks .exit)) (now (trailers .entry)) (now (trailers .exit)) r ⌝ }
+    ensures { λ r. ⌜ Responded (messageAnswer (responseMessage known from (drop from (now (s .entry))))) (now (headers .entry)) (now (headers .exit)) (now (informational .entry)) (now (informational .exit)) (now (chunks .entry)) (now (chunks .exit)) (now (trailers .entry)) (now (trailers .exit)) r ⌝ }
 {
     let h = read_heads(t, s, from, known, headers, informational);
     match h {

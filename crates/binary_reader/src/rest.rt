@@ -64,7 +64,7 @@ fn read_trailers(
 }
 
 // Trailers and padding from `from` on, behind content of `count` chunks and `total` octets.
-fn behind_content(
+fn after_content(
     t: &[u8; 256],
     s: &[u8],
     from: usize,
@@ -121,7 +121,7 @@ pub fn after_headers(
             total,
         } => {
             if content_agrees(framing, body, total) {
-                return behind_content(t, s, end, known, body, count, total, trailers);
+                return after_content(t, s, end, known, body, count, total, trailers);
             }
             return RestRead::Refused {
                 number: Refusals::BAD_LENGTH,

@@ -15,11 +15,11 @@ use Rattle.binary_parts.proofs.lines.open_section.Statement.{statement}
 use Rattle.binary_parts.proofs.lines.open_section.Tie as tie
 use Rattle.binary_parts.proofs.lines.open_section.Reads as reads
 use Rattle.binary_parts.proofs.lines.open_section.Lts as lts
+use Rattle.binary_parts.proofs.lines.after_name_length.Reads as after-name-length-reads
 use Rattle.messages.proofs.sections.is_noted.Reads as is-noted-reads
 use Rattle.messages.proofs.sections.no_notes.Reads as no-notes-reads
 use Rattle.messages.proofs.sections.note.Reads as note-reads
 use Rattle.numbers.proofs.read_int.Reads as read-int-reads
-use Rattle.binary_parts.proofs.lines.rest_line.Reads as rest-line-reads
 
 abbrev Inv-loop : tie.InvT-loop
 Inv-loop t s from host base out₀ i₀ lines₀ count₀ notes₀ out i lines count notes = (fs : List FieldRead) × Gathered host base out₀ fs lines count notes out × (i ≤ length s) × (t ≡ classes) × (openLines (suc linesMost) [] from (drop from s) ≡ openLines (suc (64 - lines)) fs i (drop i s))
@@ -72,8 +72,8 @@ returns-3 : tie.Need-returns-3 Inv-loop μ-loop
 returns-3 c = sectioned-open _ _ (c .before .before .before .before .before .before .loop .inv .4 ∙ open-full (c .before .before .before .before .before .before .before .before .before .before .args .s .now) (c .before .before .before .before .before .before .loop .i) _ _ (sym (c .before .before .before .before .before .read-int .ensures .0) ∙ c .before .before .before .n .given .1) (c .before .if1 .left) (omega (arith, (c .before .before .before .before .before .before .loop .inv .1) .lines, c .if2 .taken))) refl
 
 -- src/lines.rt:289:13
-rest-line-requires : tie.Need-rest-line-requires Inv-loop μ-loop
-rest-line-requires c κs = (c .before .before .before .before .before .before .before .loop .inv .3, int-within (c .before .before .before .before .before .before .before .before .before .before .before .args .s .now) (c .before .before .before .before .before .before .before .loop .i) (sym (c .before .before .before .before .before .before .read-int .ensures .0) ∙ c .before .before .before .before .n .given .1) .1, omega (arith, c .before .before .before .before .before .before .before .before .before .before .before .pre .2), gathered-room (c .before .before .before .before .before .before .before .loop .inv .1) (c .before .if2 .left) (c .before .before .before .before .before .before .before .before .before .before .before .pre .3))
+after-name-length-requires : tie.Need-after-name-length-requires Inv-loop μ-loop
+after-name-length-requires c κs = (c .before .before .before .before .before .before .before .loop .inv .3, int-within (c .before .before .before .before .before .before .before .before .before .before .before .args .s .now) (c .before .before .before .before .before .before .before .loop .i) (sym (c .before .before .before .before .before .before .read-int .ensures .0) ∙ c .before .before .before .before .n .given .1) .1, omega (arith, c .before .before .before .before .before .before .before .before .before .before .before .pre .2), gathered-room (c .before .before .before .before .before .before .before .loop .inv .1) (c .before .if2 .left) (c .before .before .before .before .before .before .before .before .before .before .before .pre .3))
 
 -- src/lines.rt:291:33
 enum-known-line : tie.Need-enum-known-line Inv-loop μ-loop
@@ -81,11 +81,11 @@ enum-known-line c = omega arith
 
 -- src/lines.rt:291:52
 same-length-4 : tie.Need-same-length-4 Inv-loop μ-loop
-same-length-4 c = c .before .before .before .before .before .rest-line .kept .1 .1 .1 .1 .1 .1 .1 .1 .1 .0 ∙ (c .before .before .before .before .before .before .before .before .before .before .before .before .before .loop .inv .1) .same
+same-length-4 c = c .before .before .before .before .before .after-name-length .kept .1 .1 .1 .1 .1 .1 .1 .1 .1 .0 ∙ (c .before .before .before .before .before .before .before .before .before .before .before .before .before .loop .inv .1) .same
 
 -- src/lines.rt:291:52
 returns-4 : tie.Need-returns-4 Inv-loop μ-loop
-returns-4 c = sectioned-open _ _ (c .before .before .before .before .before .before .before .before .before .before .before .before .before .loop .inv .4 ∙ open-wrong (c .before .before .before .before .before .before .before .before .before .before .before .before .before .before .before .before .before .args .s .now) (c .before .before .before .before .before .before .before .before .before .before .before .before .before .loop .i) _ _ (sym (c .before .before .before .before .before .before .before .before .before .before .before .before .read-int .ensures .0) ∙ c .before .before .before .before .before .before .before .before .before .before .n .given .1) (c .before .before .before .before .before .before .before .before .if1 .left) (gathered-few (c .before .before .before .before .before .before .before .before .before .before .before .before .before .loop .inv .1) (c .before .before .before .before .before .before .before .if2 .left)) (lined-refused (c .before .before .before .before .before .rest-line .ensures) (c .before .line .given .1))) refl
+returns-4 c = sectioned-open _ _ (c .before .before .before .before .before .before .before .before .before .before .before .before .before .loop .inv .4 ∙ open-wrong (c .before .before .before .before .before .before .before .before .before .before .before .before .before .before .before .before .before .args .s .now) (c .before .before .before .before .before .before .before .before .before .before .before .before .before .loop .i) _ _ (sym (c .before .before .before .before .before .before .before .before .before .before .before .before .read-int .ensures .0) ∙ c .before .before .before .before .before .before .before .before .before .before .n .given .1) (c .before .before .before .before .before .before .before .before .if1 .left) (gathered-few (c .before .before .before .before .before .before .before .before .before .before .before .before .before .loop .inv .1) (c .before .before .before .before .before .before .before .if2 .left)) (lined-refused (c .before .before .before .before .before .after-name-length .ensures) (c .before .line .given .1))) refl
 
 -- src/lines.rt:293:17
 enum-known-line-2 : tie.Need-enum-known-line-2 Inv-loop μ-loop
@@ -101,7 +101,7 @@ is-noted-requires c κs = tt
 
 -- src/lines.rt:303:29
 sub-v : tie.Need-sub-v Inv-loop μ-loop
-sub-v c = omega (arith, (lined-next (c .before .before .before .before .before .before .before .rest-line .ensures) (c .before .before .before .line2 .given .1)) .long)
+sub-v c = omega (arith, (lined-next (c .before .before .before .before .before .before .before .after-name-length .ensures) (c .before .before .before .line2 .given .1)) .long)
 
 -- src/lines.rt:304:56
 sub-note : tie.Need-sub-note Inv-loop μ-loop
@@ -113,7 +113,7 @@ part-note-start c = omega arith
 
 -- src/lines.rt:304:56
 part-note-end : tie.Need-part-note-end Inv-loop μ-loop
-part-note-end c = omega (arith, (lined-next (c .before .before .before .before .before .before .before .rest-line .ensures) (c .before .before .before .line2 .given .1)) .within)
+part-note-end c = omega (arith, (lined-next (c .before .before .before .before .before .before .before .after-name-length .ensures) (c .before .before .before .line2 .given .1)) .within)
 
 -- src/lines.rt:304:21
 note-requires : tie.Need-note-requires Inv-loop μ-loop
@@ -125,7 +125,7 @@ loop-less c = omega arith
 
 -- src/lines.rt:269:5
 loop-again : tie.Need-loop-again Inv-loop μ-loop
-loop-again c = let f = lined-next (c .before .before .before .before .before .before .before .before .before .rest-line .ensures) (c .before .before .before .before .before .line2 .given .1) in (c .before .before .before .before .before .before .before .before .before .before .before .before .before .before .before .before .before .loop .inv .0 ++ f .line ∷ [], gathered-next (c .before .before .before .before .before .before .before .before .before .before .before .before .before .before .before .before .before .loop .inv .1) (c .before .before .before .before .before .before .before .before .before .before .before .if2 .left) f (note-taken f _ (omega arith) (c .note .ensures)), f .within, c .before .before .before .before .before .before .before .before .before .before .before .before .before .before .before .before .before .loop .inv .3, c .before .before .before .before .before .before .before .before .before .before .before .before .before .before .before .before .before .loop .inv .4 ∙ open-next (c .before .before .before .before .before .before .before .before .before .before .before .before .before .before .before .before .before .before .before .before .before .args .s .now) (c .before .before .before .before .before .before .before .before .before .before .before .before .before .before .before .before .before .loop .i) _ _ (sym (c .before .before .before .before .before .before .before .before .before .before .before .before .before .before .before .before .read-int .ensures .0) ∙ c .before .before .before .before .before .before .before .before .before .before .before .before .before .before .n .given .1) (c .before .before .before .before .before .before .before .before .before .before .before .before .if1 .left) (gathered-few (c .before .before .before .before .before .before .before .before .before .before .before .before .before .before .before .before .before .loop .inv .1) (c .before .before .before .before .before .before .before .before .before .before .before .if2 .left)) _ _ (omega (arith, c .before .before .before .before .before .before .before .before .before .before .before .if2 .left)) (f .is))
+loop-again c = let f = lined-next (c .before .before .before .before .before .before .before .before .before .after-name-length .ensures) (c .before .before .before .before .before .line2 .given .1) in (c .before .before .before .before .before .before .before .before .before .before .before .before .before .before .before .before .before .loop .inv .0 ++ f .line ∷ [], gathered-next (c .before .before .before .before .before .before .before .before .before .before .before .before .before .before .before .before .before .loop .inv .1) (c .before .before .before .before .before .before .before .before .before .before .before .if2 .left) f (note-taken f _ (omega arith) (c .note .ensures)), f .within, c .before .before .before .before .before .before .before .before .before .before .before .before .before .before .before .before .before .loop .inv .3, c .before .before .before .before .before .before .before .before .before .before .before .before .before .before .before .before .before .loop .inv .4 ∙ open-next (c .before .before .before .before .before .before .before .before .before .before .before .before .before .before .before .before .before .before .before .before .before .args .s .now) (c .before .before .before .before .before .before .before .before .before .before .before .before .before .before .before .before .before .loop .i) _ _ (sym (c .before .before .before .before .before .before .before .before .before .before .before .before .before .before .before .before .read-int .ensures .0) ∙ c .before .before .before .before .before .before .before .before .before .before .before .before .before .before .n .given .1) (c .before .before .before .before .before .before .before .before .before .before .before .before .if1 .left) (gathered-few (c .before .before .before .before .before .before .before .before .before .before .before .before .before .before .before .before .before .loop .inv .1) (c .before .before .before .before .before .before .before .before .before .before .before .if2 .left)) _ _ (omega (arith, c .before .before .before .before .before .before .before .before .before .before .before .if2 .left)) (f .is))
 
 -- src/lines.rt:269:5
 loop-less-2 : tie.Need-loop-less-2 Inv-loop μ-loop
@@ -133,7 +133,7 @@ loop-less-2 c = omega arith
 
 -- src/lines.rt:269:5
 loop-again-2 : tie.Need-loop-again-2 Inv-loop μ-loop
-loop-again-2 c = let f = lined-next (c .before .before .before .before .before .before .before .rest-line .ensures) (c .before .before .before .line2 .given .1) in (c .before .before .before .before .before .before .before .before .before .before .before .before .before .before .before .loop .inv .0 ++ f .line ∷ [], gathered-next (c .before .before .before .before .before .before .before .before .before .before .before .before .before .before .before .loop .inv .1) (c .before .before .before .before .before .before .before .before .before .if2 .left) f (note-passed f _ (sym (c .before .is-noted .ensures) ∙ c .if3 .left)), f .within, c .before .before .before .before .before .before .before .before .before .before .before .before .before .before .before .loop .inv .3, c .before .before .before .before .before .before .before .before .before .before .before .before .before .before .before .loop .inv .4 ∙ open-next (c .before .before .before .before .before .before .before .before .before .before .before .before .before .before .before .before .before .before .before .args .s .now) (c .before .before .before .before .before .before .before .before .before .before .before .before .before .before .before .loop .i) _ _ (sym (c .before .before .before .before .before .before .before .before .before .before .before .before .before .before .read-int .ensures .0) ∙ c .before .before .before .before .before .before .before .before .before .before .before .before .n .given .1) (c .before .before .before .before .before .before .before .before .before .before .if1 .left) (gathered-few (c .before .before .before .before .before .before .before .before .before .before .before .before .before .before .before .loop .inv .1) (c .before .before .before .before .before .before .before .before .before .if2 .left)) _ _ (omega (arith, c .before .before .before .before .before .before .before .before .before .if2 .left)) (f .is))
+loop-again-2 c = let f = lined-next (c .before .before .before .before .before .before .before .after-name-length .ensures) (c .before .before .before .line2 .given .1) in (c .before .before .before .before .before .before .before .before .before .before .before .before .before .before .before .loop .inv .0 ++ f .line ∷ [], gathered-next (c .before .before .before .before .before .before .before .before .before .before .before .before .before .before .before .loop .inv .1) (c .before .before .before .before .before .before .before .before .before .if2 .left) f (note-passed f _ (sym (c .before .is-noted .ensures) ∙ c .if3 .left)), f .within, c .before .before .before .before .before .before .before .before .before .before .before .before .before .before .before .loop .inv .3, c .before .before .before .before .before .before .before .before .before .before .before .before .before .before .before .loop .inv .4 ∙ open-next (c .before .before .before .before .before .before .before .before .before .before .before .before .before .before .before .before .before .before .before .args .s .now) (c .before .before .before .before .before .before .before .before .before .before .before .before .before .before .before .loop .i) _ _ (sym (c .before .before .before .before .before .before .before .before .before .before .before .before .before .before .read-int .ensures .0) ∙ c .before .before .before .before .before .before .before .before .before .before .before .before .n .given .1) (c .before .before .before .before .before .before .before .before .before .before .if1 .left) (gathered-few (c .before .before .before .before .before .before .before .before .before .before .before .before .before .before .before .loop .inv .1) (c .before .before .before .before .before .before .before .before .before .if2 .left)) _ _ (omega (arith, c .before .before .before .before .before .before .before .before .before .if2 .left)) (f .is))
 
 pub open-section-spec : {M : Type 1} → statement M
 open-section-spec =
@@ -152,7 +152,7 @@ open-section-spec =
     returns-2
     same-length-3
     returns-3
-    rest-line-requires
+    after-name-length-requires
     enum-known-line
     same-length-4
     returns-4
