@@ -9,7 +9,7 @@ use Rattle.script.specs.Do.{Piece, piece}
 use Rattle.messages.specs.Control.{methodVerdict, authorityVerdict, pathVerdict}
 use Rattle.binary.specs.Reader.{Got, got, no, _>>=_}
 use Rattle.binary.specs.Read.{RequestControl, ruledPart, schemePart, afterScheme, requestControl}
-use Rattle.binary_parts.specs.Control.{StandsIn, Parted, Schemed, spanOf, pieceOf, ControlSays, Controlled}
+use Rattle.binary_parts.specs.Control.{StandsIn, Parted, Schemed, spanOf, pieceOf, Inside, controlOf, ControlSays, Controlled}
 use Rattle.binary_parts.specs.declared.Span.{Span}
 use Rattle.binary_parts.specs.declared.PartRead.{PartRead}
 use Rattle.binary_parts.specs.declared.PartRead.the-variants.{Is, Refused}
@@ -20,18 +20,11 @@ use Rattle.binary_parts.specs.declared.ControlRead.the-variants as contr
 use Rattle.binary_parts.proofs.Places.{part-length, stands-in, part-no, part-got}
 use Rattle.binary_parts.proofs.Judged.{schemed-no, schemed-got}
 
--- a span within the input
-abbrev Inside : List ℕ → Span → Type 0
-Inside s a = a .start + a .len ≤ length s
-
 abbrev span : ℕ → ℕ → Span
 span a n = record { start = a; len = n }
 
 span-back : (s : List ℕ) (a : Span) → Inside s a → spanOf (pieceOf s a) ≡ a
 span-back s a h = ap (λ (n : ℕ). span (a .start) n) (part-length s (a .start) (a .len) h)
-
-abbrev controlOf : List ℕ → Span → ℕ → Span → Span → RequestControl
-controlOf s m v a p = record { method = pieceOf s m; scheme = v; authority = pieceOf s a; path = pieceOf s p }
 
 controlled-as : {s : List ℕ} {x y : Got RequestControl} {r : ControlRead} → x ≡ y → Controlled s y r → Controlled s x r
 controlled-as {s} {r = r} e h = subst (λ (z : Got RequestControl). Controlled s z r) (sym e) h

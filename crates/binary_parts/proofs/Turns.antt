@@ -25,7 +25,8 @@ use Rattle.binary.specs.Read.{afterNameLength, knownLine, knownLines, openLines
 use Rattle.binary_parts.specs.Section.{LineSays, Lined}
 use Rattle.binary_parts.specs.declared.LineRead.{LineRead}
 use Rattle.binary_parts.specs.declared.LineRead.the-variants as read
-use Rattle.binary_parts.proofs.Steps.{integer-cut, integer-in, integer-cut-here, integer-here}
+use Rattle.binary_parts.proofs.Steps.{integer-cut, integer-in}
+use Rattle.binary_parts.proofs.Places.{integer-cut as integer-cut-here, integer-got}
 
 -- ---- a line by its name length
 
@@ -141,12 +142,12 @@ module _ (s : List ℕ) (i f : ℕ) (fs : List FieldRead) where
   module _ {n next : ℕ} (e : readInt i (drop i s) ≡ Value n next) where
     pub open-done : n ≡ 0 → openLines (suc f) fs i (drop i s) ≡ got fs next (drop next s)
     unfolding openLines _>>=_
-    open-done h = rw (integer-here s i cutOff i e, eq-eqb n 0 h)
+    open-done h = rw (integer-got s i cutOff i e, eq-eqb n 0 h)
 
     module _ (h : n ≡ 0 → ⊥) where
       pub open-full : linesMost ≤ length fs → openLines (suc f) fs i (drop i s) ≡ no tooLarge i
       unfolding openLines _>>=_
-      open-full g = rw (integer-here s i cutOff i e, ne-eqb n 0 h, le-leb _ _ g)
+      open-full g = rw (integer-got s i cutOff i e, ne-eqb n 0 h, le-leb _ _ g)
 
       module _ (g : length fs < linesMost) where
         -- the rest of a line counts its places from 0 on
@@ -155,11 +156,11 @@ module _ (s : List ℕ) (i f : ℕ) (fs : List FieldRead) where
 
         pub open-wrong : {k p : ℕ} → afterNameLength false i n (0 + next) (drop next s) ≡ no k p → openLines (suc f) fs i (drop i s) ≡ no k p
         unfolding openLines _>>=_
-        open-wrong q = rw (integer-here s i cutOff i e, ne-eqb n 0 h, lt-leb _ _ g, as-rest, q)
+        open-wrong q = rw (integer-got s i cutOff i e, ne-eqb n 0 h, lt-leb _ _ g, as-rest, q)
 
         pub open-next : {x : FieldRead} (end g′ : ℕ) → f ≡ suc g′ → afterNameLength false i n (0 + next) (drop next s) ≡ got x (0 + end) (drop end s)
             → openLines (suc f) fs i (drop i s) ≡ openLines (suc g′) (fs ++ x ∷ []) end (drop end s)
         unfolding openLines _>>=_
         open-next end g′ z q =
             let y : 0 + end ≡ end = omega arith in
-            rw (integer-here s i cutOff i e, ne-eqb n 0 h, lt-leb _ _ g, as-rest, q, z, y)
+            rw (integer-got s i cutOff i e, ne-eqb n 0 h, lt-leb _ _ g, as-rest, q, z, y)

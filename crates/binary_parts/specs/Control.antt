@@ -66,6 +66,15 @@ spanOf w = record { start = w .place; len = length (w .text) }
 abbrev pub pieceOf : List ℕ → Span → Piece
 pieceOf s a = piece (a .start) (take (a .len) (drop (a .start) s))
 
+-- a span within s
+abbrev pub Inside : List ℕ → Span → Type 0
+Inside s a = a .start + a .len ≤ length s
+
+-- the control data of s that spans name
+abbrev pub controlOf : List ℕ → Span → ℕ → Span → Span → RequestControl
+controlOf s method scheme authority path =
+    record { method = pieceOf s method; scheme = scheme; authority = pieceOf s authority; path = pieceOf s path }
+
 -- control data that were read from s: place and length of each part and the scheme's number, behind which the reading goes on
 abbrev pub ControlSays : List ℕ → Got RequestControl → ControlRead → Type 0
 ControlSays s (got q e l) r =

@@ -1,17 +1,18 @@
 -- One head of a response, as the code reads it.
-use Prim.Native.Nat.{ℕ, zero, suc, _+_, _-_, _*_, _<_, _≤_}
+use Prim.Native.Nat.{ℕ, suc, _+_, _<_, _≤_}
 use mathlib.Core.Path.{_≡_, refl, sym, ap, _∙_, subst}
-use mathlib.Core.List.{List, [], _∷_, _++_}
-use mathlib.Core.Bool.{Bool, true, false, cond}
+use mathlib.Core.List.{List}
+use mathlib.Core.Bool.{Bool, true, false}
 use native.Mathlib.Omega.{arith}
-use borrow.Author.Tests.{eq-eqb, ne-eqb, le-leb, lt-leb}
-use lib.ListN.{length, take, drop}
+use borrow.Author.Tests.{eq-eqb, ne-eqb, le-leb, lt-leb, leb-true, leb-false}
+use lib.Dec.{leb}
+use lib.ListN.{length, drop}
 use Rattle.ranges.specs.Ranges.{AnyHeads, FewHeads, SoManyHeads}
 use Rattle.octets.specs.Limits.{informationalMost}
 use Rattle.octets.specs.Refusals.{tooLarge, cutOff}
 use Rattle.numbers.specs.Integer.{readInt}
 use Rattle.numbers.specs.declared.Integer.the-variants.{Value, Cut}
-use Rattle.script.specs.Do.{Judged, good, wrong}
+use Rattle.script.specs.Do.{good, wrong}
 use Rattle.messages.specs.Message.{InformationalRead, Section, Message}
 use Rattle.messages.specs.Control.{statusVerdict, isInformational}
 use Rattle.messages.specs.Notes.{notesOf, bodyAnswer}
@@ -21,7 +22,7 @@ use Rattle.messages.specs.declared.BodyAnswer.the-variants as body
 use Rattle.messages.specs.declared.Notes.{Notes}
 use Rattle.messages.proofs.Noting.{notes-binary}
 use Rattle.messages.proofs.Lengths.{body-read, body-refused}
-use Rattle.binary.specs.Reader.{Got, got, no, Reader, _>>=_}
+use Rattle.binary.specs.Reader.{Got, no, _>>=_}
 use Rattle.binary.specs.Read.{section, afterFinal, afterFinalStatus, afterInformational, afterInformationalStatus, heads}
 use Rattle.binary_parts.specs.Section.{Sectioned}
 use Rattle.binary_parts.specs.declared.Section as answer
@@ -113,19 +114,19 @@ module _ (s : List ℕ) (known : Bool) (i count base : ℕ) (hs hs′ : List ℕ
     next-wrong z = record { by = λ f is c. status-wrong s known i f is e (λ u. z (q ∙ u)) ∙ rw q }
 
     module _ (z : v ≡ 0) where
-      pub next-full : isInformational n ≡ true → informationalMost ≤ count
+      pub next-full : isInformational n ≡ true → leb (count + 1) informationalMost ≡ false
           → Headed (SoManyHeads count) (λ f is. heads known (suc f) is i (drop i s)) known s base hs hs′ (head.Refused tooLarge i)
-      next-full b g = record { by = λ f is c. status-full s known i f is e (sym q ∙ z) b (omega (arith, g, c)) }
+      next-full b g = record { by = λ f is c. status-full s known i f is e (sym q ∙ z) b (omega (arith, leb-false (count + 1) informationalMost g, c)) }
 
       module _ {r : HeadRead} where
-        pub next-informational : isInformational n ≡ true → count < informationalMost
+        pub next-informational : isInformational n ≡ true → leb (count + 1) informationalMost ≡ true
             → Headed FewHeads (λ f is. afterInformationalStatus known (heads known f) is n next (drop next s)) known s base hs hs′ r
             → Headed (SoManyHeads count) (λ f is. heads known (suc f) is i (drop i s)) known s base hs hs′ r
         next-informational b g h =
             record {
               by = λ f is c.
                   subst (λ (x : Got Message). HeadSays x known f is s base hs hs′ r)
-                  (sym (status-informational s known i f is e (sym q ∙ z) b (omega (arith, g, c)))) (h .by f is (omega (arith, g, c)));
+                  (sym (status-informational s known i f is e (sym q ∙ z) b (omega (arith, leb-true (count + 1) informationalMost g, c)))) (h .by f is (omega (arith, leb-true (count + 1) informationalMost g, c)));
             }
 
         pub next-final : isInformational n ≡ false → Headed AnyHeads (λ f is. afterFinalStatus known is n next (drop next s)) known s base hs hs′ r

@@ -1,10 +1,10 @@
 -- A message, from its framing indicator on, and its answer by value.
-use Prim.Native.Nat.{ℕ, _≤_, _<_}
+use Prim.Native.Nat.{ℕ}
 use mathlib.Core.Path.{_≡_, refl, sym, ap, subst}
 use mathlib.Core.Bool.{true, false}
 use mathlib.Core.List.{List, []}
-use native.Mathlib.Omega.{arith}
-use borrow.Author.Tests.{ne-eqb, le-leb, lt-leb}
+use borrow.Author.Tests.{ne-eqb}
+use lib.Dec.{leb}
 use lib.ListN.{length, drop, replicate}
 use Rattle.octets.specs.Limits.{binaryMost}
 use Rattle.octets.specs.Refusals.{tooLarge, cutOff, badIndicator}
@@ -20,6 +20,7 @@ use Rattle.binary.specs.Read.{requestMessage, responseMessage, afterIndicator, 
 use Rattle.binary_sound.proofs.Sound.{binary-sound}
 use Rattle.ranges.specs.Ranges.{Responded, readingFrom}
 use Rattle.ranges.proofs.ByValue.{by-value}
+use Rattle.binary_parts.specs.Room.{sectionRoom, headsRoom, informationalRoom, chunksRoom}
 use Rattle.binary_parts.proofs.Places.{integer-cut, integer-got}
 use Rattle.binary_reader.specs.Requests.{Requested}
 use Rattle.binary_reader.proofs.Answered.{answered-as, answered-no}
@@ -61,9 +62,9 @@ module _ {f : ℕ} (from : ℕ) (l : List ℕ) where
 
 -- ---- the whole input
 
-read-whole : (s : List ℕ) → length s ≤ binaryMost → readBinary s ≡ messageAnswer (message 0 s)
+read-whole : (s : List ℕ) → leb (length s) binaryMost ≡ true → readBinary s ≡ messageAnswer (message 0 s)
 unfolding readBinary
-read-whole s h = rw (le-leb (length s) binaryMost h)
+read-whole s h = rw h
 
 message-cut : (s : List ℕ) → readInt 0 (drop 0 s) ≡ Cut → message 0 s ≡ no cutOff 0
 unfolding message _>>=_
@@ -77,11 +78,11 @@ module _ (s : List ℕ) {hs hs′ ns ns′ cs cs′ ts ts′ : List ℕ} where
   whole-as : {x : Answer Message} {r : Outcome} → readBinary s ≡ x → Responded x hs hs′ ns ns′ cs cs′ ts ts′ r → Responded (readBinary s) hs hs′ ns ns′ cs cs′ ts ts′ r
   whole-as {r = r} e h = subst (λ (z : Answer Message). Responded z hs hs′ ns ns′ cs cs′ ts ts′ r) (sym e) h
 
-  pub whole-large : binaryMost < length s → Responded (readBinary s) hs hs′ ns ns′ cs cs′ ts ts′ (outcome.Refusal tooLarge 0)
+  pub whole-large : leb (length s) binaryMost ≡ false → Responded (readBinary s) hs hs′ ns ns′ cs cs′ ts ts′ (outcome.Refusal tooLarge 0)
   unfolding readBinary
-  whole-large h = whole-as {x = refused tooLarge 0} (rw (lt-leb (length s) binaryMost h)) (record { says = refl; informational = tt })
+  whole-large h = whole-as {x = refused tooLarge 0} (rw h) (record { says = refl; informational = tt })
 
-  module _ (h : length s ≤ binaryMost) where
+  module _ (h : leb (length s) binaryMost ≡ true) where
     pub whole-cut : readInt 0 (drop 0 s) ≡ Cut → Responded (readBinary s) hs hs′ ns ns′ cs cs′ ts ts′ (outcome.Refusal cutOff 0)
     whole-cut e = whole-as (read-whole s h) (answered-no (message-cut s e))
 
@@ -90,6 +91,6 @@ module _ (s : List ℕ) {hs hs′ ns ns′ cs cs′ ts ts′ : List ℕ} where
     whole-indicated e w = whole-as (read-whole s h) (answered-as (message-indicated s e) w)
 
 pub binary-by-value : (s : List ℕ) {hs′ ns′ cs′ ts′ : List ℕ} {o : Outcome}
-    → Responded (readBinary s) (replicate 1280 0) hs′ (replicate 8 0) ns′ (replicate 512 0) cs′ (replicate 256 0) ts′ o
+    → Responded (readBinary s) (replicate headsRoom 0) hs′ (replicate informationalRoom 0) ns′ (replicate chunksRoom 0) cs′ (replicate sectionRoom 0) ts′ o
     → readingFrom o ns′ hs′ ts′ cs′ ≡ readingOf (readBinary s)
 binary-by-value s h = by-value s h (λ n m e. binary-sound s n m e .sound)

@@ -7,7 +7,7 @@ use lib.ListN.{length, drop}
 use Rattle.script.specs.Do.{Piece, piece, Judged, good, wrong}
 use Rattle.messages.specs.Message.{FieldRead, Section, Message}
 use Rattle.messages.specs.Names.{kept}
-use Rattle.messages.specs.Answers.{partAt}
+use Rattle.messages.specs.Answers.{partAt, requestRecord}
 use Rattle.messages.specs.Notes.{notesOf, AllLie}
 use Rattle.messages.specs.Rules.{authorityIn, binaryFramingOf, mayState}
 use Rattle.messages.specs.declared.Framing.{Framing}
@@ -20,6 +20,7 @@ use Rattle.binary.specs.Read.{RequestControl, afterHead, messageAnswer}
 use Rattle.ranges.specs.Ranges.{Responded}
 use Rattle.binary_parts.specs.Control.{pieceOf}
 use Rattle.binary_parts.specs.declared.Span.{Span}
+use Rattle.binary_reader.specs.Rest.{counted}
 use Rattle.binary_reader.specs.Whole.{MessageIs}
 use Rattle.binary_reader.specs.declared.HeadAnswer.{HeadAnswer}
 use Rattle.binary_reader.specs.declared.HeadAnswer.the-variants as head
@@ -56,31 +57,12 @@ abbrev pub partIs : Span → Part
 partIs a = partAt (a .start) (a .len)
 
 -- the outcome of a request of n octets, by its numbers
-abbrev pub requestOutcome : ℕ → ℕ → Span → Span → ℕ → ℕ → ℕ → RestRead → Outcome
-requestOutcome n scheme method path start len fields (rest-is.Done chunks total trailers) =
-    outcome.Message
-    (record {
-      response = false;
-      scheme = scheme;
-      method = partIs method;
-      authority = partAt start len;
-      path = partIs path;
-      informational = 0;
-      status = 0;
-      headers = fields;
-      chunks = chunks;
-      content = total;
-      trailers = trailers;
-      length = n;
-    })
-requestOutcome n scheme method path start len fields (rest-is.Refused k p) = outcome.Refusal k p
+abbrev pub requestOutcome : ℕ → ℕ → Span → Span → Span → ℕ → RestRead → Outcome
+requestOutcome n scheme method authority path fields (rest-is.Done chunks total trailers) =
+    outcome.Message (requestRecord scheme (partIs method) (partIs authority) (partIs path) (counted fields chunks total trailers n))
+requestOutcome n scheme method authority path fields (rest-is.Refused k p) = outcome.Refusal k p
 
 -- ---- behind the head
-
--- the control data of s that spans name
-abbrev pub controlIs : List ℕ → Span → ℕ → Span → Span → RequestControl
-controlIs s method scheme authority path =
-    record { method = pieceOf s method; scheme = scheme; authority = pieceOf s authority; path = pieceOf s path }
 
 -- a header section that was read up to e, in the numbers that the code keeps of it
 pub record HeadFacts (s : List ℕ) (h : Section) (e k : ℕ) (n : Notes) : Type 0 where

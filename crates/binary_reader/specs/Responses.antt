@@ -7,7 +7,7 @@ use mathlib.Core.List.{List}
 use lib.ListN.{drop}
 use Rattle.messages.specs.Message.{Section, InformationalRead, responseStart}
 use Rattle.messages.specs.Rules.{binaryFramingOf}
-use Rattle.messages.specs.Answers.{noPart}
+use Rattle.messages.specs.Answers.{responseRecord}
 use Rattle.messages.specs.declared.Framing.{Framing}
 use Rattle.messages.specs.declared.Notes.{Notes}
 use Rattle.messages.specs.declared.Outcome.{Outcome}
@@ -15,6 +15,7 @@ use Rattle.messages.specs.declared.Outcome.the-variants as outcome
 use Rattle.binary.specs.Reader.{no}
 use Rattle.binary.specs.Read.{afterHeaders, afterFinal}
 use Rattle.binary_reader.specs.Heads.{HeadsFacts}
+use Rattle.binary_reader.specs.Rest.{counted}
 use Rattle.binary_reader.specs.Whole.{MessageIs}
 use Rattle.binary_reader.specs.declared.FinalAnswer.{FinalAnswer}
 use Rattle.binary_reader.specs.declared.FinalAnswer.the-variants as final
@@ -38,21 +39,7 @@ pub record FinalJudged (n : ℕ) (f : Framing) (end : ℕ) (r : FinalAnswer) : T
 -- the outcome of a response of n octets, by its numbers
 abbrev pub responseOutcome : ℕ → ℕ → ℕ → ℕ → RestRead → Outcome
 responseOutcome n status heads fields (rest-is.Done chunks total trailers) =
-    outcome.Message
-    (record {
-      response = true;
-      scheme = 0;
-      method = noPart;
-      authority = noPart;
-      path = noPart;
-      informational = heads;
-      status = status;
-      headers = fields;
-      chunks = chunks;
-      content = total;
-      trailers = trailers;
-      length = n;
-    })
+    outcome.Message (responseRecord heads status (counted fields chunks total trailers n))
 responseOutcome n status heads fields (rest-is.Refused k p) = outcome.Refusal k p
 
 -- what stands behind any heads that were read up to a place

@@ -12,6 +12,7 @@ use Rattle.messages.specs.Message.{FieldRead, Section, Start, Message}
 use Rattle.messages.specs.Names.{keptTrailers}
 use Rattle.messages.specs.Meaning.{contentOf}
 use Rattle.messages.specs.Answers.{fieldsNumbers, chunksNumbers}
+use Rattle.messages.specs.declared.Counts.{Counts}
 use Rattle.messages.specs.declared.Framing.{Framing}
 use Rattle.binary.specs.Reader.{Got, got, no}
 use Rattle.binary.specs.Read.{afterContent, afterHeaders}
@@ -62,3 +63,7 @@ pub record Behind (s : List ℕ) (from : ℕ) (known body : Bool) (count total :
 -- what stands behind any header section, in a message whose head states f
 pub record Rested (s : List ℕ) (from : ℕ) (known body : Bool) (f : Framing) (cs cs′ ts ts′ : List ℕ) (r : RestRead) : Type 0 where
   pub by : (start : Start) (h : Section) → RestIs s start (h .lines) (afterHeaders known body start h f from (drop from s)) cs cs′ ts ts′ r
+
+-- how much of a message of n octets was read
+abbrev pub counted : ℕ → ℕ → ℕ → ℕ → ℕ → Counts
+counted fields chunks total trailers n = record { headers = fields; chunks = chunks; content = total; trailers = trailers; length = n }

@@ -23,5 +23,6 @@ MessageSays response is lines (got m e l) cs cs′ ts ts′ r =
 MessageSays response is lines (no n p) cs cs′ ts ts′ r = r ≡ outcome.Refusal n p
 
 -- the promise of a message behind its heads
-pub record MessageIs (response : Bool) (is : List InformationalRead) (lines : List FieldRead) (x : Got Message) (cs cs′ ts ts′ : List ℕ) (r : Outcome) : Type 0 where
+pub record MessageIs (response : Bool) (is : List InformationalRead) (lines : List FieldRead) (x : Got Message) (cs cs′ ts ts′ : List ℕ) (r : Outcome)
+    : Type 0 where
   pub says : MessageSays response is lines x cs cs′ ts ts′ r

@@ -17,8 +17,10 @@ ghost use Prim.Native.Nat.{suc, _+_, _*_, _≤_, _<_};
 ghost use lib.ListN.{length, drop};
 ghost use Rattle.ranges.specs.Ranges.{AnyHeads, FewHeads, SoManyHeads};
 ghost use Rattle.octets.specs.Table.{classes};
+ghost use Rattle.octets.specs.Limits.{informationalMost};
 ghost use Rattle.ranges.specs.Ranges.{placesEnd};
 ghost use Rattle.binary.specs.Read.{afterFinalStatus, afterInformationalStatus, heads, responseMessage};
+ghost use Rattle.binary_parts.specs.Room.{sectionRoom, headsRoom, informationalRoom};
 ghost use Rattle.binary_reader.specs.Heads.{FinalStatus, Headed, HeadsTaken};
 
 // What stands behind an informational status that ends at `next`: its section, which states no length.
@@ -31,8 +33,9 @@ fn after_informational_status(
     base: usize,
     headers: &mut [u32],
 ) -> HeadRead
-    requires { ⌜ (now t ≡ classes) × (next ≤ length (now s)) × (length (now s) < placesEnd) × (base * 4 + 256 ≤ length (now headers)) ⌝ }
-    ensures { λ r. ⌜ Headed FewHeads (λ f is. afterInformationalStatus known (heads known f) is status next (drop next (now (s .entry)))) known (now (s .entry)) base (now (headers .entry)) (now (headers .exit)) r ⌝ }
+    requires { ⌜ (now t ≡ classes) × (next ≤ length (now s)) × (length (now s) < placesEnd) × (base * 4 + sectionRoom ≤ length (now headers)) ⌝ }
+    ensures { λ r. ⌜ Headed FewHeads (λ f is. afterInformationalStatus known (heads known f) is status next (drop next (now (s .entry))))
+        known (now (s .entry)) base (now (headers .entry)) (now (headers .exit)) r ⌝ }
 {
     let h = read_section(t, s, next, known, true, base, headers);
     match h {
@@ -58,8 +61,9 @@ fn after_final_status(
     base: usize,
     headers: &mut [u32],
 ) -> HeadRead
-    requires { ⌜ (now t ≡ classes) × (next ≤ length (now s)) × (length (now s) < placesEnd) × (base * 4 + 256 ≤ length (now headers)) × FinalStatus status ⌝ }
-    ensures { λ r. ⌜ Headed AnyHeads (λ f is. afterFinalStatus known is status next (drop next (now (s .entry)))) known (now (s .entry)) base (now (headers .entry)) (now (headers .exit)) r ⌝ }
+    requires { ⌜ (now t ≡ classes) × (next ≤ length (now s)) × (length (now s) < placesEnd) × (base * 4 + sectionRoom ≤ length (now headers)) × FinalStatus status ⌝ }
+    ensures { λ r. ⌜ Headed AnyHeads (λ f is. afterFinalStatus known is status next (drop next (now (s .entry))))
+        known (now (s .entry)) base (now (headers .entry)) (now (headers .exit)) r ⌝ }
 {
     let h = read_section(t, s, next, known, true, base, headers);
     match h {
@@ -83,8 +87,9 @@ pub fn next_head(
     base: usize,
     headers: &mut [u32],
 ) -> HeadRead
-    requires { ⌜ (now t ≡ classes) × (length (now s) < placesEnd) × (base * 4 + 256 ≤ length (now headers)) ⌝ }
-    ensures { λ r. ⌜ Headed (SoManyHeads count) (λ f is. heads known (suc f) is i (drop i (now (s .entry)))) known (now (s .entry)) base (now (headers .entry)) (now (headers .exit)) r ⌝ }
+    requires { ⌜ (now t ≡ classes) × (length (now s) < placesEnd) × (base * 4 + sectionRoom ≤ length (now headers)) × (count ≤ informationalMost) ⌝ }
+    ensures { λ r. ⌜ Headed (SoManyHeads count) (λ f is. heads known (suc f) is i (drop i (now (s .entry))))
+        known (now (s .entry)) base (now (headers .entry)) (now (headers .exit)) r ⌝ }
 {
     let n = read_int(s, i);
     let Integer::Value { value, next } = n else {
@@ -97,13 +102,13 @@ pub fn next_head(
     if v == 0 {
         let status = value as u32;
         if is_informational(value) {
-            if Limits::INFORMATIONAL <= count {
-                return HeadRead::Refused {
-                    number: Refusals::TOO_LARGE,
-                    place: i,
-                };
+            if Limits::fits(count + 1, Limits::INFORMATIONAL) {
+                return after_informational_status(t, s, status, next, known, base, headers);
             }
-            return after_informational_status(t, s, status, next, known, base, headers);
+            return HeadRead::Refused {
+                number: Refusals::TOO_LARGE,
+                place: i,
+            };
         } else {
             return after_final_status(t, s, status, next, known, base, headers);
         }
@@ -125,8 +130,10 @@ pub fn read_heads(
     headers: &mut [u32],
     informational: &mut [u32],
 ) -> HeadsRead
-    requires { ⌜ (now t ≡ classes) × (length (now s) < placesEnd) × (1280 ≤ length (now headers)) × (8 ≤ length (now informational)) ⌝ }
-    ensures { λ r. ⌜ HeadsTaken (responseMessage known from (drop from (now (s .entry)))) known (now (s .entry)) (now (headers .entry)) (now (headers .exit)) (now (informational .entry)) (now (informational .exit)) r ⌝ }
+    requires { ⌜ (now t ≡ classes) × (length (now s) < placesEnd)
+        × (headsRoom ≤ length (now headers)) × (informationalRoom ≤ length (now informational)) ⌝ }
+    ensures { λ r. ⌜ HeadsTaken (responseMessage known from (drop from (now (s .entry)))) known (now (s .entry))
+        (now (headers .entry)) (now (headers .exit)) (now (informational .entry)) (now (informational .exit)) r ⌝ }
 {
     let mut i = from;
     let mut count: usize = 0;

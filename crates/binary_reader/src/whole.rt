@@ -16,6 +16,7 @@ ghost use Rattle.octets.specs.Table.{classes};
 ghost use Rattle.messages.specs.Answers.{readingOf};
 ghost use Rattle.binary.specs.Read.{afterIndicator, messageAnswer, readBinary};
 ghost use Rattle.ranges.specs.Ranges.{placesEnd, Responded};
+ghost use Rattle.binary_parts.specs.Room.{sectionRoom, headsRoom, informationalRoom, chunksRoom};
 
 // What stands behind the framing indicator, which ends at `from`.
 fn after_indicator(
@@ -28,8 +29,12 @@ fn after_indicator(
     chunks: &mut [u32],
     trailers: &mut [u32],
 ) -> Outcome
-    requires { ⌜ (now t ≡ classes) × (length (now s) < placesEnd) × (1280 ≤ length (now headers)) × (8 ≤ length (now informational)) × (512 ≤ length (now chunks)) × (256 ≤ length (now trailers)) ⌝ }
-    ensures { λ r. ⌜ Responded (messageAnswer (afterIndicator indicator from (drop from (now (s .entry))))) (now (headers .entry)) (now (headers .exit)) (now (informational .entry)) (now (informational .exit)) (now (chunks .entry)) (now (chunks .exit)) (now (trailers .entry)) (now (trailers .exit)) r ⌝ }
+    requires { ⌜ (now t ≡ classes) × (length (now s) < placesEnd)
+        × (headsRoom ≤ length (now headers)) × (informationalRoom ≤ length (now informational))
+        × (chunksRoom ≤ length (now chunks)) × (sectionRoom ≤ length (now trailers)) ⌝ }
+    ensures { λ r. ⌜ Responded (messageAnswer (afterIndicator indicator from (drop from (now (s .entry)))))
+        (now (headers .entry)) (now (headers .exit)) (now (informational .entry)) (now (informational .exit))
+        (now (chunks .entry)) (now (chunks .exit)) (now (trailers .entry)) (now (trailers .exit)) r ⌝ }
 {
     if indicator == 0 {
         return request_in(t, s, from, true, headers, chunks, trailers);
@@ -58,10 +63,14 @@ pub fn binary_in(
     chunks: &mut [u32],
     trailers: &mut [u32],
 ) -> Outcome
-    requires { ⌜ (now t ≡ classes) × (1280 ≤ length (now headers)) × (8 ≤ length (now informational)) × (512 ≤ length (now chunks)) × (256 ≤ length (now trailers)) ⌝ }
-    ensures { λ r. ⌜ Responded (readBinary (now (s .entry))) (now (headers .entry)) (now (headers .exit)) (now (informational .entry)) (now (informational .exit)) (now (chunks .entry)) (now (chunks .exit)) (now (trailers .entry)) (now (trailers .exit)) r ⌝ }
+    requires { ⌜ (now t ≡ classes)
+        × (headsRoom ≤ length (now headers)) × (informationalRoom ≤ length (now informational))
+        × (chunksRoom ≤ length (now chunks)) × (sectionRoom ≤ length (now trailers)) ⌝ }
+    ensures { λ r. ⌜ Responded (readBinary (now (s .entry)))
+        (now (headers .entry)) (now (headers .exit)) (now (informational .entry)) (now (informational .exit))
+        (now (chunks .entry)) (now (chunks .exit)) (now (trailers .entry)) (now (trailers .exit)) r ⌝ }
 {
-    if s.len() <= Limits::BINARY {
+    if Limits::fits(s.len(), Limits::BINARY) {
         let v = read_int(s, 0);
         let Integer::Value { value, next } = v else {
             return Outcome::Refusal {

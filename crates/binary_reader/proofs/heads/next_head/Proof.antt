@@ -30,17 +30,23 @@ cast-status c = omega (arith, status-rule _ (sym (c .before .status-verdict .ens
 is-informational-requires : tie.Need-is-informational-requires
 is-informational-requires c κs = search needs
 
-returns-2 : tie.Need-returns-2
-returns-2 c = next-full (c .before .before .before .before .before .before .before .before .before .before .before .args .s .now) _ (c .before .before .before .before .before .before .before .before .before .before .before .args .i) _ _ _ _ (sym (c .before .before .before .before .before .before .before .before .read-int .ensures .0) ∙ c .before .before .before .before .before .before .n .given .1) (c .before .before .before .before .status-verdict .ensures) (c .before .before .before .if1 .taken) (sym (c .before .before .is-informational .ensures) ∙ c .before .if2 .taken) (omega (arith, c .if3 .taken))
+add-fits : tie.Need-add-fits
+add-fits c = omega (arith, c .before .before .before .before .before .before .before .before .before .before .pre .3)
+
+fits-requires : tie.Need-fits-requires
+fits-requires c κs = search needs
 
 after-informational-status-requires : tie.Need-after-informational-status-requires
-after-informational-status-requires c κs = (c .before .before .before .before .before .before .before .before .before .before .before .before .pre .0, int-within (c .before .before .before .before .before .before .before .before .before .before .before .before .args .s .now) (c .before .before .before .before .before .before .before .before .before .before .before .before .args .i) (sym (c .before .before .before .before .before .before .before .before .before .read-int .ensures .0) ∙ c .before .before .before .before .before .before .before .n .given .1) .1, c .before .before .before .before .before .before .before .before .before .before .before .before .pre .1, c .before .before .before .before .before .before .before .before .before .before .before .before .pre .2)
+after-informational-status-requires c κs = (c .before .before .before .before .before .before .before .before .before .before .before .before .before .pre .0, int-within (c .before .before .before .before .before .before .before .before .before .before .before .before .before .args .s .now) (c .before .before .before .before .before .before .before .before .before .before .before .before .before .args .i) (sym (c .before .before .before .before .before .before .before .before .before .before .read-int .ensures .0) ∙ c .before .before .before .before .before .before .before .before .n .given .1) .1, c .before .before .before .before .before .before .before .before .before .before .before .before .before .pre .1, c .before .before .before .before .before .before .before .before .before .before .before .before .before .pre .2)
 
 same-length : tie.Need-same-length
 same-length c = search needs
 
+returns-2 : tie.Need-returns-2
+returns-2 c = next-informational (c .before .before .before .before .before .before .before .before .before .before .before .before .before .before .before .before .args .s .now) _ (c .before .before .before .before .before .before .before .before .before .before .before .before .before .before .before .before .args .i) _ _ _ _ (sym (c .before .before .before .before .before .before .before .before .before .before .before .before .before .read-int .ensures .0) ∙ c .before .before .before .before .before .before .before .before .before .before .before .n .given .1) (c .before .before .before .before .before .before .before .before .before .status-verdict .ensures) (c .before .before .before .before .before .before .before .before .if1 .taken) (sym (c .before .before .before .before .before .before .before .is-informational .ensures) ∙ c .before .before .before .before .before .before .if2 .taken) (sym (c .before .before .before .before .before .fits2 .ensures) ∙ c .before .before .before .before .if3 .taken) (c .before .before .after-informational-status .ensures)
+
 returns-3 : tie.Need-returns-3
-returns-3 c = next-informational (c .before .before .before .before .before .before .before .before .before .before .before .before .before .before .before .args .s .now) _ (c .before .before .before .before .before .before .before .before .before .before .before .before .before .before .before .args .i) _ _ _ _ (sym (c .before .before .before .before .before .before .before .before .before .before .before .before .read-int .ensures .0) ∙ c .before .before .before .before .before .before .before .before .before .before .n .given .1) (c .before .before .before .before .before .before .before .before .status-verdict .ensures) (c .before .before .before .before .before .before .before .if1 .taken) (sym (c .before .before .before .before .before .before .is-informational .ensures) ∙ c .before .before .before .before .before .if2 .taken) (omega (arith, c .before .before .before .before .if3 .left)) (c .before .before .after-informational-status .ensures)
+returns-3 c = next-full (c .before .before .before .before .before .before .before .before .before .before .before .before .args .s .now) _ (c .before .before .before .before .before .before .before .before .before .before .before .before .args .i) _ _ _ _ (sym (c .before .before .before .before .before .before .before .before .before .read-int .ensures .0) ∙ c .before .before .before .before .before .before .before .n .given .1) (c .before .before .before .before .before .status-verdict .ensures) (c .before .before .before .before .if1 .taken) (sym (c .before .before .before .is-informational .ensures) ∙ c .before .before .if2 .taken) (sym (c .before .fits2 .ensures) ∙ c .if3 .left)
 
 after-final-status-requires : tie.Need-after-final-status-requires
 after-final-status-requires c κs = (c .before .before .before .before .before .before .before .before .before .before .before .pre .0, int-within (c .before .before .before .before .before .before .before .before .before .before .before .args .s .now) (c .before .before .before .before .before .before .before .before .before .before .before .args .i) (sym (c .before .before .before .before .before .before .before .before .read-int .ensures .0) ∙ c .before .before .before .before .before .before .n .given .1) .1, c .before .before .before .before .before .before .before .before .before .before .before .pre .1, c .before .before .before .before .before .before .before .before .before .before .before .pre .2, record { verdict = sym (c .before .before .before .before .status-verdict .ensures) ∙ c .before .before .before .if1 .taken; last = sym (c .before .before .is-informational .ensures) ∙ c .before .if2 .left })
@@ -65,9 +71,11 @@ next-head-spec =
     status-verdict-requires
     cast-status
     is-informational-requires
-    returns-2
+    add-fits
+    fits-requires
     after-informational-status-requires
     same-length
+    returns-2
     returns-3
     after-final-status-requires
     same-length-2

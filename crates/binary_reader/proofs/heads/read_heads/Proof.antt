@@ -26,7 +26,7 @@ loop-holds c = (c .before .before .before .pre .0, refl, refl, heads-start _ _ _
 
 -- src/heads.rt:136:13
 next-head-requires : tie.Need-next-head-requires Inv-loop μ-loop
-next-head-requires c κs = (c .before .loop .inv .0, c .before .before .before .before .before .pre .1, omega (arith, c .before .loop .inv .1, c .before .loop .inv .3 .few, c .before .loop .inv .3 .most, c .before .before .before .before .before .pre .2))
+next-head-requires c κs = (c .before .loop .inv .0, c .before .before .before .before .before .pre .1, omega (arith, c .before .loop .inv .1, c .before .loop .inv .3 .few, c .before .loop .inv .3 .most, c .before .before .before .before .before .pre .2), c .before .loop .inv .3 .most)
 
 -- src/heads.rt:138:33
 enum-known-h : tie.Need-enum-known-h Inv-loop μ-loop
