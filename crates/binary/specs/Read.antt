@@ -1,15 +1,15 @@
 -- The reader of Binary HTTP in 01's order of judgement (01, "Binary HTTP as we take it", "Sizes", "Numbers a call answers with"; RFC 9292, section 3).
-use Prim.Native.Nat.{ℕ, zero, suc, _+_, _-_}
-use mathlib.Core.Bool.{Bool, true, false, cond, not, _&&_, _||_}
+use Prim.Native.Nat.{ℕ, zero, suc, _+_}
+use mathlib.Core.Bool.{Bool, true, false, cond, _||_}
 use mathlib.Core.List.{List, [], _∷_, _++_}
 use lib.Dec.{ltb, leb, eqb}
-use lib.ListN.{length, take, drop}
+use lib.ListN.{length}
 use Rattle.octets.specs.Ascii.{ascii}
 use Rattle.octets.specs.Text.{sameText, isEmpty}
 use Rattle.octets.specs.Limits.{methodMost, authorityMost, pathMost, linesMost, chunksMost, contentMost, binaryMost, informationalMost}
 use Rattle.octets.specs.Refusals.{badSyntax, notSupported, badLength, tooLarge, cutOff, badIndicator, badSection, badPadding}
-use Rattle.script.specs.Script.{Answer, accepted, refused, more}
-use Rattle.script.specs.Do.{Piece, piece, Judged, good, wrong}
+use Rattle.script.specs.Script.{Answer, accepted, refused}
+use Rattle.script.specs.Do.{Piece, Judged, good, wrong}
 use Rattle.messages.specs.Message.{FieldRead, Section, InformationalRead, Start, requestStart, responseStart, Message, plainMessage, nonEmpty}
 use Rattle.messages.specs.Control.{methodVerdict, pathVerdict, authorityVerdict, statusVerdict, isInformational, isBodyless, isLowerName, isTrimmedValue}
 use Rattle.messages.specs.Names.{areTrailers, keptTrailers}
@@ -62,33 +62,50 @@ pub record RequestControl : Type 0 where
   pub authority : Piece
   pub path : Piece
 
+-- behind a method and a scheme: authority and path
+unfoldable pub afterScheme : Piece → ℕ → Reader RequestControl
+afterScheme m s = do
+  a ← ruledPart authorityMost authorityVerdict
+  p ← ruledPart pathMost pathVerdict
+  give (record { method = m; scheme = s; authority = a; path = p })
+
 -- method, scheme, authority, path: each judged before the next is read
 unfoldable pub requestControl : Reader RequestControl
 requestControl = do
   m ← ruledPart methodMost methodVerdict
   s ← schemePart
-  a ← ruledPart authorityMost authorityVerdict
-  p ← ruledPart pathMost pathVerdict
-  give (record { method = m; scheme = s; authority = a; path = p })
+  afterScheme m s
 
 -- ---- field lines
 
 -- a line's octets are judged when both halves are in, at the line's first octet
 unfoldable pub judgedLine : ℕ → Piece → Piece → Judged FieldRead
-judgedLine p n v = cond (isLowerName (n .text)) (cond (isTrimmedValue (v .text)) (good (record { name = n; value = v })) (wrong badSyntax p)) (wrong badSyntax p)
+judgedLine p n v =
+    cond (isLowerName (n .text)) (cond (isTrimmedValue (v .text)) (good (record { name = n; value = v })) (wrong badSyntax p)) (wrong badSyntax p)
 
--- a line of a known-length section: whatever is cut off crosses the section
+-- the number of a line that is cut off: in a known-length section it crosses the section
+abbrev pub cutNumber : Bool → ℕ
+cutNumber known = cond known badSection cutOff
+
+-- the place of a value that is cut off: in an indeterminate section the value is a part of its own, at q; in a known-length one the line's place p stays
+abbrev pub cutPlace : Bool → ℕ → ℕ → ℕ
+cutPlace known p q = cond known p q
+
+-- behind the name length a of the line at the place p, in either kind of section: name, value length, value
+unfoldable pub afterNameLength : Bool → ℕ → ℕ → Reader FieldRead
+afterNameLength known p a = do
+  n ← string a (cutNumber known) p
+  q ← here
+  b ← integer (cutNumber known) (cutPlace known p q)
+  v ← string b (cutNumber known) (cutPlace known p q)
+  tell (judgedLine p n v)
+
+-- a line of a known-length section: it has a name
 unfoldable pub knownLine : Reader FieldRead
 knownLine = do
   p ← here
   a ← integer badSection p
-  cond (eqb a 0)
-      (refuse badSection p)
-      (do
-        n ← string a badSection p
-        b ← integer badSection p
-        v ← string b badSection p
-        tell (judgedLine p n v))
+  cond (eqb a 0) (refuse badSection p) (afterNameLength true p a)
 
 -- the lines that fill the body of a known-length section exactly; a 65th is refused before it is read. The first number is above how many may come
 unfoldable pub knownLines : ℕ → List FieldRead → Reader (List FieldRead)
@@ -119,13 +136,6 @@ knownSection = do
   b ← part
   bodyLines b
 
--- the rest of a line of an indeterminate section, which starts at the place p and whose name has a octets: name, then value, a part of its own
-unfoldable pub openLine : ℕ → ℕ → Reader FieldRead
-openLine p a = do
-  n ← string a cutOff p
-  v ← part
-  tell (judgedLine p n v)
-
 -- the lines up to a name length of zero; a 65th is refused when its name length is in. The first number is above how many may come
 unfoldable pub openLines : ℕ → List FieldRead → Reader (List FieldRead)
 openLines zero fs = refuse tooLarge 0
@@ -137,7 +147,7 @@ openLines (suc f) fs = do
       (cond (leb linesMost (length fs))
       (refuse tooLarge p)
       (do
-        h ← openLine p a
+        h ← afterNameLength false p a
         openLines f (fs ++ h ∷ [])))
 
 -- a section and the place behind it
@@ -212,65 +222,100 @@ padding at (b ∷ s) = cond (eqb b 0) (padding (at + 1) s) (no badPadding at)
 
 -- ---- whole messages
 
--- behind the header section: content, trailers, padding. `body` says whether the message may have content
+-- behind the content: trailers and padding
+unfoldable pub afterContent : Bool → Bool → Start → List FieldRead → List Piece → Reader Message
+afterContent known body start lines c = do
+  ts ← trailers known body
+  z ← padding
+  give (plainMessage start lines c ts)
+
+-- behind a header section that was judged: content, trailers, padding. `body` says whether the message may have content
 unfoldable pub afterHeaders : Bool → Bool → Start → Section → Framing → Reader Message
 afterHeaders known body start h f = do
   cs ← content known
   e ← here
   c ← tell (contentRule body f e cs)
-  ts ← trailers known body
-  z ← padding
-  give (plainMessage start (h .lines) c ts)
+  afterContent known body start (h .lines) c
 
--- a request: host, then the length, are judged behind the header section
-unfoldable pub requestMessage : Bool → Reader Message
-requestMessage known = do
-  q ← requestControl
-  h ← section known
+-- behind the header section of a request: host, then the length, are judged
+unfoldable pub afterHead : Bool → RequestControl → Section → Reader Message
+afterHead known q h = do
   a ← tell (authorityIn (h .end) (q .authority) (h .lines))
   f ← tell (mayState (h .end) (binaryFramingOf (h .lines)))
   afterHeaders known true (requestStart (q .method) (q .scheme) a (q .path)) h f
 
--- behind a final status
-unfoldable pub finalResponse : Bool → List InformationalRead → ℕ → Reader Message
-finalResponse known is n = do
+-- behind the control data of a request
+unfoldable pub afterControl : Bool → RequestControl → Reader Message
+afterControl known q = do
   h ← section known
-  cond (isBodyless n)
-      (do
-        b ← tell (nothingStated (h .end) (binaryFramingOf (h .lines)))
-        afterHeaders known false (responseStart is n) h Unstated)
-      (do
-        f ← tell (mayState (h .end) (binaryFramingOf (h .lines)))
-        afterHeaders known true (responseStart is n) h f)
+  afterHead known q h
 
--- one status after another, behind informational heads: a fifth is refused at its status, and each is judged behind its section. The number is above how
--- many may come
-unfoldable pub responseMessage : Bool → ℕ → List InformationalRead → Reader Message
-responseMessage known zero is = refuse tooLarge 0
-responseMessage known (suc f) is = do
+-- a request
+unfoldable pub requestMessage : Bool → Reader Message
+requestMessage known = do
+  q ← requestControl
+  afterControl known q
+
+-- behind the section of a final head of status n: the length that it states is judged
+unfoldable pub afterFinal : Bool → List InformationalRead → ℕ → Section → Reader Message
+afterFinal known is n h =
+    cond (isBodyless n)
+    (do
+      b ← tell (nothingStated (h .end) (binaryFramingOf (h .lines)))
+      afterHeaders known false (responseStart is n) h Unstated)
+    (do
+      f ← tell (mayState (h .end) (binaryFramingOf (h .lines)))
+      afterHeaders known true (responseStart is n) h f)
+
+-- behind a final status n
+unfoldable pub afterFinalStatus : Bool → List InformationalRead → ℕ → Reader Message
+afterFinalStatus known is n = do
+  h ← section known
+  afterFinal known is n h
+
+-- an informational head of status n with the lines of the section h
+abbrev pub informationalRead : ℕ → Section → InformationalRead
+informationalRead n h = record { status = n; lines = h .lines }
+
+-- behind the section of an informational head of status n: it states no length, and `others` reads on behind the heads with it
+unfoldable pub afterInformational : (List InformationalRead → Reader Message) → List InformationalRead → ℕ → Section → Reader Message
+afterInformational others is n h = do
+  u ← tell (nothingStated (h .end) (binaryFramingOf (h .lines)))
+  others (is ++ informationalRead n h ∷ [])
+
+-- behind an informational status n
+unfoldable pub afterInformationalStatus : Bool → (List InformationalRead → Reader Message) → List InformationalRead → ℕ → Reader Message
+afterInformationalStatus known others is n = do
+  h ← section known
+  afterInformational others is n h
+
+-- one head after another, behind the informational heads `is`: a fifth is refused at its status. The number is above how many may come
+unfoldable pub heads : Bool → ℕ → List InformationalRead → Reader Message
+heads known zero is = refuse tooLarge 0
+heads known (suc f) is = do
   p ← here
   v ← integer cutOff p
   n ← tell (rule (statusVerdict v) p v)
   cond (isInformational n)
-      (cond (leb informationalMost (length is))
-      (refuse tooLarge p)
-      (do
-        h ← section known
-        u ← tell (nothingStated (h .end) (binaryFramingOf (h .lines)))
-        responseMessage known f (is ++ record { status = n; lines = h .lines } ∷ [])))
-      (finalResponse known is n)
+      (cond (leb informationalMost (length is)) (refuse tooLarge p) (afterInformationalStatus known (heads known f) is n))
+      (afterFinalStatus known is n)
 
--- the framing: 0 request, 1 response, of known length; 2 and 3 the same of indeterminate length
+-- a response
+abbrev pub responseMessage : Bool → Reader Message
+responseMessage known = heads known (suc informationalMost) []
+
+-- behind the framing indicator: 0 request, 1 response, of known length; 2 and 3 the same of indeterminate length
+unfoldable pub afterIndicator : ℕ → Reader Message
+afterIndicator f =
+    cond (eqb f 0)
+    (requestMessage true)
+    (cond (eqb f 1) (responseMessage true) (cond (eqb f 2) (requestMessage false) (cond (eqb f 3) (responseMessage false) (refuse badIndicator 0))))
+
+-- the framing indicator, and what it names
 unfoldable pub message : Reader Message
 message = do
   f ← integer cutOff 0
-  cond (leb f 3)
-      (cond (eqb f 0)
-      (requestMessage true)
-      (cond (eqb f 1)
-      (responseMessage true (suc informationalMost) [])
-      (cond (eqb f 2) (requestMessage false) (responseMessage false (suc informationalMost) []))))
-      (refuse badIndicator 0)
+  afterIndicator f
 
 -- the whole input is the message, padding too
 abbrev pub messageAnswer : Got Message → Answer Message

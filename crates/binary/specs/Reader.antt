@@ -1,9 +1,9 @@
 -- Readers of one whole input: each takes what it reads off the front of what is left, and knows its place (01, "Binary HTTP as we take it"; integers and
 -- strings that are cut off: "Numbers a call answers with").
 use Prim.Native.Nat.{ℕ, _+_, _-_}
-use mathlib.Core.Bool.{Bool, true, false, cond}
-use mathlib.Core.List.{List, [], _∷_}
-use lib.Dec.{ltb, leb, eqb}
+use mathlib.Core.Bool.{Bool, cond}
+use mathlib.Core.List.{List}
+use lib.Dec.{ltb, eqb}
 use lib.ListN.{length, take, drop}
 use Rattle.octets.specs.Text.{isEmpty}
 use Rattle.numbers.specs.Integer.{readInt}

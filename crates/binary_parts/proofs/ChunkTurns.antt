@@ -4,7 +4,8 @@ use mathlib.Core.Path.{_≡_, refl, sym, ap, _∙_}
 use mathlib.Core.List.{List, [], _∷_, _++_}
 use mathlib.Core.Bool.{true, false, cond}
 use native.Mathlib.Omega.{arith}
-use borrow.Author.Tests.{eq-eqb, ne-eqb, le-leb, lt-leb, lt-ltb, le-ltb}
+use borrow.Author.Tests.{eq-eqb, ne-eqb, le-leb, lt-leb, lt-ltb, le-ltb, leb-true, leb-false}
+use lib.Dec.{leb}
 use lib.ListN.{length, take, drop}
 use Rattle.octets.specs.Limits.{chunksMost, contentMost}
 use Rattle.octets.specs.Refusals.{cutOff, tooLarge}
@@ -30,20 +31,26 @@ module _ (s : List ℕ) (i count total : ℕ) where
     chunk-last z = record { says = λ f cs c. rw (integer-got s i cutOff i e, eq-eqb n 0 z); lies = int-within s i e .1 }
 
     module _ (z : n ≡ 0 → ⊥) where
-      pub chunk-many : chunksMost ≤ count → Chunked s i count total (chunk-is.Refused tooLarge i)
+      pub chunk-many : leb (count + 1) chunksMost ≡ false → Chunked s i count total (chunk-is.Refused tooLarge i)
       unfolding openChunks _>>=_
-      chunk-many m = record { says = λ f cs c. rw (integer-got s i cutOff i e, ne-eqb n 0 z, c, le-leb chunksMost count m); lies = tt }
+      chunk-many m = record { says = λ f cs c. rw (integer-got s i cutOff i e, ne-eqb n 0 z, c, le-leb chunksMost count (omega (arith, leb-false (count + 1) chunksMost m))); lies = tt }
 
-      module _ (m : count < chunksMost) where
-        pub chunk-large : contentMost < total + n → Chunked s i count total (chunk-is.Refused tooLarge i)
+      module _ (fits : leb (count + 1) chunksMost ≡ true) where
+        m : count < chunksMost
+        m = omega (arith, leb-true (count + 1) chunksMost fits)
+
+        pub chunk-large : leb (total + n) contentMost ≡ false → Chunked s i count total (chunk-is.Refused tooLarge i)
         unfolding openChunks _>>=_
         chunk-large g =
             record {
-              says = λ f cs c. rw (integer-got s i cutOff i e, ne-eqb n 0 z, c, lt-leb chunksMost count m, lt-ltb contentMost (total + n) g);
+              says = λ f cs c. rw (integer-got s i cutOff i e, ne-eqb n 0 z, c, lt-leb chunksMost count m, lt-ltb contentMost (total + n) (leb-false (total + n) contentMost g));
               lies = tt;
             }
 
-        module _ (g : total + n ≤ contentMost) where
+        module _ (all : leb (total + n) contentMost ≡ true) where
+          g : total + n ≤ contentMost
+          g = leb-true (total + n) contentMost all
+
           pub chunk-short : length s - next < n → Chunked s i count total (chunk-is.Refused cutOff i)
           unfolding openChunks _>>=_
           chunk-short h =

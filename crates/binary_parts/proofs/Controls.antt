@@ -8,8 +8,8 @@ use Rattle.octets.specs.Limits.{methodMost, authorityMost, pathMost}
 use Rattle.script.specs.Do.{Piece, piece}
 use Rattle.messages.specs.Control.{methodVerdict, authorityVerdict, pathVerdict}
 use Rattle.binary.specs.Reader.{Got, got, no, _>>=_}
-use Rattle.binary.specs.Read.{RequestControl, ruledPart, schemePart, requestControl}
-use Rattle.binary_parts.specs.Control.{StandsIn, Parted, Schemed, spanOf, pieceOf, ControlSays, Controlled, controlRest}
+use Rattle.binary.specs.Read.{RequestControl, ruledPart, schemePart, afterScheme, requestControl}
+use Rattle.binary_parts.specs.Control.{StandsIn, Parted, Schemed, spanOf, pieceOf, Inside, controlOf, ControlSays, Controlled}
 use Rattle.binary_parts.specs.declared.Span.{Span}
 use Rattle.binary_parts.specs.declared.PartRead.{PartRead}
 use Rattle.binary_parts.specs.declared.PartRead.the-variants.{Is, Refused}
@@ -20,18 +20,11 @@ use Rattle.binary_parts.specs.declared.ControlRead.the-variants as contr
 use Rattle.binary_parts.proofs.Places.{part-length, stands-in, part-no, part-got}
 use Rattle.binary_parts.proofs.Judged.{schemed-no, schemed-got}
 
--- a span within the input
-abbrev Inside : List ℕ → Span → Type 0
-Inside s a = a .start + a .len ≤ length s
-
 abbrev span : ℕ → ℕ → Span
 span a n = record { start = a; len = n }
 
 span-back : (s : List ℕ) (a : Span) → Inside s a → spanOf (pieceOf s a) ≡ a
 span-back s a h = ap (λ (n : ℕ). span (a .start) n) (part-length s (a .start) (a .len) h)
-
-abbrev controlOf : List ℕ → Span → ℕ → Span → Span → RequestControl
-controlOf s m v a p = record { method = pieceOf s m; scheme = v; authority = pieceOf s a; path = pieceOf s p }
 
 controlled-as : {s : List ℕ} {x y : Got RequestControl} {r : ControlRead} → x ≡ y → Controlled s y r → Controlled s x r
 controlled-as {s} {r = r} e h = subst (λ (z : Got RequestControl). Controlled s z r) (sym e) h
@@ -52,17 +45,17 @@ controlled-got s m a p f g h i j q =
 
 module _ (s : List ℕ) (from : ℕ) (m : Span) (v : ℕ) (f : Inside s m) (g : v < 2) {r : PartRead}
     (a : Parted s (ruledPart authorityMost authorityVerdict from (drop from s)) r) where
-  pub authority-no : {n p : ℕ} → r ≡ Refused n p → Controlled s (controlRest (pieceOf s m) v from (drop from s)) (control-is.Refused n p)
-  unfolding controlRest _>>=_
+  pub authority-no : {n p : ℕ} → r ≡ Refused n p → Controlled s (afterScheme (pieceOf s m) v from (drop from s)) (control-is.Refused n p)
+  unfolding afterScheme _>>=_
   authority-no e = controlled-no (rw (part-no a e))
 
   module _ {i k : ℕ} (e : r ≡ Is i k) {q : PartRead} (p : Parted s (ruledPart pathMost pathVerdict (i + k) (drop (i + k) s)) q) where
-    pub path-no : {n o : ℕ} → q ≡ Refused n o → Controlled s (controlRest (pieceOf s m) v from (drop from s)) (control-is.Refused n o)
-    unfolding controlRest _>>=_
+    pub path-no : {n o : ℕ} → q ≡ Refused n o → Controlled s (afterScheme (pieceOf s m) v from (drop from s)) (control-is.Refused n o)
+    unfolding afterScheme _>>=_
     path-no d = controlled-no (rw (part-got a e .0, part-no p d))
 
-    pub rest-got : {j n : ℕ} → q ≡ Is j n → Controlled s (controlRest (pieceOf s m) v from (drop from s)) (control-is.Done m v (span i k) (span j n) (j + n))
-    unfolding controlRest _>>=_
+    pub rest-got : {j n : ℕ} → q ≡ Is j n → Controlled s (afterScheme (pieceOf s m) v from (drop from s)) (control-is.Done m v (span i k) (span j n) (j + n))
+    unfolding afterScheme _>>=_
     rest-got {j} {n} d =
         controlled-got s m (span i k) (span j n) f g (part-got a e .1) (part-got p d .1) (part-got p d .1) (rw (part-got a e .0, part-got p d .0))
 
@@ -78,9 +71,9 @@ module _ (s : List ℕ) (from : ℕ) {r : PartRead} (m : Parted s (ruledPart met
     unfolding requestControl _>>=_
     scheme-bad d = controlled-no (rw (part-got m e .0, schemed-no c d))
 
-    pub behind-scheme : {v end : ℕ} {o : ControlRead} → q ≡ scheme-is.Is v end → Controlled s (controlRest (pieceOf s (span i k)) v end (drop end s)) o
+    pub behind-scheme : {v end : ℕ} {o : ControlRead} → q ≡ scheme-is.Is v end → Controlled s (afterScheme (pieceOf s (span i k)) v end (drop end s)) o
         → Controlled s (requestControl from (drop from s)) o
-    unfolding requestControl controlRest _>>=_
+    unfolding requestControl _>>=_
     behind-scheme d h = controlled-as (rw (part-got m e .0, schemed-got c d .0)) h
 
 -- ---- what the caller learns

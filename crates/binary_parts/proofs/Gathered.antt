@@ -1,9 +1,11 @@
 -- The lines that a section loop has read so far: how many, and what is noted and stored of them.
 use Prim.Native.Nat.{ℕ, _+_, _*_, _≤_, _<_}
 use mathlib.Core.Path.{_≡_, refl, sym, ap, _∙_}
-use mathlib.Core.Bool.{Bool, false}
+use mathlib.Core.Bool.{Bool, true, false}
 use mathlib.Core.List.{List, [], _∷_, _++_}
 use native.Mathlib.Omega.{arith}
+use borrow.Author.Tests.{leb-true, leb-false}
+use lib.Dec.{leb}
 use lib.ListN.{length, length-append}
 use Rattle.octets.specs.Limits.{linesMost}
 use Rattle.output.specs.Splice.{splice}
@@ -16,6 +18,7 @@ use Rattle.messages.specs.declared.Notes.{Notes}
 use Rattle.messages.proofs.Noting.{notes-none, notes-more, kept-few}
 use Rattle.ranges.proofs.Stored.{stored-next, count-next}
 use Rattle.binary.specs.Reader.{Got}
+use Rattle.binary_parts.specs.Room.{sectionRoom}
 use Rattle.binary_parts.proofs.Turns.{NextLine}
 
 -- behind the `base` entries of o
@@ -31,13 +34,23 @@ pub gathered-none : {host : Bool} {base : ℕ} {o : List ℕ} {n : Notes} → n 
 unfolding fieldsNumbers kept
 gathered-none e = record { lines = refl; most = omega arith; count = omega arith; notes = e ∙ notes-none false; stored = refl; same = refl }
 
-module _ {host : Bool} {base : ℕ} {o : List ℕ} {fs : List FieldRead} {l k : ℕ} {n : Notes} {o′ : List ℕ} (g : Gathered host base o fs l k n o′) (h : l < linesMost) where
-  -- there is room for one line more
-  pub gathered-room : base * 4 + 256 ≤ length o → k * 4 + 4 ≤ length o′
-  gathered-room r = omega (arith, g .lines, g .count, g .same, kept-few host fs)
+-- no line more fits
+pub gathered-full : {host : Bool} {base : ℕ} {o : List ℕ} {fs : List FieldRead} {l k : ℕ} {n : Notes} {o′ : List ℕ} → Gathered host base o fs l k n o′
+    → leb (l + 1) linesMost ≡ false → linesMost ≤ length fs
+gathered-full {l = l} g e = omega (arith, g .lines, leb-false (l + 1) linesMost e)
+
+-- one line more fits
+module _ {host : Bool} {base : ℕ} {o : List ℕ} {fs : List FieldRead} {l k : ℕ} {n : Notes} {o′ : List ℕ} (g : Gathered host base o fs l k n o′)
+    (fits : leb (l + 1) linesMost ≡ true) where
+  pub gathered-less : l < linesMost
+  gathered-less = omega (arith, leb-true (l + 1) linesMost fits)
+
+  -- there is room for it
+  pub gathered-room : base * 4 + sectionRoom ≤ length o → k * 4 + 4 ≤ length o′
+  gathered-room r = omega (arith, gathered-less, g .lines, g .count, g .same, kept-few host fs)
 
   pub gathered-few : length fs < linesMost
-  gathered-few = omega (arith, g .lines)
+  gathered-few = omega (arith, gathered-less, g .lines)
 
   -- with the next line, which leaves the notes m
   pub gathered-next : {s : List ℕ} {a : ℕ} {x : Got FieldRead} {o″ : List ℕ} {end c : ℕ} {kind : Kind} {name len : ℕ} {m : Notes}
@@ -45,7 +58,7 @@ module _ {host : Bool} {base : ℕ} {o : List ℕ} {fs : List FieldRead} {l k : 
   gathered-next f e =
       record {
         lines = length-append fs (f .line ∷ []) ∙ omega (arith, g .lines);
-        most = omega arith;
+        most = omega (arith, gathered-less);
         count = f .count ∙ count-next host base fs (f .line ∷ []) (g .count);
         notes = e ∙ ap (λ (n : Notes). noteLine false n (f .line)) (g .notes) ∙ sym (notes-more false fs (f .line));
         stored = stored-next host o base fs (f .line ∷ []) (g .stored) (g .count) (f .stored);

@@ -1,10 +1,10 @@
+pub mod Places
 pub mod Line
 pub mod Steps
 pub mod Rest
 pub mod Turns
 pub mod Sections
 pub mod Gathered
-pub mod Places
 pub mod Judged
 pub mod Controls
 pub mod PaddingLaws

@@ -4,7 +4,8 @@ use mathlib.Core.Path.{_≡_, refl, sym, ap, ap₂, _∙_, subst}
 use mathlib.Core.List.{List}
 use mathlib.Core.Bool.{true, false, cond}
 use native.Mathlib.Omega.{arith}
-use borrow.Author.Tests.{le-leb, lt-leb, lt-ltb, le-ltb}
+use borrow.Author.Tests.{lt-ltb, le-ltb}
+use lib.Dec.{leb}
 use lib.ListN.{length, take, drop, length-drop}
 use lib.Seq.{length-take-le, drop-drop}
 use Rattle.octets.specs.Refusals.{cutOff, tooLarge}
@@ -81,14 +82,14 @@ module _ (s : List ℕ) (from : ℕ) where
     unfolding part _>>=_
     part-octets h = parted-as (rw (integer-got s from cutOff from e)) h
 
-    pub within-octets : {most : ℕ} {r : PartRead} → v ≤ most → Parted s (string v cutOff from next (drop next s)) r
+    pub within-octets : (most : ℕ) {r : PartRead} → leb v most ≡ true → Parted s (string v cutOff from next (drop next s)) r
         → Parted s (partWithin most from (drop from s)) r
     unfolding partWithin _>>=_
-    within-octets {most} g h = parted-as (rw (integer-got s from cutOff from e, le-leb v most g)) h
+    within-octets most g h = parted-as (rw (integer-got s from cutOff from e, g)) h
 
-    pub within-large : {most : ℕ} → most < v → Parted s (partWithin most from (drop from s)) (Refused tooLarge from)
+    pub within-large : (most : ℕ) → leb v most ≡ false → Parted s (partWithin most from (drop from s)) (Refused tooLarge from)
     unfolding partWithin _>>=_
-    within-large {most} g = parted-no (rw (integer-got s from cutOff from e, lt-leb v most g))
+    within-large most g = parted-no (rw (integer-got s from cutOff from e, g))
 
 -- ---- what the caller learns
 

@@ -14,8 +14,8 @@ use Rattle.script.specs.Do.{Piece, piece, Judged, good, wrong}
 use Rattle.messages.specs.Message.{FieldRead}
 use Rattle.messages.specs.Control.{isLowerName, isTrimmedValue}
 use Rattle.binary.specs.Reader.{Got, no, _>>=_, tell}
-use Rattle.binary.specs.Read.{judgedLine}
-use Rattle.binary_parts.specs.Section.{cutNumber, cutPlace, restLine, JudgedSays, JudgedLine, EndsAt, LineSays, Lined}
+use Rattle.binary.specs.Read.{judgedLine, cutNumber, cutPlace, afterNameLength}
+use Rattle.binary_parts.specs.Section.{JudgedSays, JudgedLine, EndsAt, LineSays, Lined}
 use Rattle.binary_parts.specs.declared.LineRead.{LineRead}
 use Rattle.binary_parts.specs.declared.LineRead.the-variants as read
 use Rattle.binary_parts.proofs.Steps.{integer-cut, integer-in, octets-cut, octets-in}
@@ -67,29 +67,29 @@ pub part-short : (s : List ℕ) (i e : ℕ) → length (take (e - i) (drop i s))
 part-short s i e = simp (length-take) (omega arith)
 
 module _ (known : Bool) (p a : ℕ) (s : List ℕ) (at n : ℕ) where
-  pub rest-name-cut : length s - at < n → restLine known p n (a + at) (drop at s) ≡ no (cutNumber known) p
-  unfolding restLine _>>=_
+  pub rest-name-cut : length s - at < n → afterNameLength known p n (a + at) (drop at s) ≡ no (cutNumber known) p
+  unfolding afterNameLength _>>=_
   rest-name-cut h = rw (octets-cut a s at (cutNumber known) p n h)
 
   module _ (h : n ≤ length s - at) where
     pub rest-length-cut : readInt (at + n) (drop (at + n) s) ≡ Cut
-        → restLine known p n (a + at) (drop at s) ≡ no (cutNumber known) (cutPlace known p (a + (at + n)))
-    unfolding restLine _>>=_
+        → afterNameLength known p n (a + at) (drop at s) ≡ no (cutNumber known) (cutPlace known p (a + (at + n)))
+    unfolding afterNameLength _>>=_
     rest-length-cut e =
         rw (octets-in a s at (cutNumber known) p n h, integer-cut a s (at + n) (cutNumber known) (cutPlace known p (a + (at + n))) e)
 
     module _ {len next : ℕ} (e : readInt (at + n) (drop (at + n) s) ≡ Value len next) where
-      pub rest-value-cut : length s - next < len → restLine known p n (a + at) (drop at s) ≡ no (cutNumber known) (cutPlace known p (a + (at + n)))
-      unfolding restLine _>>=_
+      pub rest-value-cut : length s - next < len → afterNameLength known p n (a + at) (drop at s) ≡ no (cutNumber known) (cutPlace known p (a + (at + n)))
+      unfolding afterNameLength _>>=_
       rest-value-cut g =
           let k = cutNumber known in
           let q = cutPlace known p (a + (at + n)) in
           rw (octets-in a s at k p n h, integer-in a s (at + n) k q e, octets-cut a s next k q len g)
 
       pub rest-in : len ≤ length s - next
-          → restLine known p n (a + at) (drop at s)
+          → afterNameLength known p n (a + at) (drop at s)
           ≡ tell (judgedLine p (piece (a + at) (take n (drop at s))) (piece (a + next) (take len (drop next s)))) (a + (next + len)) (drop (next + len) s)
-      unfolding restLine _>>=_
+      unfolding afterNameLength _>>=_
       rest-in g =
           let k = cutNumber known in
           let q = cutPlace known p (a + (at + n)) in
@@ -98,7 +98,7 @@ module _ (known : Bool) (p a : ℕ) (s : List ℕ) (at n : ℕ) where
       -- both halves are in
       pub rest-judged : {host : Bool} {k : ℕ} {o o′ : List ℕ} {r : LineRead} → len ≤ length s - next
           → JudgedLine (judgedLine p (piece (a + at) (take (at + n - at) (drop at s))) (piece (a + next) (take (next + len - next) (drop next s)))) (next + len) host k o o′ r
-          → Lined s a (restLine known p n (a + at) (drop at s)) host k o o′ r
+          → Lined s a (afterNameLength known p n (a + at) (drop at s)) host k o o′ r
       rest-judged {host} {k} {o} {o′} {r} g j =
           let x : at + n - at ≡ n = omega arith in
           let y : next + len - next ≡ len = omega arith in

@@ -16,7 +16,7 @@ use Rattle.binary.specs.Reader.{Got, got, no, onGot, _>>=_}
 use Rattle.binary.specs.Read.{part, knownLines, onBody, bodyLines, knownSection, openLines, section}
 use Rattle.binary_parts.specs.Section.{BodySays, Bodied, SectionSays, Sectioned}
 use Rattle.binary_parts.specs.declared.Section as answer
-use Rattle.binary_parts.proofs.Steps.{integer-cut-here, integer-here, octets-cut-here, octets-here}
+use Rattle.binary_parts.proofs.Places.{integer-cut, integer-got, octets-cut, octets-got}
 
 -- an answer that equals another promises the same
 pub bodied-as : {x y : Got (List FieldRead)} {end : ℕ} {host : Bool} {k : ℕ} {o o′ : List ℕ} {r : answer.Section} → x ≡ y
@@ -72,17 +72,17 @@ module _ {s : List ℕ} {host : Bool} {k : ℕ} {o o′ : List ℕ} {r : answer.
 module _ (s : List ℕ) (from : ℕ) where
   pub section-cut : readInt from (drop from s) ≡ Cut → section true from (drop from s) ≡ no cutOff from
   unfolding knownSection part _>>=_
-  section-cut e = rw (known-closed from (drop from s), integer-cut-here s from cutOff from e)
+  section-cut e = rw (known-closed from (drop from s), integer-cut s from cutOff from e)
 
   module _ {n next : ℕ} (e : readInt from (drop from s) ≡ Value n next) where
     pub section-short : length s - next < n → section true from (drop from s) ≡ no cutOff from
     unfolding knownSection part _>>=_
-    section-short h = rw (known-closed from (drop from s), integer-here s from cutOff from e, octets-cut-here s next cutOff from n h)
+    section-short h = rw (known-closed from (drop from s), integer-got s from cutOff from e, octets-cut s next n cutOff from h)
 
     section-in : n ≤ length s - next
         → section true from (drop from s) ≡ closed (onBody (knownLines (suc linesMost) [] next (take n (drop next s))) (next + n) (drop (next + n) s))
     unfolding knownSection part bodyLines _>>=_
-    section-in h = rw (known-closed from (drop from s), integer-here s from cutOff from e, octets-here s next cutOff from n h)
+    section-in h = rw (known-closed from (drop from s), integer-got s from cutOff from e, octets-got s next n cutOff from h)
 
     -- the body was read by itself
     pub section-body : {host : Bool} {k : ℕ} {o o′ : List ℕ} {r : answer.Section} → n ≤ length s - next

@@ -59,24 +59,3 @@ module _ (a : ℕ) (s : List ℕ) (i k p : ℕ) where
   octets-in n h =
       let z : a + i + n ≡ a + (i + n) = omega arith in
       rw (le-ltb (length (drop i s)) n (omega (arith, length-drop i s)), z, drop-drop n i s)
-
--- the same in the whole input
-module _ (s : List ℕ) (i k p : ℕ) where
-  pub integer-cut-here : readInt i (drop i s) ≡ Cut → integer k p i (drop i s) ≡ no k p
-  unfolding integer
-  integer-cut-here e = rw e
-
-  pub integer-here : {v next : ℕ} → readInt i (drop i s) ≡ Value v next → integer k p i (drop i s) ≡ got v next (drop next s)
-  integer-here {v} {next} e =
-      let y : 0 + i ≡ i = omega arith in
-      let z : 0 + next ≡ next = omega arith in
-      rw (y, z) at (integer-in 0 s i k p e)
-
-  pub octets-cut-here : (n : ℕ) → length s - i < n → string n k p i (drop i s) ≡ no k p
-  octets-cut-here n h = let z : 0 + i ≡ i = omega arith in rw z at (octets-cut 0 s i k p n h)
-
-  pub octets-here : (n : ℕ) → n ≤ length s - i → string n k p i (drop i s) ≡ got (piece i (take n (drop i s))) (i + n) (drop (i + n) s)
-  octets-here n h =
-      let y : 0 + i ≡ i = omega arith in
-      let z : 0 + (i + n) ≡ i + n = omega arith in
-      rw (y, z) at (octets-in 0 s i k p n h)

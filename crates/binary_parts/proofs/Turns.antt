@@ -13,7 +13,6 @@ use Rattle.numbers.specs.Integer.{readInt}
 use Rattle.numbers.specs.declared.Integer.the-variants.{Value, Cut}
 use Rattle.output.specs.Splice.{splice}
 use Rattle.output.proofs.Laws.{splice-length}
-use Rattle.script.specs.Do.{Piece}
 use Rattle.messages.specs.Message.{FieldRead}
 use Rattle.messages.specs.Names.{lineKind, kept}
 use Rattle.messages.specs.Notes.{isNoted, noteOf, noteLine}
@@ -21,12 +20,13 @@ use Rattle.messages.specs.Answers.{fieldsNumbers}
 use Rattle.messages.specs.declared.Kind.{Kind}
 use Rattle.messages.specs.declared.Notes.{Notes}
 use Rattle.messages.proofs.Noting.{noted-nothing}
-use Rattle.binary.specs.Reader.{Got, got, no, onGot, _>>=_, tell, integer, string}
-use Rattle.binary.specs.Read.{part, judgedLine, knownLine, knownLines, openLine, openLines}
-use Rattle.binary_parts.specs.Section.{restLine, LineSays, Lined}
+use Rattle.binary.specs.Reader.{Got, got, no, _>>=_}
+use Rattle.binary.specs.Read.{afterNameLength, knownLine, knownLines, openLines}
+use Rattle.binary_parts.specs.Section.{LineSays, Lined}
 use Rattle.binary_parts.specs.declared.LineRead.{LineRead}
 use Rattle.binary_parts.specs.declared.LineRead.the-variants as read
-use Rattle.binary_parts.proofs.Steps.{integer-cut, integer-in, integer-cut-here, integer-here}
+use Rattle.binary_parts.proofs.Steps.{integer-cut, integer-in}
+use Rattle.binary_parts.proofs.Places.{integer-cut as integer-cut-here, integer-got}
 
 -- ---- a line by its name length
 
@@ -40,25 +40,9 @@ module _ (a : ℕ) (s : List ℕ) (at : ℕ) where
     unfolding knownLine _>>=_
     known-none h = rw (integer-in a s at badSection (a + at) e, eq-eqb n 0 h)
 
-    pub known-rest : (n ≡ 0 → ⊥) → knownLine (a + at) (drop at s) ≡ restLine true (a + at) n (a + next) (drop next s)
-    unfolding knownLine restLine _>>=_
+    pub known-rest : (n ≡ 0 → ⊥) → knownLine (a + at) (drop at s) ≡ afterNameLength true (a + at) n (a + next) (drop next s)
+    unfolding knownLine _>>=_
     known-rest h = rw (integer-in a s at badSection (a + at) e, ne-eqb n 0 h)
-
--- a line of an indeterminate section: its value is a part of its own
-open-rest : (p n at : ℕ) (s : List ℕ) → openLine p n at s ≡ restLine false p n at s
-unfolding openLine restLine part _>>=_
-open-rest p n at s = go (string n cutOff p at s)
-  where
-    within : (w : Piece) (q : ℕ) (x : Got ℕ)
-        → onGot (onGot x (λ b. string b cutOff q)) (λ v. tell (judgedLine p w v)) ≡ onGot x (λ b i l. onGot (string b cutOff q i l) (λ v. tell (judgedLine p w v)))
-    within w q (got b i l) = refl
-    within w q (no k m) = refl
-
-    go : (x : Got Piece)
-        → onGot x (λ w i l. onGot (onGot (integer cutOff i i l) (λ b. string b cutOff i)) (λ v. tell (judgedLine p w v)))
-        ≡ onGot x (λ w i l. onGot (integer cutOff i i l) (λ b j m. onGot (string b cutOff i j m) (λ v. tell (judgedLine p w v))))
-    go (got w i l) = within w i (integer cutOff i i l)
-    go (no k m) = refl
 
 -- ---- what the caller learns of a line
 
@@ -158,25 +142,25 @@ module _ (s : List ℕ) (i f : ℕ) (fs : List FieldRead) where
   module _ {n next : ℕ} (e : readInt i (drop i s) ≡ Value n next) where
     pub open-done : n ≡ 0 → openLines (suc f) fs i (drop i s) ≡ got fs next (drop next s)
     unfolding openLines _>>=_
-    open-done h = rw (integer-here s i cutOff i e, eq-eqb n 0 h)
+    open-done h = rw (integer-got s i cutOff i e, eq-eqb n 0 h)
 
     module _ (h : n ≡ 0 → ⊥) where
       pub open-full : linesMost ≤ length fs → openLines (suc f) fs i (drop i s) ≡ no tooLarge i
       unfolding openLines _>>=_
-      open-full g = rw (integer-here s i cutOff i e, ne-eqb n 0 h, le-leb _ _ g)
+      open-full g = rw (integer-got s i cutOff i e, ne-eqb n 0 h, le-leb _ _ g)
 
       module _ (g : length fs < linesMost) where
         -- the rest of a line counts its places from 0 on
-        as-rest : openLine i n next (drop next s) ≡ restLine false i n (0 + next) (drop next s)
-        as-rest = let z : 0 + next ≡ next = omega arith in rw z (open-rest i n next (drop next s))
+        as-rest : afterNameLength false i n next (drop next s) ≡ afterNameLength false i n (0 + next) (drop next s)
+        as-rest = let z : 0 + next ≡ next = omega arith in rw z
 
-        pub open-wrong : {k p : ℕ} → restLine false i n (0 + next) (drop next s) ≡ no k p → openLines (suc f) fs i (drop i s) ≡ no k p
+        pub open-wrong : {k p : ℕ} → afterNameLength false i n (0 + next) (drop next s) ≡ no k p → openLines (suc f) fs i (drop i s) ≡ no k p
         unfolding openLines _>>=_
-        open-wrong q = rw (integer-here s i cutOff i e, ne-eqb n 0 h, lt-leb _ _ g, as-rest, q)
+        open-wrong q = rw (integer-got s i cutOff i e, ne-eqb n 0 h, lt-leb _ _ g, as-rest, q)
 
-        pub open-next : {x : FieldRead} (end g′ : ℕ) → f ≡ suc g′ → restLine false i n (0 + next) (drop next s) ≡ got x (0 + end) (drop end s)
+        pub open-next : {x : FieldRead} (end g′ : ℕ) → f ≡ suc g′ → afterNameLength false i n (0 + next) (drop next s) ≡ got x (0 + end) (drop end s)
             → openLines (suc f) fs i (drop i s) ≡ openLines (suc g′) (fs ++ x ∷ []) end (drop end s)
         unfolding openLines _>>=_
         open-next end g′ z q =
             let y : 0 + end ≡ end = omega arith in
-            rw (integer-here s i cutOff i e, ne-eqb n 0 h, lt-leb _ _ g, as-rest, q, z, y)
+            rw (integer-got s i cutOff i e, ne-eqb n 0 h, lt-leb _ _ g, as-rest, q, z, y)

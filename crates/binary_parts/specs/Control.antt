@@ -7,8 +7,8 @@ use lib.ListN.{length, take, drop}
 use Rattle.octets.specs.Limits.{methodMost, authorityMost, pathMost}
 use Rattle.script.specs.Do.{Piece, piece}
 use Rattle.messages.specs.Control.{methodVerdict, authorityVerdict, pathVerdict}
-use Rattle.binary.specs.Reader.{Got, got, no, Reader, _>>=_, give}
-use Rattle.binary.specs.Read.{RequestControl, ruledPart}
+use Rattle.binary.specs.Reader.{Got, got, no}
+use Rattle.binary.specs.Read.{RequestControl}
 use Rattle.binary_parts.specs.declared.Span.{Span}
 use Rattle.binary_parts.specs.declared.Ruled.{Ruled}
 use Rattle.binary_parts.specs.declared.Ruled.the-variants.{Method, Authority, Path}
@@ -66,6 +66,15 @@ spanOf w = record { start = w .place; len = length (w .text) }
 abbrev pub pieceOf : List ℕ → Span → Piece
 pieceOf s a = piece (a .start) (take (a .len) (drop (a .start) s))
 
+-- a span within s
+abbrev pub Inside : List ℕ → Span → Type 0
+Inside s a = a .start + a .len ≤ length s
+
+-- the control data of s that spans name
+abbrev pub controlOf : List ℕ → Span → ℕ → Span → Span → RequestControl
+controlOf s method scheme authority path =
+    record { method = pieceOf s method; scheme = scheme; authority = pieceOf s authority; path = pieceOf s path }
+
 -- control data that were read from s: place and length of each part and the scheme's number, behind which the reading goes on
 abbrev pub ControlSays : List ℕ → Got RequestControl → ControlRead → Type 0
 ControlSays s (got q e l) r =
@@ -76,10 +85,3 @@ ControlSays s (no n p) r = r ≡ control-is.Refused n p
 -- the promise of control data that are read
 pub record Controlled (s : List ℕ) (x : Got RequestControl) (r : ControlRead) : Type 0 where
   pub says : ControlSays s x r
-
--- authority and path, behind a method and a scheme
-unfoldable pub controlRest : Piece → ℕ → Reader RequestControl
-controlRest m v = do
-  a ← ruledPart authorityMost authorityVerdict
-  p ← ruledPart pathMost pathVerdict
-  give (record { method = m; scheme = v; authority = a; path = p })

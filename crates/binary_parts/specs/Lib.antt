@@ -1,3 +1,4 @@
+pub mod Room
 pub mod Section
 pub mod Control
 pub mod Content

@@ -1,41 +1,22 @@
 -- What the code that reads field sections promises, in terms of `section`, `knownLines` and `openLines` (binary/specs/Read; 01, "Binary HTTP as we take it").
 use Prim.Native.Nat.{ℕ, _+_, _-_, _*_, _≤_}
 use mathlib.Core.Path.{_≡_}
-use mathlib.Core.Bool.{Bool, false, cond}
+use mathlib.Core.Bool.{Bool, false}
 use mathlib.Core.List.{List, [], _∷_}
 use lib.ListN.{length, take, drop}
-use Rattle.octets.specs.Refusals.{cutOff, badSection}
 use Rattle.script.specs.Do.{Piece, Judged, good, wrong}
 use Rattle.output.specs.Splice.{splice}
 use Rattle.messages.specs.Message.{FieldRead, Section}
 use Rattle.messages.specs.Names.{lineKind, kept}
 use Rattle.messages.specs.Notes.{notesOf}
 use Rattle.messages.specs.Answers.{fieldsNumbers}
-use Rattle.binary.specs.Reader.{Got, got, no, Reader, _>>=_, here, tell, integer, string}
-use Rattle.binary.specs.Read.{judgedLine}
+use Rattle.binary.specs.Reader.{Got, got, no}
 use Rattle.binary_parts.specs.declared.LineRead.{LineRead}
 use Rattle.binary_parts.specs.declared.LineRead.the-variants as line
 use Rattle.binary_parts.specs.declared.Section as answer
 use Rattle.binary_parts.specs.declared.Section.the-variants as section
 
 -- ---- one line
-
--- the number of a cut off line: in a known-length section it crosses the section
-abbrev pub cutNumber : Bool → ℕ
-cutNumber known = cond known badSection cutOff
-
--- the place of a cut off value, which is q: in a known-length section it is the line's place p
-abbrev pub cutPlace : Bool → ℕ → ℕ → ℕ
-cutPlace known p q = cond known p q
-
--- what both kinds of section share: the rest of a line that starts at the place p and whose name has n octets
-unfoldable pub restLine : Bool → ℕ → ℕ → Reader FieldRead
-restLine known p n = do
-  w ← string n (cutNumber known) p
-  q ← here
-  b ← integer (cutNumber known) (cutPlace known p q)
-  v ← string b (cutNumber known) (cutPlace known p q)
-  tell (judgedLine p w v)
 
 -- a good line f as the code answers it, where k fields are kept before it and the reading goes on at `end`
 abbrev pub nextLine : FieldRead → ℕ → Bool → ℕ → LineRead

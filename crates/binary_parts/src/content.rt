@@ -3,7 +3,7 @@ use crate::ChunkRead;
 use crate::ContentRead;
 use crate::Padding;
 use crate::PartRead;
-use crate::control::part_within;
+use crate::parts::part_within;
 use messages::Framing;
 use messages::sections::does_agree;
 use numbers::Integer;
@@ -14,9 +14,10 @@ use ranges::store;
 ghost use mathlib.Core.Path.{_≡_};
 ghost use Prim.Native.Nat.{_≤_, _<_};
 ghost use lib.ListN.{length, drop};
-ghost use Rattle.octets.specs.Limits.{contentMost};
+ghost use Rattle.octets.specs.Limits.{chunksMost, contentMost};
 ghost use Rattle.ranges.specs.Ranges.{placesEnd};
 ghost use Rattle.binary.specs.Read.{knownContent, content, padding};
+ghost use Rattle.binary_parts.specs.Room.{chunksRoom};
 ghost use Rattle.binary_parts.specs.Content.{Chunked, openContent, Contented, contentAgrees, Padded};
 
 // The zero octets from `from` on, to the end of the input.
@@ -37,7 +38,7 @@ pub fn check_padding(s: &[u8], from: usize) -> Padding
 
 // The chunk whose length stands at i, behind `count` chunks of `total` octets.
 fn open_chunk(s: &[u8], i: usize, count: usize, total: usize) -> ChunkRead
-    requires { ⌜ total ≤ contentMost ⌝ }
+    requires { ⌜ (total ≤ contentMost) × (count ≤ chunksMost) ⌝ }
     ensures { λ r. ⌜ Chunked (now (s .entry)) i count total r ⌝ }
 {
     let v = read_int(s, i);
@@ -50,33 +51,33 @@ fn open_chunk(s: &[u8], i: usize, count: usize, total: usize) -> ChunkRead
     if value == 0 {
         return ChunkRead::Last { end: next };
     }
-    if Limits::CHUNKS <= count {
+    if Limits::fits(count + 1, Limits::CHUNKS) {
+        if Limits::fits(total + value, Limits::CONTENT) {
+            if s.len() - next < value {
+                return ChunkRead::Refused {
+                    number: Refusals::CUT_OFF,
+                    place: i,
+                };
+            }
+            return ChunkRead::Next {
+                start: next,
+                len: value,
+            };
+        }
         return ChunkRead::Refused {
             number: Refusals::TOO_LARGE,
             place: i,
         };
     }
-    if Limits::CONTENT < total + value {
-        return ChunkRead::Refused {
-            number: Refusals::TOO_LARGE,
-            place: i,
-        };
-    }
-    if s.len() - next < value {
-        return ChunkRead::Refused {
-            number: Refusals::CUT_OFF,
-            place: i,
-        };
-    }
-    ChunkRead::Next {
-        start: next,
-        len: value,
+    ChunkRead::Refused {
+        number: Refusals::TOO_LARGE,
+        place: i,
     }
 }
 
 // Chunks from `from` on, up to a length of zero.
 fn open_content(s: &[u8], from: usize, out: &mut [u32]) -> ContentRead
-    requires { ⌜ (from ≤ length (now s)) × (length (now s) < placesEnd) × (512 ≤ length (now out)) ⌝ }
+    requires { ⌜ (from ≤ length (now s)) × (length (now s) < placesEnd) × (chunksRoom ≤ length (now out)) ⌝ }
     ensures { λ r. ⌜ Contented (now (s .entry)) (openContent from (drop from (now (s .entry)))) (now (out .entry)) (now (out .exit)) r ⌝ }
 {
     let mut i = from;
@@ -103,7 +104,7 @@ fn open_content(s: &[u8], from: usize, out: &mut [u32]) -> ContentRead
 
 // Content of known length at `from`: one chunk, or none.
 fn known_content(s: &[u8], from: usize, out: &mut [u32]) -> ContentRead
-    requires { ⌜ (length (now s) < placesEnd) × (512 ≤ length (now out)) ⌝ }
+    requires { ⌜ (length (now s) < placesEnd) × (chunksRoom ≤ length (now out)) ⌝ }
     ensures { λ r. ⌜ Contented (now (s .entry)) (knownContent from (drop from (now (s .entry)))) (now (out .entry)) (now (out .exit)) r ⌝ }
 {
     let w = part_within(s, from, Limits::CONTENT);
@@ -130,7 +131,7 @@ fn known_content(s: &[u8], from: usize, out: &mut [u32]) -> ContentRead
 
 // The content from `from` on, of known length or in chunks; where the message ends before it there is none.
 pub fn read_content(s: &[u8], from: usize, known: bool, out: &mut [u32]) -> ContentRead
-    requires { ⌜ (from ≤ length (now s)) × (length (now s) < placesEnd) × (512 ≤ length (now out)) ⌝ }
+    requires { ⌜ (from ≤ length (now s)) × (length (now s) < placesEnd) × (chunksRoom ≤ length (now out)) ⌝ }
     ensures { λ r. ⌜ Contented (now (s .entry)) (content known from (drop from (now (s .entry)))) (now (out .entry)) (now (out .exit)) r ⌝ }
 {
     if s.len() <= from {

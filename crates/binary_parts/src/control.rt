@@ -1,72 +1,22 @@
-// The control data of a request: parts, each a length and what it counts.
+// The control data of a request.
 use crate::ControlRead;
 use crate::PartRead;
 use crate::Ruled;
 use crate::SchemeRead;
 use crate::Span;
+use crate::parts::part_at;
+use crate::parts::part_within;
 use messages::parts::authority_verdict;
 use messages::parts::method_verdict;
 use messages::parts::path_verdict;
-use numbers::Integer;
-use numbers::read_int;
 use octets::Limits;
 use octets::Refusals;
 ghost use mathlib.Core.Path.{_≡_};
-ghost use Prim.Native.Nat.{_+_, _≤_, _<_};
-ghost use lib.ListN.{length, drop};
-ghost use Rattle.octets.specs.Refusals.{cutOff};
+ghost use Prim.Native.Nat.{_<_};
+ghost use lib.ListN.{drop};
 ghost use Rattle.octets.specs.Table.{classes};
-ghost use Rattle.binary.specs.Reader.{string};
-ghost use Rattle.binary.specs.Read.{part, partWithin, ruledPart, schemePart, requestControl};
-ghost use Rattle.binary_parts.specs.Control.{Parted, mostOf, verdictOf, Schemed, pieceOf, controlRest, Controlled};
-
-// The n octets from `at` on of a part that starts at `place`.
-pub fn part_octets(s: &[u8], place: usize, at: usize, n: usize) -> PartRead
-    requires { ⌜ at ≤ length (now s) ⌝ }
-    ensures { λ r. ⌜ Parted (now (s .entry)) (string n cutOff place at (drop at (now (s .entry)))) r ⌝ }
-{
-    if s.len() - at < n {
-        return PartRead::Refused {
-            number: Refusals::CUT_OFF,
-            place,
-        };
-    }
-    PartRead::Is { start: at, len: n }
-}
-
-// The part at `from`, of any size.
-pub fn part_at(s: &[u8], from: usize) -> PartRead
-    ensures { λ r. ⌜ Parted (now (s .entry)) (part from (drop from (now (s .entry)))) r ⌝ }
-{
-    let v = read_int(s, from);
-    let Integer::Value { value, next } = v else {
-        return PartRead::Refused {
-            number: Refusals::CUT_OFF,
-            place: from,
-        };
-    };
-    part_octets(s, from, next, value)
-}
-
-// The part at `from`, of at most so many octets.
-pub fn part_within(s: &[u8], from: usize, most: usize) -> PartRead
-    ensures { λ r. ⌜ Parted (now (s .entry)) (partWithin most from (drop from (now (s .entry)))) r ⌝ }
-{
-    let v = read_int(s, from);
-    let Integer::Value { value, next } = v else {
-        return PartRead::Refused {
-            number: Refusals::CUT_OFF,
-            place: from,
-        };
-    };
-    if value <= most {
-        return part_octets(s, from, next, value);
-    }
-    PartRead::Refused {
-        number: Refusals::TOO_LARGE,
-        place: from,
-    }
-}
+ghost use Rattle.binary.specs.Read.{ruledPart, schemePart, afterScheme, requestControl};
+ghost use Rattle.binary_parts.specs.Control.{Parted, mostOf, verdictOf, Schemed, pieceOf, Inside, Controlled};
 
 // The most octets of a part that has a rule.
 fn most_of(what: Ruled) -> usize
@@ -136,9 +86,9 @@ fn scheme_part(s: &[u8], from: usize) -> SchemeRead
 }
 
 // Authority and path from `from` on, behind a method and a scheme.
-fn control_rest(t: &[u8; 256], s: &[u8], from: usize, method: Span, scheme: u32) -> ControlRead
-    requires { ⌜ (now t ≡ classes) × (method .start + method .len ≤ length (now s)) × (scheme < 2) ⌝ }
-    ensures { λ r. ⌜ Controlled (now (s .entry)) (controlRest (pieceOf (now (s .entry)) method) scheme from (drop from (now (s .entry)))) r ⌝ }
+fn after_scheme(t: &[u8; 256], s: &[u8], from: usize, method: Span, scheme: u32) -> ControlRead
+    requires { ⌜ (now t ≡ classes) × Inside (now s) method × (scheme < 2) ⌝ }
+    ensures { λ r. ⌜ Controlled (now (s .entry)) (afterScheme (pieceOf (now (s .entry)) method) scheme from (drop from (now (s .entry)))) r ⌝ }
 {
     let a = ruled_part(t, s, from, Ruled::Authority);
     match a {
@@ -177,7 +127,7 @@ pub fn request_control(t: &[u8; 256], s: &[u8], from: usize) -> ControlRead
                     number,
                     place,
                 },
-                SchemeRead::Is { scheme, end } => return control_rest(
+                SchemeRead::Is { scheme, end } => return after_scheme(
                     t,
                     s,
                     end,

@@ -2,6 +2,7 @@
 pub mod content;
 pub mod control;
 pub mod lines;
+mod parts;
 
 use messages::Kind;
 use messages::Notes;
@@ -13,20 +14,20 @@ pub struct Span {
 }
 
 // A part that was read: where the octets behind its length start and how many they are.
-pub enum PartRead {
+enum PartRead {
     Is { start: usize, len: usize },
     Refused { number: u32, place: usize },
 }
 
 // The parts of control data that have a size and a rule of their octets.
-pub enum Ruled {
+enum Ruled {
     Method,
     Authority,
     Path,
 }
 
 // A scheme that was read, by its number, and the place behind it.
-pub enum SchemeRead {
+enum SchemeRead {
     Is { scheme: u32, end: usize },
     Refused { number: u32, place: usize },
 }
@@ -47,7 +48,7 @@ pub enum ControlRead {
 }
 
 // A chunk that was read: where its octets start and how many they are; or the place behind the length zero that ends the content.
-pub enum ChunkRead {
+enum ChunkRead {
     Next { start: usize, len: usize },
     Last { end: usize },
     Refused { number: u32, place: usize },
@@ -87,7 +88,7 @@ pub enum Section {
 
 // A field line that was read: the index behind it in the part that was lent, the count of kept fields with it, its kind, the place of its name, and the
 // size of its value, which ends where the line ends.
-pub enum LineRead {
+enum LineRead {
     Next {
         end: usize,
         kept: usize,

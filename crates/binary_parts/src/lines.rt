@@ -23,8 +23,9 @@ ghost use Rattle.octets.specs.Limits.{linesMost};
 ghost use Rattle.script.specs.Do.{piece};
 ghost use Rattle.messages.specs.Control.{isLowerName, isTrimmedValue};
 ghost use Rattle.ranges.specs.Ranges.{placesEnd};
-ghost use Rattle.binary.specs.Read.{judgedLine, knownLine, knownLines, section};
-ghost use Rattle.binary_parts.specs.Section.{cutNumber, cutPlace, restLine, JudgedLine, Lined, Bodied, Sectioned};
+ghost use Rattle.binary.specs.Read.{judgedLine, cutNumber, cutPlace, afterNameLength, knownLine, knownLines, section};
+ghost use Rattle.binary_parts.specs.Room.{sectionRoom};
+ghost use Rattle.binary_parts.specs.Section.{JudgedLine, Lined, Bodied, Sectioned};
 
 // The number of a line that is cut off.
 fn cut_number(known: bool) -> u32
@@ -70,7 +71,8 @@ fn store_line(
     out: &mut [u32],
 ) -> LineRead
     requires { ⌜ (now t ≡ classes) × (n + length (now name) < placesEnd) × (v + length (now value) < placesEnd) × (kept * 4 + 4 ≤ length (now out)) ⌝ }
-    ensures { λ r. ⌜ JudgedLine (judgedLine p (piece n (now (name .entry))) (piece v (now (value .entry)))) end host kept (now (out .entry)) (now (out .exit)) r ⌝ }
+    ensures { λ r. ⌜ JudgedLine (judgedLine p (piece n (now (name .entry))) (piece v (now (value .entry)))) end host kept
+        (now (out .entry)) (now (out .exit)) r ⌝ }
 {
     if is_line(t, name, value) {
         let kind = kind_of(name);
@@ -98,8 +100,8 @@ fn store_line(
     }
 }
 
-// The rest of the line at the place p, from its name of n octets on: `at` is counted in the part s, whose first octet is at the place a.
-fn rest_line(
+// What stands behind the name length n of the line at the place p: `at` is counted in the part s, whose first octet is at the place a.
+fn after_name_length(
     t: &[u8; 256],
     s: &[u8],
     a: usize,
@@ -112,7 +114,8 @@ fn rest_line(
     out: &mut [u32],
 ) -> LineRead
     requires { ⌜ (now t ≡ classes) × (at ≤ length (now s)) × (a + length (now s) < placesEnd) × (kept * 4 + 4 ≤ length (now out)) ⌝ }
-    ensures { λ r. ⌜ Lined (now (s .entry)) a (restLine known p n (a + at) (drop at (now (s .entry)))) host kept (now (out .entry)) (now (out .exit)) r ⌝ }
+    ensures { λ r. ⌜ Lined (now (s .entry)) a (afterNameLength known p n (a + at) (drop at (now (s .entry)))) host kept
+        (now (out .entry)) (now (out .exit)) r ⌝ }
 {
     let number = cut_number(known);
     if s.len() - at < n {
@@ -167,7 +170,7 @@ fn known_line(
             place: p,
         };
     }
-    rest_line(t, s, a, p, next, n, true, host, kept, out)
+    after_name_length(t, s, a, p, next, n, true, host, kept, out)
 }
 
 // The lines that fill the body s of a known-length section, whose first octet is at the place a: at most 64 of them. Kept fields are stored behind
@@ -180,8 +183,9 @@ fn known_lines(
     base: usize,
     out: &mut [u32],
 ) -> Section
-    requires { ⌜ (now t ≡ classes) × (a + length (now s) < placesEnd) × (base * 4 + 256 ≤ length (now out)) ⌝ }
-    ensures { λ r. ⌜ Bodied (knownLines (suc linesMost) [] a (now (s .entry))) (a + length (now (s .entry))) host base (now (out .entry)) (now (out .exit)) r ⌝ }
+    requires { ⌜ (now t ≡ classes) × (a + length (now s) < placesEnd) × (base * 4 + sectionRoom ≤ length (now out)) ⌝ }
+    ensures { λ r. ⌜ Bodied (knownLines (suc linesMost) [] a (now (s .entry))) (a + length (now (s .entry))) host base
+        (now (out .entry)) (now (out .exit)) r ⌝ }
 {
     let mut i: usize = 0;
     let mut lines: usize = 0;
@@ -195,30 +199,31 @@ fn known_lines(
                 notes,
             };
         }
-        if Limits::LINES <= lines {
+        if Limits::fits(lines + 1, Limits::LINES) {
+            let line = known_line(t, s, a, i, host, count, out);
+            match line {
+                LineRead::Refused { number, place } => return Section::Refused { number, place },
+                LineRead::Next {
+                    end,
+                    kept,
+                    kind,
+                    name,
+                    len,
+                } => {
+                    count = kept;
+                    lines += 1;
+                    i = end;
+                    if is_noted(kind) {
+                        let v = end - len;
+                        notes = note(notes, kind, name, a + v, &s[v..end], false);
+                    }
+                }
+            }
+        } else {
             return Section::Refused {
                 number: Refusals::TOO_LARGE,
                 place: a + i,
             };
-        }
-        let line = known_line(t, s, a, i, host, count, out);
-        match line {
-            LineRead::Refused { number, place } => return Section::Refused { number, place },
-            LineRead::Next {
-                end,
-                kept,
-                kind,
-                name,
-                len,
-            } => {
-                count = kept;
-                lines += 1;
-                i = end;
-                if is_noted(kind) {
-                    let v = end - len;
-                    notes = note(notes, kind, name, a + v, &s[v..end], false);
-                }
-            }
         }
     }
 }
@@ -232,7 +237,7 @@ fn known_section(
     base: usize,
     out: &mut [u32],
 ) -> Section
-    requires { ⌜ (now t ≡ classes) × (from ≤ length (now s)) × (length (now s) < placesEnd) × (base * 4 + 256 ≤ length (now out)) ⌝ }
+    requires { ⌜ (now t ≡ classes) × (from ≤ length (now s)) × (length (now s) < placesEnd) × (base * 4 + sectionRoom ≤ length (now out)) ⌝ }
     ensures { λ r. ⌜ Sectioned (now (s .entry)) (section true from (drop from (now (s .entry)))) host base (now (out .entry)) (now (out .exit)) r ⌝ }
 {
     let Integer::Value { value: n, next } = read_int(s, from) else {
@@ -259,7 +264,7 @@ fn open_section(
     base: usize,
     out: &mut [u32],
 ) -> Section
-    requires { ⌜ (now t ≡ classes) × (from ≤ length (now s)) × (length (now s) < placesEnd) × (base * 4 + 256 ≤ length (now out)) ⌝ }
+    requires { ⌜ (now t ≡ classes) × (from ≤ length (now s)) × (length (now s) < placesEnd) × (base * 4 + sectionRoom ≤ length (now out)) ⌝ }
     ensures { λ r. ⌜ Sectioned (now (s .entry)) (section false from (drop from (now (s .entry)))) host base (now (out .entry)) (now (out .exit)) r ⌝ }
 {
     let mut i = from;
@@ -280,30 +285,31 @@ fn open_section(
                 notes,
             };
         }
-        if Limits::LINES <= lines {
+        if Limits::fits(lines + 1, Limits::LINES) {
+            let line = after_name_length(t, s, 0, i, next, n, false, host, count, out);
+            match line {
+                LineRead::Refused { number, place } => return Section::Refused { number, place },
+                LineRead::Next {
+                    end,
+                    kept,
+                    kind,
+                    name,
+                    len,
+                } => {
+                    count = kept;
+                    lines += 1;
+                    i = end;
+                    if is_noted(kind) {
+                        let v = end - len;
+                        notes = note(notes, kind, name, v, &s[v..end], false);
+                    }
+                }
+            }
+        } else {
             return Section::Refused {
                 number: Refusals::TOO_LARGE,
                 place: i,
             };
-        }
-        let line = rest_line(t, s, 0, i, next, n, false, host, count, out);
-        match line {
-            LineRead::Refused { number, place } => return Section::Refused { number, place },
-            LineRead::Next {
-                end,
-                kept,
-                kind,
-                name,
-                len,
-            } => {
-                count = kept;
-                lines += 1;
-                i = end;
-                if is_noted(kind) {
-                    let v = end - len;
-                    notes = note(notes, kind, name, v, &s[v..end], false);
-                }
-            }
         }
     }
 }
@@ -318,7 +324,7 @@ pub fn read_section(
     base: usize,
     out: &mut [u32],
 ) -> Section
-    requires { ⌜ (now t ≡ classes) × (from ≤ length (now s)) × (length (now s) < placesEnd) × (base * 4 + 256 ≤ length (now out)) ⌝ }
+    requires { ⌜ (now t ≡ classes) × (from ≤ length (now s)) × (length (now s) < placesEnd) × (base * 4 + sectionRoom ≤ length (now out)) ⌝ }
     ensures { λ r. ⌜ Sectioned (now (s .entry)) (section known from (drop from (now (s .entry)))) host base (now (out .entry)) (now (out .exit)) r ⌝ }
 {
     if known {

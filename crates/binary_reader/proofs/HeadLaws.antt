@@ -1,17 +1,18 @@
 -- One head of a response, as the code reads it.
-use Prim.Native.Nat.{ℕ, zero, suc, _+_, _-_, _*_, _<_, _≤_}
+use Prim.Native.Nat.{ℕ, suc, _+_, _<_, _≤_}
 use mathlib.Core.Path.{_≡_, refl, sym, ap, _∙_, subst}
-use mathlib.Core.List.{List, [], _∷_, _++_}
-use mathlib.Core.Bool.{Bool, true, false, cond}
+use mathlib.Core.List.{List}
+use mathlib.Core.Bool.{Bool, true, false}
 use native.Mathlib.Omega.{arith}
-use borrow.Author.Tests.{eq-eqb, ne-eqb, le-leb, lt-leb}
-use lib.ListN.{length, take, drop}
+use borrow.Author.Tests.{eq-eqb, ne-eqb, le-leb, lt-leb, leb-true, leb-false}
+use lib.Dec.{leb}
+use lib.ListN.{length, drop}
 use Rattle.ranges.specs.Ranges.{AnyHeads, FewHeads, SoManyHeads}
 use Rattle.octets.specs.Limits.{informationalMost}
 use Rattle.octets.specs.Refusals.{tooLarge, cutOff}
 use Rattle.numbers.specs.Integer.{readInt}
 use Rattle.numbers.specs.declared.Integer.the-variants.{Value, Cut}
-use Rattle.script.specs.Do.{Judged, good, wrong}
+use Rattle.script.specs.Do.{good, wrong}
 use Rattle.messages.specs.Message.{InformationalRead, Section, Message}
 use Rattle.messages.specs.Control.{statusVerdict, isInformational}
 use Rattle.messages.specs.Notes.{notesOf, bodyAnswer}
@@ -21,13 +22,13 @@ use Rattle.messages.specs.declared.BodyAnswer.the-variants as body
 use Rattle.messages.specs.declared.Notes.{Notes}
 use Rattle.messages.proofs.Noting.{notes-binary}
 use Rattle.messages.proofs.Lengths.{body-read, body-refused}
-use Rattle.binary.specs.Reader.{Got, got, no, Reader, _>>=_}
-use Rattle.binary.specs.Read.{section, finalResponse, responseMessage}
+use Rattle.binary.specs.Reader.{Got, no, _>>=_}
+use Rattle.binary.specs.Read.{section, afterFinal, afterFinalStatus, afterInformational, afterInformationalStatus, heads}
 use Rattle.binary_parts.specs.Section.{Sectioned}
 use Rattle.binary_parts.specs.declared.Section as answer
 use Rattle.binary_parts.specs.declared.Section.the-variants as section-read
 use Rattle.binary_parts.proofs.Places.{integer-cut, integer-got}
-use Rattle.binary_reader.specs.Heads.{informationalRead, behindInformational, behindFinal, informationalRest, finalRest, FinalStatus, HeadStored, HeadSays, Headed}
+use Rattle.binary_reader.specs.Heads.{FinalStatus, HeadStored, HeadSays, Headed}
 use Rattle.binary_reader.specs.declared.HeadRead.{HeadRead}
 use Rattle.binary_reader.specs.declared.HeadRead.the-variants as head
 use Rattle.binary_reader.proofs.SectionOutcomes.{SectionDone, section-no, section-done, behind-no, behind-got}
@@ -39,14 +40,14 @@ framing-noted n h e = ap (λ (n : Notes). n .framing) e ∙ notes-binary (h .lin
 
 module _ (s : List ℕ) (known : Bool) (next status : ℕ) {base : ℕ} {hs hs′ : List ℕ} {r : answer.Section} (w : Sectioned s (section known next (drop next s)) true base hs hs′ r) where
   pub informational-no : {i p : ℕ} → r ≡ section-read.Refused i p
-      → Headed FewHeads (λ f is. informationalRest known f is status next (drop next s)) known s base hs hs′ (head.Refused i p)
-  unfolding informationalRest
-  informational-no e = record { by = λ f is z. behind-no known (behindInformational known f is status) s next (section-no s known next w e) }
+      → Headed FewHeads (λ f is. afterInformationalStatus known (heads known f) is status next (drop next s)) known s base hs hs′ (head.Refused i p)
+  unfolding afterInformationalStatus
+  informational-no e = record { by = λ f is z. behind-no known (afterInformational (heads known f) is status) s next (section-no s known next w e) }
 
   pub final-no : {i p : ℕ} → r ≡ section-read.Refused i p
-      → Headed AnyHeads (λ f is. finalRest known is status next (drop next s)) known s base hs hs′ (head.Refused i p)
-  unfolding finalRest
-  final-no e = record { by = λ f is z. behind-no known (behindFinal known is status) s next (section-no s known next w e) }
+      → Headed AnyHeads (λ f is. afterFinalStatus known is status next (drop next s)) known s base hs hs′ (head.Refused i p)
+  unfolding afterFinalStatus
+  final-no e = record { by = λ f is z. behind-no known (afterFinal known is status) s next (section-no s known next w e) }
 
   module _ (within : next ≤ length s) {e c : ℕ} {n : Notes} (q : r ≡ section-read.Done e c n) where
     head-stored : (d : SectionDone s known next true base hs hs′ e c n) → HeadStored s base hs hs′ e c (d .read)
@@ -56,80 +57,80 @@ module _ (s : List ℕ) (known : Bool) (next status : ℕ) {base : ℕ} {hs hs�
     judged d = rw (d .end, framing-noted n (d .read) (d .noted)) refl
 
     pub informational-states : {i p : ℕ} → bodyAnswer (nothingStated e (n .framing)) ≡ body.Refused i p
-        → Headed FewHeads (λ f is. informationalRest known f is status next (drop next s)) known s base hs hs′ (head.Refused i p)
-    unfolding informationalRest behindInformational _>>=_
+        → Headed FewHeads (λ f is. afterInformationalStatus known (heads known f) is status next (drop next s)) known s base hs hs′ (head.Refused i p)
+    unfolding afterInformationalStatus afterInformational _>>=_
     informational-states {i} {p} g =
         let d = section-done s known next w within q in
         let z : nothingStated (d .read .end) (binaryFramingOf (d .read .lines)) ≡ wrong i p = sym (judged d) ∙ body-refused _ i p g in
-        record { by = λ f is few. behind-got known (behindInformational known f is status) s next (d .gives) ∙ rw z }
+        record { by = λ f is few. behind-got known (afterInformational (heads known f) is status) s next (d .gives) ∙ rw z }
 
     pub informational-ends : (b : Body) → bodyAnswer (nothingStated e (n .framing)) ≡ body.Read b
-        → Headed FewHeads (λ f is. informationalRest known f is status next (drop next s)) known s base hs hs′ (head.Informational status e c)
-    unfolding informationalRest behindInformational _>>=_
+        → Headed FewHeads (λ f is. afterInformationalStatus known (heads known f) is status next (drop next s)) known s base hs hs′ (head.Informational status e c)
+    unfolding afterInformationalStatus afterInformational _>>=_
     informational-ends b g =
         let d = section-done s known next w within q in
         let z : nothingStated (d .read .end) (binaryFramingOf (d .read .lines)) ≡ good b = sym (judged d) ∙ body-read _ b g in
-        record { by = λ f is few. (d .read, head-stored d, few, behind-got known (behindInformational known f is status) s next (d .gives) ∙ rw z) }
+        record { by = λ f is few. (d .read, head-stored d, few, behind-got known (afterInformational (heads known f) is status) s next (d .gives) ∙ rw z) }
 
-    pub final-ends : FinalStatus status → Headed AnyHeads (λ f is. finalRest known is status next (drop next s)) known s base hs hs′ (head.Final status e c n)
-    unfolding finalRest
+    pub final-ends : FinalStatus status → Headed AnyHeads (λ f is. afterFinalStatus known is status next (drop next s)) known s base hs hs′ (head.Final status e c n)
+    unfolding afterFinalStatus
     final-ends u =
         let d = section-done s known next w within q in
-        record { by = λ f is z. (d .read, head-stored d, d .noted, u, behind-got known (behindFinal known is status) s next (d .gives)) }
+        record { by = λ f is z. (d .read, head-stored d, d .noted, u, behind-got known (afterFinal known is status) s next (d .gives)) }
 
 -- ---- the status
 
 module _ (s : List ℕ) (known : Bool) (i f : ℕ) (is : List InformationalRead) where
-  status-cut : readInt i (drop i s) ≡ Cut → responseMessage known (suc f) is i (drop i s) ≡ no cutOff i
-  unfolding responseMessage _>>=_
+  status-cut : readInt i (drop i s) ≡ Cut → heads known (suc f) is i (drop i s) ≡ no cutOff i
+  unfolding heads _>>=_
   status-cut e = rw (integer-cut s i cutOff i e)
 
   module _ {n next : ℕ} (e : readInt i (drop i s) ≡ Value n next) where
-    status-wrong : (statusVerdict n ≡ 0 → ⊥) → responseMessage known (suc f) is i (drop i s) ≡ no (statusVerdict n) i
-    unfolding responseMessage _>>=_
+    status-wrong : (statusVerdict n ≡ 0 → ⊥) → heads known (suc f) is i (drop i s) ≡ no (statusVerdict n) i
+    unfolding heads _>>=_
     status-wrong z = rw (integer-got s i cutOff i e, ne-eqb (statusVerdict n) 0 z)
 
     module _ (z : statusVerdict n ≡ 0) where
-      status-full : isInformational n ≡ true → informationalMost ≤ length is → responseMessage known (suc f) is i (drop i s) ≡ no tooLarge i
-      unfolding responseMessage _>>=_
+      status-full : isInformational n ≡ true → informationalMost ≤ length is → heads known (suc f) is i (drop i s) ≡ no tooLarge i
+      unfolding heads _>>=_
       status-full b g = rw (integer-got s i cutOff i e, eq-eqb (statusVerdict n) 0 z, b, le-leb _ _ g)
 
       status-informational : isInformational n ≡ true → length is < informationalMost
-          → responseMessage known (suc f) is i (drop i s) ≡ informationalRest known f is n next (drop next s)
-      unfolding responseMessage informationalRest behindInformational _>>=_
+          → heads known (suc f) is i (drop i s) ≡ afterInformationalStatus known (heads known f) is n next (drop next s)
+      unfolding heads _>>=_
       status-informational b g = rw (integer-got s i cutOff i e, eq-eqb (statusVerdict n) 0 z, b, lt-leb _ _ g)
 
-      status-final : isInformational n ≡ false → responseMessage known (suc f) is i (drop i s) ≡ finalRest known is n next (drop next s)
-      unfolding responseMessage finalResponse finalRest behindFinal _>>=_
+      status-final : isInformational n ≡ false → heads known (suc f) is i (drop i s) ≡ afterFinalStatus known is n next (drop next s)
+      unfolding heads _>>=_
       status-final b = rw (integer-got s i cutOff i e, eq-eqb (statusVerdict n) 0 z, b)
 
 module _ (s : List ℕ) (known : Bool) (i count base : ℕ) (hs hs′ : List ℕ) where
   pub next-cut : readInt i (drop i s) ≡ Cut
-      → Headed (SoManyHeads count) (λ f is. responseMessage known (suc f) is i (drop i s)) known s base hs hs′ (head.Refused cutOff i)
+      → Headed (SoManyHeads count) (λ f is. heads known (suc f) is i (drop i s)) known s base hs hs′ (head.Refused cutOff i)
   next-cut e = record { by = λ f is z. status-cut s known i f is e }
 
   module _ {n next : ℕ} (e : readInt i (drop i s) ≡ Value n next) {v : ℕ} (q : v ≡ statusVerdict n) where
-    pub next-wrong : (v ≡ 0 → ⊥) → Headed (SoManyHeads count) (λ f is. responseMessage known (suc f) is i (drop i s)) known s base hs hs′ (head.Refused v i)
+    pub next-wrong : (v ≡ 0 → ⊥) → Headed (SoManyHeads count) (λ f is. heads known (suc f) is i (drop i s)) known s base hs hs′ (head.Refused v i)
     next-wrong z = record { by = λ f is c. status-wrong s known i f is e (λ u. z (q ∙ u)) ∙ rw q }
 
     module _ (z : v ≡ 0) where
-      pub next-full : isInformational n ≡ true → informationalMost ≤ count
-          → Headed (SoManyHeads count) (λ f is. responseMessage known (suc f) is i (drop i s)) known s base hs hs′ (head.Refused tooLarge i)
-      next-full b g = record { by = λ f is c. status-full s known i f is e (sym q ∙ z) b (omega (arith, g, c)) }
+      pub next-full : isInformational n ≡ true → leb (count + 1) informationalMost ≡ false
+          → Headed (SoManyHeads count) (λ f is. heads known (suc f) is i (drop i s)) known s base hs hs′ (head.Refused tooLarge i)
+      next-full b g = record { by = λ f is c. status-full s known i f is e (sym q ∙ z) b (omega (arith, leb-false (count + 1) informationalMost g, c)) }
 
       module _ {r : HeadRead} where
-        pub next-informational : isInformational n ≡ true → count < informationalMost
-            → Headed FewHeads (λ f is. informationalRest known f is n next (drop next s)) known s base hs hs′ r
-            → Headed (SoManyHeads count) (λ f is. responseMessage known (suc f) is i (drop i s)) known s base hs hs′ r
+        pub next-informational : isInformational n ≡ true → leb (count + 1) informationalMost ≡ true
+            → Headed FewHeads (λ f is. afterInformationalStatus known (heads known f) is n next (drop next s)) known s base hs hs′ r
+            → Headed (SoManyHeads count) (λ f is. heads known (suc f) is i (drop i s)) known s base hs hs′ r
         next-informational b g h =
             record {
               by = λ f is c.
                   subst (λ (x : Got Message). HeadSays x known f is s base hs hs′ r)
-                  (sym (status-informational s known i f is e (sym q ∙ z) b (omega (arith, g, c)))) (h .by f is (omega (arith, g, c)));
+                  (sym (status-informational s known i f is e (sym q ∙ z) b (omega (arith, leb-true (count + 1) informationalMost g, c)))) (h .by f is (omega (arith, leb-true (count + 1) informationalMost g, c)));
             }
 
-        pub next-final : isInformational n ≡ false → Headed AnyHeads (λ f is. finalRest known is n next (drop next s)) known s base hs hs′ r
-            → Headed (SoManyHeads count) (λ f is. responseMessage known (suc f) is i (drop i s)) known s base hs hs′ r
+        pub next-final : isInformational n ≡ false → Headed AnyHeads (λ f is. afterFinalStatus known is n next (drop next s)) known s base hs hs′ r
+            → Headed (SoManyHeads count) (λ f is. heads known (suc f) is i (drop i s)) known s base hs hs′ r
         next-final b h =
             record {
               by = λ f is c.

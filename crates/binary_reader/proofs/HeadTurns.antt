@@ -15,8 +15,8 @@ use Rattle.messages.specs.declared.Notes.{Notes}
 use Rattle.messages.proofs.Noting.{kept-few}
 use Rattle.ranges.proofs.HeadsStored.{lines-snoc, fields-more, numbers-more}
 use Rattle.binary.specs.Reader.{Got}
-use Rattle.binary.specs.Read.{responseMessage}
-use Rattle.binary_reader.specs.Heads.{informationalRead, HeadStored, HeadSays, Headed, HeadsTaken}
+use Rattle.binary.specs.Read.{informationalRead, heads, responseMessage}
+use Rattle.binary_reader.specs.Heads.{HeadStored, HeadSays, Headed, HeadsTaken}
 use Rattle.binary_reader.specs.declared.HeadRead.{HeadRead}
 use Rattle.binary_reader.specs.declared.HeadRead.the-variants as head
 use Rattle.binary_reader.specs.declared.HeadsRead.the-variants as heads-read
@@ -31,10 +31,10 @@ pub record HeadsTo (x : Got Message) (known : Bool) (s hs₀ hs ns₀ ns : List 
   pub few : base ≤ count * linesMost
   pub stored : hs ≡ splice hs₀ 0 (fieldsNumbers (informationalLines read))
   pub numbers : ns ≡ splice ns₀ 0 (informationalNumbers read)
-  pub turn : x ≡ responseMessage known (suc (informationalMost - count)) read i (drop i s)
+  pub turn : x ≡ heads known (suc (informationalMost - count)) read i (drop i s)
 
 pub heads-start : (known : Bool) (s hs ns : List ℕ) (from : ℕ)
-    → HeadsTo (responseMessage known (suc informationalMost) [] from (drop from s)) known s hs hs ns ns from 0 0
+    → HeadsTo (responseMessage known from (drop from s)) known s hs hs ns ns from 0 0
 unfolding informationalLines informationalNumbers fieldsNumbers
 heads-start known s hs ns from =
     record {
@@ -49,13 +49,13 @@ heads-start known s hs ns from =
     }
 
 module _ {x : Got Message} {known : Bool} {s hs₀ hs hs′ ns₀ ns : List ℕ} {i count base : ℕ} (to : HeadsTo x known s hs₀ hs ns₀ ns i count base) {r : HeadRead}
-    (w : Headed (SoManyHeads count) (λ f is. responseMessage known (suc f) is i (drop i s)) known s base hs hs′ r) where
+    (w : Headed (SoManyHeads count) (λ f is. heads known (suc f) is i (drop i s)) known s base hs hs′ r) where
   says : {q : HeadRead} → r ≡ q → HeadSays x known (informationalMost - count) (to .read) s base hs hs′ q
   says {q} e =
       subst (λ (y : Got Message). HeadSays y known (informationalMost - count) (to .read) s base hs hs′ q) (sym (to .turn))
       (subst
       (λ (z : HeadRead).
-      HeadSays (responseMessage known (suc (informationalMost - count)) (to .read) i (drop i s)) known (informationalMost - count) (to .read) s base hs hs′ z)
+      HeadSays (heads known (suc (informationalMost - count)) (to .read) i (drop i s)) known (informationalMost - count) (to .read) s base hs hs′ z)
       e (w .by (informationalMost - count) (to .read) (to .counted)))
 
   pub heads-refused : (ns′ : List ℕ) {k p : ℕ} → r ≡ head.Refused k p → HeadsTaken x known s hs₀ hs′ ns₀ ns′ (heads-read.Refused k p)
@@ -106,5 +106,5 @@ module _ {x : Got Message} {known : Bool} {s hs₀ hs hs′ ns₀ ns : List ℕ}
             few = omega (arith, few, to .few);
             stored = stored-more (d .1) ∙ rw (lines-snoc (to .read) y) refl;
             numbers = numbers-more ns₀ (to .read) y (to .counted) (to .numbers) f stores;
-            turn = d .3 ∙ ap (λ (m : ℕ). responseMessage known m (to .read ++ y ∷ []) e (drop e s)) g;
+            turn = d .3 ∙ ap (λ (m : ℕ). heads known m (to .read ++ y ∷ []) e (drop e s)) g;
           }

@@ -16,14 +16,14 @@ use Rattle.messages.specs.declared.Notes.{Notes}
 use Rattle.messages.specs.declared.Outcome.{Outcome}
 use Rattle.messages.specs.declared.Outcome.the-variants as outcome
 use Rattle.binary.specs.Reader.{Got, got, no, Reader, _>>=_, tell}
-use Rattle.binary.specs.Read.{RequestControl, requestControl, section, afterHeaders, requestMessage}
+use Rattle.binary.specs.Read.{RequestControl, requestControl, section, afterHeaders, afterHead, afterControl, requestMessage}
 use Rattle.sound.specs.Placed.{Each}
 use Rattle.sound.proofs.Parts.{LineAt}
-use Rattle.binary_parts.specs.Control.{pieceOf}
+use Rattle.binary_parts.specs.Control.{pieceOf, Inside, controlOf}
 use Rattle.binary_parts.specs.declared.Span.{Span}
 use Rattle.binary_parts.proofs.Places.{part-length}
 use Rattle.binary_reader.specs.Rest.{RestSays, Rested}
-use Rattle.binary_reader.specs.Requests.{bothRules, HeadSays, HeadLies, HeadJudged, partIs, requestOutcome, controlIs, behindHead, behindControl, HeadFacts, RequestRest, Requested}
+use Rattle.binary_reader.specs.Requests.{bothRules, HeadSays, HeadLies, HeadJudged, partIs, requestOutcome, HeadFacts, RequestRest, Requested}
 use Rattle.binary_reader.specs.declared.HeadAnswer.{HeadAnswer}
 use Rattle.binary_reader.specs.declared.HeadAnswer.the-variants as head
 use Rattle.binary_reader.specs.declared.RestRead.{RestRead}
@@ -41,15 +41,15 @@ rules-refuse k at l (good x) (wrong m o) e = cc
 rules-refuse k at l (wrong m o) b e = cc
 
 head-refuses : (known : Bool) (q : RequestControl) (h : Section) (at : ℕ) (l : List ℕ) {n p : ℕ}
-    → bothRules (authorityIn (h .end) (q .authority) (h .lines)) (mayState (h .end) (binaryFramingOf (h .lines))) ≡ wrong n p → behindHead known q h at l ≡ no n p
-unfolding behindHead
+    → bothRules (authorityIn (h .end) (q .authority) (h .lines)) (mayState (h .end) (binaryFramingOf (h .lines))) ≡ wrong n p → afterHead known q h at l ≡ no n p
+unfolding afterHead
 head-refuses known q h at l e =
     rules-refuse (λ a f. afterHeaders known true (requestStart (q .method) (q .scheme) a (q .path)) h f) at l (authorityIn (h .end) (q .authority) (h .lines)) (mayState (h .end) (binaryFramingOf (h .lines))) e
 
 head-passes : (known : Bool) (q : RequestControl) (h : Section) (at : ℕ) (l : List ℕ) {a : Piece} {f : Framing}
     → authorityIn (h .end) (q .authority) (h .lines) ≡ good a → mayState (h .end) (binaryFramingOf (h .lines)) ≡ good f
-    → behindHead known q h at l ≡ afterHeaders known true (requestStart (q .method) (q .scheme) a (q .path)) h f at l
-unfolding behindHead _>>=_
+    → afterHead known q h at l ≡ afterHeaders known true (requestStart (q .method) (q .scheme) a (q .path)) h f at l
+unfolding afterHead _>>=_
 head-passes known q h at l u v = rw (u, v)
 
 part-back : (s : List ℕ) (a : Span) → a .start + a .len ≤ length s → partOf (pieceOf s a) ≡ partIs a
@@ -58,7 +58,7 @@ part-back s a h = ap (partAt (a .start)) (part-length s (a .start) (a .len) h)
 -- where the rest was read
 rest-says : (s : List ℕ) (m p : Span) (v : ℕ) (w : List ℕ) (a n k : ℕ) (lines : List FieldRead) (x : Got Message) (cs cs′ ts ts′ : List ℕ) (c : RestRead) (r : Outcome)
     → m .start + m .len ≤ length s → p .start + p .len ≤ length s → length w ≡ n → length (kept false lines) ≡ k
-    → r ≡ requestOutcome (length s) v m p a n k c
+    → r ≡ requestOutcome (length s) v m (record { start = a; len = n }) p k c
     → RestSays s (requestStart (pieceOf s m) v (piece a w) (pieceOf s p)) lines x cs cs′ ts ts′ c → MessageSays false [] lines x cs cs′ ts ts′ r
 unfolding recordOf
 rest-says s m p v w a n k lines (got x e l) cs cs′ ts ts′ c r f g h i o u =
@@ -74,21 +74,21 @@ module _ (s : List ℕ) (known : Bool) (m a p : Span) (v end fields : ℕ) (note
       (subst (λ (x : HeadAnswer). HeadSays (authorityIn end (pieceOf s a) (h .lines)) (mayState end (binaryFramingOf (h .lines))) (notes .framing) x) e y)
 
   pub rest-wrong : {n i : ℕ} {cs cs′ ts ts′ : List ℕ} → r ≡ head.Refused n i
-      → RequestRest s known (controlIs s m v a p) end fields notes cs cs′ ts ts′ (outcome.Refusal n i)
-  rest-wrong e = record { by = λ h f. message-no (head-refuses known (controlIs s m v a p) h end (drop end s) (said e h f)) }
+      → RequestRest s known (controlOf s m v a p) end fields notes cs cs′ ts ts′ (outcome.Refusal n i)
+  rest-wrong e = record { by = λ h f. message-no (head-refuses known (controlOf s m v a p) h end (drop end s) (said e h f)) }
 
   pub head-lies : {i n : ℕ} → r ≡ head.Good i n → i + n ≤ length s
   head-lies e = subst (λ (x : HeadAnswer). HeadLies s x) e (j .lies)
 
   pub rest-good : {i n : ℕ} {cs cs′ ts ts′ : List ℕ} {c : RestRead} {o : Outcome} → r ≡ head.Good i n → m .start + m .len ≤ length s
-      → p .start + p .len ≤ length s → Rested s end known true (notes .framing) cs cs′ ts ts′ c → o ≡ requestOutcome (length s) v m p i n fields c
-      → RequestRest s known (controlIs s m v a p) end fields notes cs cs′ ts ts′ o
+      → p .start + p .len ≤ length s → Rested s end known true (notes .framing) cs cs′ ts ts′ c → o ≡ requestOutcome (length s) v m (record { start = i; len = n }) p fields c
+      → RequestRest s known (controlOf s m v a p) end fields notes cs cs′ ts ts′ o
   rest-good {i} {n} {cs} {cs′} {ts} {ts′} {c} {o} e f g w q =
       record {
         by = λ h y.
             let u = said e h y in
             let z = requestStart (pieceOf s m) v (piece i (u .0)) (pieceOf s p) in
-            message-as (head-passes known (controlIs s m v a p) h end (drop end s) (u .1) (u .3))
+            message-as (head-passes known (controlOf s m v a p) h end (drop end s) (u .1) (u .3))
             (record { says = rest-says s m p v (u .0) i n fields (h .lines) (afterHeaders known true z h (notes .framing) end (drop end s)) cs cs′ ts ts′ c o f g (u .2) (y .fields) q (w .by z h .says) });
       }
 
@@ -108,17 +108,17 @@ all-lie s (f ∷ fs) h = (h .0 .lies .value, all-lie s fs (h .1))
 
 module _ (s : List ℕ) (known : Bool) (q : RequestControl) (from : ℕ) where
   pub head-no : {hs hs′ cs cs′ ts ts′ : List ℕ} {n p : ℕ} → section known from (drop from s) ≡ no n p
-      → Requested (behindControl known q from (drop from s)) hs hs′ cs cs′ ts ts′ (outcome.Refusal n p)
-  unfolding behindControl
-  head-no e = requested-no (behind-no known (behindHead known q) s from e)
+      → Requested (afterControl known q from (drop from s)) hs hs′ cs cs′ ts ts′ (outcome.Refusal n p)
+  unfolding afterControl
+  head-no e = requested-no (behind-no known (afterHead known q) s from e)
 
   pub head-done : {hs hs′ cs cs′ ts ts′ : List ℕ} {e c : ℕ} {n : Notes} {r : Outcome} → SectionDone s known from false 0 hs hs′ e c n
-      → RequestRest s known q e c n cs cs′ ts ts′ r → Requested (behindControl known q from (drop from s)) hs hs′ cs cs′ ts ts′ r
-  unfolding behindControl informationalLines informationalNumbers
+      → RequestRest s known q e c n cs cs′ ts ts′ r → Requested (afterControl known q from (drop from s)) hs hs′ cs cs′ ts ts′ r
+  unfolding afterControl informationalLines informationalNumbers
   head-done {hs} {hs′} {cs} {cs′} {ts} {ts′} {e} {c} {n} {r} d w =
       let f : HeadFacts s (d .read) e c n = record { end = d .end; fields = omega (arith, d .count); noted = d .noted; lie = all-lie s (d .read .lines) (d .lines .section .lines) } in
-      requested-as (behind-got known (behindHead known q) s from (d .gives))
-      (record { by = λ ns. with-headers (behindHead known q (d .read) e (drop e s)) (d .stored) refl (w .by (d .read) f) })
+      requested-as (behind-got known (afterHead known q) s from (d .gives))
+      (record { by = λ ns. with-headers (afterHead known q (d .read) e (drop e s)) (d .stored) refl (w .by (d .read) f) })
 
 -- ---- whole requests
 
@@ -129,6 +129,6 @@ module _ (s : List ℕ) (known : Bool) (from : ℕ) where
   control-refused e = requested-no (rw e)
 
   pub control-then : {q : RequestControl} {e : ℕ} → requestControl from (drop from s) ≡ got q e (drop e s)
-      → requestMessage known from (drop from s) ≡ behindControl known q e (drop e s)
-  unfolding requestMessage behindControl behindHead _>>=_
+      → requestMessage known from (drop from s) ≡ afterControl known q e (drop e s)
+  unfolding requestMessage _>>=_
   control-then e = rw e

@@ -21,9 +21,9 @@ use Rattle.messages.specs.declared.Outcome.{Outcome}
 use Rattle.messages.specs.declared.Outcome.the-variants as outcome
 use Rattle.messages.proofs.Lengths.{body-read, body-refused, may-state, may-not-state}
 use Rattle.binary.specs.Reader.{Got, got, no, _>>=_}
-use Rattle.binary.specs.Read.{afterHeaders, messageAnswer}
+use Rattle.binary.specs.Read.{afterHeaders, afterFinal, messageAnswer}
 use Rattle.ranges.specs.Ranges.{Responded}
-use Rattle.binary_reader.specs.Heads.{behindFinal, HeadsFacts, HeadsSays, HeadsTaken}
+use Rattle.binary_reader.specs.Heads.{HeadsFacts, HeadsSays, HeadsTaken}
 use Rattle.binary_reader.specs.Rest.{RestSays, Rested}
 use Rattle.binary_reader.specs.Whole.{MessageSays}
 use Rattle.binary_reader.specs.Responses.{FinalSays, FinalJudged, responseOutcome, FinalRead}
@@ -46,23 +46,23 @@ unstated end Clashing e = cc
 
 module _ (known : Bool) (is : List InformationalRead) (n : ℕ) (h : Section) (at : ℕ) (l : List ℕ) where
   module _ (b : isBodyless n ≡ true) where
-    bodyless-no : {k p : ℕ} → nothingStated (h .end) (binaryFramingOf (h .lines)) ≡ wrong k p → behindFinal known is n h at l ≡ no k p
-    unfolding behindFinal _>>=_
+    bodyless-no : {k p : ℕ} → nothingStated (h .end) (binaryFramingOf (h .lines)) ≡ wrong k p → afterFinal known is n h at l ≡ no k p
+    unfolding afterFinal _>>=_
     bodyless-no e = rw (b, e)
 
     bodyless-on : {x : Body} → nothingStated (h .end) (binaryFramingOf (h .lines)) ≡ good x
-        → behindFinal known is n h at l ≡ afterHeaders known false (responseStart is n) h Unstated at l
-    unfolding behindFinal _>>=_
+        → afterFinal known is n h at l ≡ afterHeaders known false (responseStart is n) h Unstated at l
+    unfolding afterFinal _>>=_
     bodyless-on e = rw (b, e)
 
   module _ (b : isBodyless n ≡ false) where
-    states-no : {k p : ℕ} → mayState (h .end) (binaryFramingOf (h .lines)) ≡ wrong k p → behindFinal known is n h at l ≡ no k p
-    unfolding behindFinal _>>=_
+    states-no : {k p : ℕ} → mayState (h .end) (binaryFramingOf (h .lines)) ≡ wrong k p → afterFinal known is n h at l ≡ no k p
+    unfolding afterFinal _>>=_
     states-no e = rw (b, e)
 
     states-on : {f : Framing} → mayState (h .end) (binaryFramingOf (h .lines)) ≡ good f
-        → behindFinal known is n h at l ≡ afterHeaders known true (responseStart is n) h f at l
-    unfolding behindFinal _>>=_
+        → afterFinal known is n h at l ≡ afterHeaders known true (responseStart is n) h f at l
+    unfolding afterFinal _>>=_
     states-on e = rw (b, e)
 
 module _ (n : ℕ) (f : Framing) (end : ℕ) where
@@ -130,4 +130,4 @@ module _ {x : Got Message} {known : Bool} {s hs hs′ ns ns′ : List ℕ} {r : 
     pub responded-final : {cs cs′ ts ts′ : List ℕ} {o : Outcome} → FinalRead s known n e c k notes cs cs′ ts ts′ o → Responded (messageAnswer x) hs hs′ ns ns′ cs cs′ ts ts′ o
     responded-final f =
         let d = taken q in
-        answered-as (d .3) (with-headers (behindFinal known (d .0) n (d .1) e (drop e s)) (d .4) (d .5) (f .by (d .0) (d .1) (d .2)))
+        answered-as (d .3) (with-headers (afterFinal known (d .0) n (d .1) e (drop e s)) (d .4) (d .5) (f .by (d .0) (d .1) (d .2)))

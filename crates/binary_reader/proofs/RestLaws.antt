@@ -9,7 +9,7 @@ use Rattle.script.specs.Do.{Piece, good, wrong}
 use Rattle.messages.specs.Message.{FieldRead, Section, Start, Message, plainMessage}
 use Rattle.messages.specs.declared.Framing.{Framing}
 use Rattle.binary.specs.Reader.{Got, got, no, _>>=_}
-use Rattle.binary.specs.Read.{content, contentRule, trailers, padding, afterHeaders}
+use Rattle.binary.specs.Read.{content, contentRule, trailers, padding, afterContent, afterHeaders}
 use Rattle.binary_parts.specs.Content.{Contented, contentAgrees, Padded}
 use Rattle.binary_parts.specs.declared.ContentRead.{ContentRead}
 use Rattle.binary_parts.specs.declared.ContentRead.the-variants as content-is
@@ -17,7 +17,7 @@ use Rattle.binary_parts.specs.declared.Padding.{Padding}
 use Rattle.binary_parts.specs.declared.Padding.the-variants as padding-is
 use Rattle.binary_parts.proofs.Contents.{rule-agrees, content-no, content-done}
 use Rattle.binary_parts.proofs.PaddingLaws.{padding-bad, padding-clean}
-use Rattle.binary_reader.specs.Rest.{Trailed, behindContent, RestIs, Behind, Rested}
+use Rattle.binary_reader.specs.Rest.{Trailed, RestIs, Behind, Rested}
 use Rattle.binary_reader.specs.declared.TrailersRead.{TrailersRead}
 use Rattle.binary_reader.specs.declared.TrailersRead.the-variants as trailers-are
 use Rattle.binary_reader.specs.declared.RestRead.{RestRead}
@@ -41,19 +41,19 @@ same-done e f g = rw (e, f, g)
 
 trailers-then : (s : List ℕ) (from : ℕ) (known body : Bool) (start : Start) (lines : List FieldRead) (c : List Piece) {fs : List FieldRead} {end v n : ℕ} {l : List ℕ}
     → trailers known body from (drop from s) ≡ got fs end (drop end s) → padding end (drop end s) ≡ got v n l
-    → behindContent known body start lines c from (drop from s) ≡ got (plainMessage start lines c fs) n l
-unfolding behindContent _>>=_
+    → afterContent known body start lines c from (drop from s) ≡ got (plainMessage start lines c fs) n l
+unfolding afterContent _>>=_
 trailers-then s from known body start lines c e f = rw (e, f)
 
 module _ (s : List ℕ) (from : ℕ) (known body : Bool) (count total : ℕ) {ts ts′ : List ℕ} {r : TrailersRead}
     (h : Trailed s (trailers known body from (drop from s)) ts ts′ r) where
   pub behind-no : {n p : ℕ} → r ≡ trailers-are.Refused n p → Behind s from known body count total ts ts′ (Refused n p)
-  unfolding behindContent _>>=_
+  unfolding afterContent _>>=_
   behind-no e = record { by = λ start lines c cs cs′ a b g. rest-no (rw (trailed-refused h e)) }
 
   module _ {end k : ℕ} (e : r ≡ trailers-are.Done end k) {q : Padding} (z : Padded s (padding end (drop end s)) q) where
     pub behind-padding : {p : ℕ} → q ≡ padding-is.Bad p → Behind s from known body count total ts ts′ (Refused badPadding p)
-    unfolding behindContent _>>=_
+    unfolding afterContent _>>=_
     behind-padding f = record { by = λ start lines c cs cs′ a b g. rest-no (rw (trailed-done h e .taken, padding-bad z f)) }
 
     pub behind-done : q ≡ padding-is.Clean → Behind s from known body count total ts ts′ (Done count total k)
@@ -69,8 +69,8 @@ module _ (s : List ℕ) (from : ℕ) (known body : Bool) (count total : ℕ) {ts
 
 content-then : (s : List ℕ) (from : ℕ) (known body : Bool) (f : Framing) (start : Start) (h : Section) {c : List Piece} {end : ℕ}
     → content known from (drop from s) ≡ got c end (drop end s) → contentRule body f end c ≡ good c
-    → afterHeaders known body start h f from (drop from s) ≡ behindContent known body start (h .lines) c end (drop end s)
-unfolding afterHeaders behindContent _>>=_
+    → afterHeaders known body start h f from (drop from s) ≡ afterContent known body start (h .lines) c end (drop end s)
+unfolding afterHeaders _>>=_
 content-then s from known body f start h e j = rw (e, j)
 
 module _ (s : List ℕ) (from : ℕ) (known body : Bool) (f : Framing) {cs cs′ : List ℕ} {r : ContentRead}

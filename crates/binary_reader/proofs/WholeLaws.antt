@@ -1,13 +1,12 @@
--- A message, from its framing on, and its answer by value.
-use Prim.Native.Nat.{ℕ, suc, _≤_, _<_}
+-- A message, from its framing indicator on, and its answer by value.
+use Prim.Native.Nat.{ℕ}
 use mathlib.Core.Path.{_≡_, refl, sym, ap, subst}
 use mathlib.Core.Bool.{true, false}
 use mathlib.Core.List.{List, []}
-use native.Mathlib.Omega.{arith}
-use borrow.Author.Tests.{le-leb, lt-leb}
+use borrow.Author.Tests.{ne-eqb}
 use lib.Dec.{leb}
 use lib.ListN.{length, drop, replicate}
-use Rattle.octets.specs.Limits.{binaryMost, informationalMost}
+use Rattle.octets.specs.Limits.{binaryMost}
 use Rattle.octets.specs.Refusals.{tooLarge, cutOff, badIndicator}
 use Rattle.numbers.specs.Integer.{readInt}
 use Rattle.numbers.specs.declared.Integer.the-variants.{Value, Cut}
@@ -17,89 +16,81 @@ use Rattle.messages.specs.Answers.{readingOf}
 use Rattle.messages.specs.declared.Outcome.{Outcome}
 use Rattle.messages.specs.declared.Outcome.the-variants as outcome
 use Rattle.binary.specs.Reader.{no, _>>=_}
-use Rattle.binary.specs.Read.{requestMessage, responseMessage, message, messageAnswer, readBinary}
+use Rattle.binary.specs.Read.{requestMessage, responseMessage, afterIndicator, message, messageAnswer, readBinary}
 use Rattle.binary_sound.proofs.Sound.{binary-sound}
 use Rattle.ranges.specs.Ranges.{Responded, readingFrom}
 use Rattle.ranges.proofs.ByValue.{by-value}
+use Rattle.binary_parts.specs.Room.{sectionRoom, headsRoom, informationalRoom, chunksRoom}
 use Rattle.binary_parts.proofs.Places.{integer-cut, integer-got}
-use Rattle.binary_reader.specs.Whole.{behindIndicator}
 use Rattle.binary_reader.specs.Requests.{Requested}
 use Rattle.binary_reader.proofs.Answered.{answered-as, answered-no}
 
--- ---- behind the framing
-
-another : {f : ℕ} (k n : ℕ) → k ≤ f → (f ≡ k → ⊥) → n ≡ suc k → n ≤ f
-another k n h e q = omega (arith, h, e, q)
-
-above : {f : ℕ} → 4 ≤ f → leb f 3 ≡ false
-above {f} h = lt-leb f 3 (omega (arith, h))
-
-framing-other : (f from : ℕ) (l : List ℕ) → leb f 3 ≡ false → behindIndicator f from l ≡ no badIndicator 0
-unfolding behindIndicator
-framing-other f from l e = rw e
+-- ---- behind the framing indicator
 
 module _ {f : ℕ} (from : ℕ) (l : List ℕ) where
-  framing-is : (g : ℕ) → f ≡ g → behindIndicator f from l ≡ behindIndicator g from l
-  framing-is g e = ap (λ (n : ℕ). behindIndicator n from l) e
+  indicator-is : (g : ℕ) → f ≡ g → afterIndicator f from l ≡ afterIndicator g from l
+  indicator-is g e = ap (λ (n : ℕ). afterIndicator n from l) e
+
+  indicator-other : (f ≡ 0 → ⊥) → (f ≡ 1 → ⊥) → (f ≡ 2 → ⊥) → (f ≡ 3 → ⊥) → afterIndicator f from l ≡ no badIndicator 0
+  unfolding afterIndicator
+  indicator-other a b c d = rw (ne-eqb f 0 a, ne-eqb f 1 b, ne-eqb f 2 c, ne-eqb f 3 d)
 
   module _ {hs hs′ ns cs cs′ ts ts′ : List ℕ} {r : Outcome} where
-    pub framed-request : f ≡ 0 → Requested (requestMessage true from l) hs hs′ cs cs′ ts ts′ r → Responded (messageAnswer (behindIndicator f from l)) hs hs′ ns ns cs cs′ ts ts′ r
-    unfolding behindIndicator
-    framed-request e h = answered-as (framing-is 0 e) (h .by ns)
+    pub indicated-request : f ≡ 0 → Requested (requestMessage true from l) hs hs′ cs cs′ ts ts′ r → Responded (messageAnswer (afterIndicator f from l)) hs hs′ ns ns cs cs′ ts ts′ r
+    unfolding afterIndicator
+    indicated-request e h = answered-as (indicator-is 0 e) (h .by ns)
 
-    pub framed-open-request : f ≡ 2 → Requested (requestMessage false from l) hs hs′ cs cs′ ts ts′ r
-        → Responded (messageAnswer (behindIndicator f from l)) hs hs′ ns ns cs cs′ ts ts′ r
-    unfolding behindIndicator
-    framed-open-request e h = answered-as (framing-is 2 e) (h .by ns)
+    pub indicated-open-request : f ≡ 2 → Requested (requestMessage false from l) hs hs′ cs cs′ ts ts′ r
+        → Responded (messageAnswer (afterIndicator f from l)) hs hs′ ns ns cs cs′ ts ts′ r
+    unfolding afterIndicator
+    indicated-open-request e h = answered-as (indicator-is 2 e) (h .by ns)
 
   module _ {hs hs′ ns ns′ cs cs′ ts ts′ : List ℕ} {r : Outcome} where
-    pub framed-response : f ≡ 1 → Responded (messageAnswer (responseMessage true (suc informationalMost) [] from l)) hs hs′ ns ns′ cs cs′ ts ts′ r
-        → Responded (messageAnswer (behindIndicator f from l)) hs hs′ ns ns′ cs cs′ ts ts′ r
-    unfolding behindIndicator
-    framed-response e h = answered-as (framing-is 1 e) h
+    pub indicated-response : f ≡ 1 → Responded (messageAnswer (responseMessage true from l)) hs hs′ ns ns′ cs cs′ ts ts′ r
+        → Responded (messageAnswer (afterIndicator f from l)) hs hs′ ns ns′ cs cs′ ts ts′ r
+    unfolding afterIndicator
+    indicated-response e h = answered-as (indicator-is 1 e) h
 
-    pub framed-open-response : f ≡ 3 → Responded (messageAnswer (responseMessage false (suc informationalMost) [] from l)) hs hs′ ns ns′ cs cs′ ts ts′ r
-        → Responded (messageAnswer (behindIndicator f from l)) hs hs′ ns ns′ cs cs′ ts ts′ r
-    unfolding behindIndicator
-    framed-open-response e h = answered-as (framing-is 3 e) h
+    pub indicated-open-response : f ≡ 3 → Responded (messageAnswer (responseMessage false from l)) hs hs′ ns ns′ cs cs′ ts ts′ r
+        → Responded (messageAnswer (afterIndicator f from l)) hs hs′ ns ns′ cs cs′ ts ts′ r
+    unfolding afterIndicator
+    indicated-open-response e h = answered-as (indicator-is 3 e) h
 
-  pub framed-other : {hs hs′ ns ns′ cs cs′ ts ts′ : List ℕ} → (f ≡ 0 → ⊥) → (f ≡ 1 → ⊥) → (f ≡ 2 → ⊥) → (f ≡ 3 → ⊥)
-      → Responded (messageAnswer (behindIndicator f from l)) hs hs′ ns ns′ cs cs′ ts ts′ (outcome.Refusal badIndicator 0)
-  framed-other a b c d =
-      let z : 0 ≤ f = omega arith in
-      answered-no (framing-other f from l (above (another 3 4 (another 2 3 (another 1 2 (another 0 1 z a refl) b refl) c refl) d refl)))
+  pub indicated-other : {hs hs′ ns ns′ cs cs′ ts ts′ : List ℕ} → (f ≡ 0 → ⊥) → (f ≡ 1 → ⊥) → (f ≡ 2 → ⊥) → (f ≡ 3 → ⊥)
+      → Responded (messageAnswer (afterIndicator f from l)) hs hs′ ns ns′ cs cs′ ts ts′ (outcome.Refusal badIndicator 0)
+  indicated-other a b c d = answered-no (indicator-other a b c d)
 
 -- ---- the whole input
 
-read-whole : (s : List ℕ) → length s ≤ binaryMost → readBinary s ≡ messageAnswer (message 0 s)
+read-whole : (s : List ℕ) → leb (length s) binaryMost ≡ true → readBinary s ≡ messageAnswer (message 0 s)
 unfolding readBinary
-read-whole s h = rw (le-leb (length s) binaryMost h)
+read-whole s h = rw h
 
 message-cut : (s : List ℕ) → readInt 0 (drop 0 s) ≡ Cut → message 0 s ≡ no cutOff 0
 unfolding message _>>=_
 message-cut s e = rw (integer-cut s 0 cutOff 0 e)
 
-message-framed : (s : List ℕ) {v next : ℕ} → readInt 0 (drop 0 s) ≡ Value v next → message 0 s ≡ behindIndicator v next (drop next s)
-unfolding message behindIndicator _>>=_
-message-framed s e = rw (integer-got s 0 cutOff 0 e)
+message-indicated : (s : List ℕ) {v next : ℕ} → readInt 0 (drop 0 s) ≡ Value v next → message 0 s ≡ afterIndicator v next (drop next s)
+unfolding message _>>=_
+message-indicated s e = rw (integer-got s 0 cutOff 0 e)
 
 module _ (s : List ℕ) {hs hs′ ns ns′ cs cs′ ts ts′ : List ℕ} where
   whole-as : {x : Answer Message} {r : Outcome} → readBinary s ≡ x → Responded x hs hs′ ns ns′ cs cs′ ts ts′ r → Responded (readBinary s) hs hs′ ns ns′ cs cs′ ts ts′ r
   whole-as {r = r} e h = subst (λ (z : Answer Message). Responded z hs hs′ ns ns′ cs cs′ ts ts′ r) (sym e) h
 
-  pub whole-large : binaryMost < length s → Responded (readBinary s) hs hs′ ns ns′ cs cs′ ts ts′ (outcome.Refusal tooLarge 0)
+  pub whole-large : leb (length s) binaryMost ≡ false → Responded (readBinary s) hs hs′ ns ns′ cs cs′ ts ts′ (outcome.Refusal tooLarge 0)
   unfolding readBinary
-  whole-large h = whole-as {x = refused tooLarge 0} (rw (lt-leb (length s) binaryMost h)) (record { says = refl; informational = tt })
+  whole-large h = whole-as {x = refused tooLarge 0} (rw h) (record { says = refl; informational = tt })
 
-  module _ (h : length s ≤ binaryMost) where
+  module _ (h : leb (length s) binaryMost ≡ true) where
     pub whole-cut : readInt 0 (drop 0 s) ≡ Cut → Responded (readBinary s) hs hs′ ns ns′ cs cs′ ts ts′ (outcome.Refusal cutOff 0)
     whole-cut e = whole-as (read-whole s h) (answered-no (message-cut s e))
 
-    pub whole-framed : {v next : ℕ} {r : Outcome} → readInt 0 (drop 0 s) ≡ Value v next
-        → Responded (messageAnswer (behindIndicator v next (drop next s))) hs hs′ ns ns′ cs cs′ ts ts′ r → Responded (readBinary s) hs hs′ ns ns′ cs cs′ ts ts′ r
-    whole-framed e w = whole-as (read-whole s h) (answered-as (message-framed s e) w)
+    pub whole-indicated : {v next : ℕ} {r : Outcome} → readInt 0 (drop 0 s) ≡ Value v next
+        → Responded (messageAnswer (afterIndicator v next (drop next s))) hs hs′ ns ns′ cs cs′ ts ts′ r → Responded (readBinary s) hs hs′ ns ns′ cs cs′ ts ts′ r
+    whole-indicated e w = whole-as (read-whole s h) (answered-as (message-indicated s e) w)
 
 pub binary-by-value : (s : List ℕ) {hs′ ns′ cs′ ts′ : List ℕ} {o : Outcome}
-    → Responded (readBinary s) (replicate 1280 0) hs′ (replicate 8 0) ns′ (replicate 512 0) cs′ (replicate 256 0) ts′ o
+    → Responded (readBinary s) (replicate headsRoom 0) hs′ (replicate informationalRoom 0) ns′ (replicate chunksRoom 0) cs′ (replicate sectionRoom 0) ts′ o
     → readingFrom o ns′ hs′ ts′ cs′ ≡ readingOf (readBinary s)
 binary-by-value s h = by-value s h (λ n m e. binary-sound s n m e .sound)

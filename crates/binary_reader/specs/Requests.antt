@@ -1,13 +1,13 @@
 -- What the code that reads requests promises, in terms of `requestMessage` (binary/specs/Read; 01, "Binary HTTP as we take it").
 use Prim.Native.Nat.{ℕ, _+_, _≤_}
 use mathlib.Core.Path.{_≡_}
-use mathlib.Core.Bool.{Bool, true, false}
+use mathlib.Core.Bool.{Bool, false}
 use mathlib.Core.List.{List, []}
 use lib.ListN.{length, drop}
 use Rattle.script.specs.Do.{Piece, piece, Judged, good, wrong}
-use Rattle.messages.specs.Message.{FieldRead, Section, requestStart, Message}
+use Rattle.messages.specs.Message.{FieldRead, Section, Message}
 use Rattle.messages.specs.Names.{kept}
-use Rattle.messages.specs.Answers.{partAt}
+use Rattle.messages.specs.Answers.{partAt, requestRecord}
 use Rattle.messages.specs.Notes.{notesOf, AllLie}
 use Rattle.messages.specs.Rules.{authorityIn, binaryFramingOf, mayState}
 use Rattle.messages.specs.declared.Framing.{Framing}
@@ -15,11 +15,12 @@ use Rattle.messages.specs.declared.Notes.{Notes}
 use Rattle.messages.specs.declared.Part.{Part}
 use Rattle.messages.specs.declared.Outcome.{Outcome}
 use Rattle.messages.specs.declared.Outcome.the-variants as outcome
-use Rattle.binary.specs.Reader.{Got, Reader, _>>=_, tell}
-use Rattle.binary.specs.Read.{RequestControl, section, afterHeaders, messageAnswer}
+use Rattle.binary.specs.Reader.{Got}
+use Rattle.binary.specs.Read.{RequestControl, afterHead, messageAnswer}
 use Rattle.ranges.specs.Ranges.{Responded}
 use Rattle.binary_parts.specs.Control.{pieceOf}
 use Rattle.binary_parts.specs.declared.Span.{Span}
+use Rattle.binary_reader.specs.Rest.{counted}
 use Rattle.binary_reader.specs.Whole.{MessageIs}
 use Rattle.binary_reader.specs.declared.HeadAnswer.{HeadAnswer}
 use Rattle.binary_reader.specs.declared.HeadAnswer.the-variants as head
@@ -56,44 +57,12 @@ abbrev pub partIs : Span → Part
 partIs a = partAt (a .start) (a .len)
 
 -- the outcome of a request of n octets, by its numbers
-abbrev pub requestOutcome : ℕ → ℕ → Span → Span → ℕ → ℕ → ℕ → RestRead → Outcome
-requestOutcome n scheme method path start len fields (rest-is.Done chunks total trailers) =
-    outcome.Message
-    (record {
-      response = false;
-      scheme = scheme;
-      method = partIs method;
-      authority = partAt start len;
-      path = partIs path;
-      informational = 0;
-      status = 0;
-      headers = fields;
-      chunks = chunks;
-      content = total;
-      trailers = trailers;
-      length = n;
-    })
-requestOutcome n scheme method path start len fields (rest-is.Refused k p) = outcome.Refusal k p
+abbrev pub requestOutcome : ℕ → ℕ → Span → Span → Span → ℕ → RestRead → Outcome
+requestOutcome n scheme method authority path fields (rest-is.Done chunks total trailers) =
+    outcome.Message (requestRecord scheme (partIs method) (partIs authority) (partIs path) (counted fields chunks total trailers n))
+requestOutcome n scheme method authority path fields (rest-is.Refused k p) = outcome.Refusal k p
 
 -- ---- behind the head
-
--- the control data of s that spans name
-abbrev pub controlIs : List ℕ → Span → ℕ → Span → Span → RequestControl
-controlIs s method scheme authority path =
-    record { method = pieceOf s method; scheme = scheme; authority = pieceOf s authority; path = pieceOf s path }
-
--- behind the header section of a request: its rules, then content, trailers and padding
-unfoldable pub behindHead : Bool → RequestControl → Section → Reader Message
-behindHead known q h = do
-  a ← tell (authorityIn (h .end) (q .authority) (h .lines))
-  f ← tell (mayState (h .end) (binaryFramingOf (h .lines)))
-  afterHeaders known true (requestStart (q .method) (q .scheme) a (q .path)) h f
-
--- behind the control data of a request: header section and all that follows
-unfoldable pub behindControl : Bool → RequestControl → Reader Message
-behindControl known q = do
-  h ← section known
-  behindHead known q h
 
 -- a header section that was read up to e, in the numbers that the code keeps of it
 pub record HeadFacts (s : List ℕ) (h : Section) (e k : ℕ) (n : Notes) : Type 0 where
@@ -104,7 +73,7 @@ pub record HeadFacts (s : List ℕ) (h : Section) (e k : ℕ) (n : Notes) : Type
 
 -- what stands behind any header section that was read up to a place
 pub record RequestRest (s : List ℕ) (known : Bool) (q : RequestControl) (end fields : ℕ) (notes : Notes) (cs cs′ ts ts′ : List ℕ) (r : Outcome) : Type 0 where
-  pub by : (h : Section) → HeadFacts s h end fields notes → MessageIs false [] (h .lines) (behindHead known q h end (drop end s)) cs cs′ ts ts′ r
+  pub by : (h : Section) → HeadFacts s h end fields notes → MessageIs false [] (h .lines) (afterHead known q h end (drop end s)) cs cs′ ts ts′ r
 
 -- ---- whole requests
 

@@ -8,13 +8,14 @@ use lib.Dec.{eqb}
 use lib.ListN.{length, drop}
 use Rattle.script.specs.Do.{Piece}
 use Rattle.output.specs.Splice.{splice}
-use Rattle.messages.specs.Message.{FieldRead, Section, Start, Message, plainMessage}
+use Rattle.messages.specs.Message.{FieldRead, Section, Start, Message}
 use Rattle.messages.specs.Names.{keptTrailers}
 use Rattle.messages.specs.Meaning.{contentOf}
 use Rattle.messages.specs.Answers.{fieldsNumbers, chunksNumbers}
+use Rattle.messages.specs.declared.Counts.{Counts}
 use Rattle.messages.specs.declared.Framing.{Framing}
-use Rattle.binary.specs.Reader.{Got, got, no, Reader, _>>=_, give}
-use Rattle.binary.specs.Read.{trailers, padding, afterHeaders}
+use Rattle.binary.specs.Reader.{Got, got, no}
+use Rattle.binary.specs.Read.{afterContent, afterHeaders}
 use Rattle.binary_parts.specs.Control.{GoesOn}
 use Rattle.binary_reader.specs.declared.TrailersRead.{TrailersRead}
 use Rattle.binary_reader.specs.declared.TrailersRead.the-variants as trailers-are
@@ -39,13 +40,6 @@ pub record Trailed (s : List ℕ) (x : Got (List FieldRead)) (o o′ : List ℕ)
 
 -- ---- all that stands behind a header section
 
--- behind the content: trailers and padding
-unfoldable pub behindContent : Bool → Bool → Start → List FieldRead → List Piece → Reader Message
-behindContent known body start lines c = do
-  ts ← trailers known body
-  z ← padding
-  give (plainMessage start lines c ts)
-
 -- a message that was read to the end of s behind its start and its header lines: the ranges of its chunks and kept trailers, and their numbers
 abbrev pub RestSays : List ℕ → Start → List FieldRead → Got Message → List ℕ → List ℕ → List ℕ → List ℕ → RestRead → Type 0
 RestSays s start lines (got m e l) cs cs′ ts ts′ r =
@@ -64,8 +58,12 @@ pub record RestIs (s : List ℕ) (start : Start) (lines : List FieldRead) (x : G
 -- what stands behind content of so many chunks and octets, whatever stands before it
 pub record Behind (s : List ℕ) (from : ℕ) (known body : Bool) (count total : ℕ) (ts ts′ : List ℕ) (r : RestRead) : Type 0 where
   pub by : (start : Start) (lines : List FieldRead) (c : List Piece) (cs cs′ : List ℕ) → length c ≡ count → length (contentOf c) ≡ total
-      → cs′ ≡ splice cs 0 (chunksNumbers c) → RestIs s start lines (behindContent known body start lines c from (drop from s)) cs cs′ ts ts′ r
+      → cs′ ≡ splice cs 0 (chunksNumbers c) → RestIs s start lines (afterContent known body start lines c from (drop from s)) cs cs′ ts ts′ r
 
 -- what stands behind any header section, in a message whose head states f
 pub record Rested (s : List ℕ) (from : ℕ) (known body : Bool) (f : Framing) (cs cs′ ts ts′ : List ℕ) (r : RestRead) : Type 0 where
   pub by : (start : Start) (h : Section) → RestIs s start (h .lines) (afterHeaders known body start h f from (drop from s)) cs cs′ ts ts′ r
+
+-- how much of a message of n octets was read
+abbrev pub counted : ℕ → ℕ → ℕ → ℕ → ℕ → Counts
+counted fields chunks total trailers n = record { headers = fields; chunks = chunks; content = total; trailers = trailers; length = n }

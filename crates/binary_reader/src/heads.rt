@@ -13,18 +13,18 @@ use octets::Limits;
 use octets::Refusals;
 use ranges::store;
 ghost use mathlib.Core.Path.{_≡_};
-ghost use mathlib.Core.List.{[]};
 ghost use Prim.Native.Nat.{suc, _+_, _*_, _≤_, _<_};
 ghost use lib.ListN.{length, drop};
 ghost use Rattle.ranges.specs.Ranges.{AnyHeads, FewHeads, SoManyHeads};
 ghost use Rattle.octets.specs.Table.{classes};
 ghost use Rattle.octets.specs.Limits.{informationalMost};
 ghost use Rattle.ranges.specs.Ranges.{placesEnd};
-ghost use Rattle.binary.specs.Read.{responseMessage};
-ghost use Rattle.binary_reader.specs.Heads.{informationalRest, finalRest, FinalStatus, Headed, HeadsTaken};
+ghost use Rattle.binary.specs.Read.{afterFinalStatus, afterInformationalStatus, heads, responseMessage};
+ghost use Rattle.binary_parts.specs.Room.{sectionRoom, headsRoom, informationalRoom};
+ghost use Rattle.binary_reader.specs.Heads.{FinalStatus, Headed, HeadsTaken};
 
-// The section of an informational head, behind its status that ends at `next`.
-fn informational_head(
+// What stands behind an informational status that ends at `next`: its section, which states no length.
+fn after_informational_status(
     t: &[u8; 256],
     s: &[u8],
     status: u32,
@@ -33,8 +33,9 @@ fn informational_head(
     base: usize,
     headers: &mut [u32],
 ) -> HeadRead
-    requires { ⌜ (now t ≡ classes) × (next ≤ length (now s)) × (length (now s) < placesEnd) × (base * 4 + 256 ≤ length (now headers)) ⌝ }
-    ensures { λ r. ⌜ Headed FewHeads (λ f is. informationalRest known f is status next (drop next (now (s .entry)))) known (now (s .entry)) base (now (headers .entry)) (now (headers .exit)) r ⌝ }
+    requires { ⌜ (now t ≡ classes) × (next ≤ length (now s)) × (length (now s) < placesEnd) × (base * 4 + sectionRoom ≤ length (now headers)) ⌝ }
+    ensures { λ r. ⌜ Headed FewHeads (λ f is. afterInformationalStatus known (heads known f) is status next (drop next (now (s .entry))))
+        known (now (s .entry)) base (now (headers .entry)) (now (headers .exit)) r ⌝ }
 {
     let h = read_section(t, s, next, known, true, base, headers);
     match h {
@@ -50,8 +51,8 @@ fn informational_head(
     }
 }
 
-// The section of a final head, behind its status that ends at `next`.
-fn final_head(
+// What stands behind a final status that ends at `next`: its section.
+fn after_final_status(
     t: &[u8; 256],
     s: &[u8],
     status: u32,
@@ -60,8 +61,9 @@ fn final_head(
     base: usize,
     headers: &mut [u32],
 ) -> HeadRead
-    requires { ⌜ (now t ≡ classes) × (next ≤ length (now s)) × (length (now s) < placesEnd) × (base * 4 + 256 ≤ length (now headers)) × FinalStatus status ⌝ }
-    ensures { λ r. ⌜ Headed AnyHeads (λ f is. finalRest known is status next (drop next (now (s .entry)))) known (now (s .entry)) base (now (headers .entry)) (now (headers .exit)) r ⌝ }
+    requires { ⌜ (now t ≡ classes) × (next ≤ length (now s)) × (length (now s) < placesEnd) × (base * 4 + sectionRoom ≤ length (now headers)) × FinalStatus status ⌝ }
+    ensures { λ r. ⌜ Headed AnyHeads (λ f is. afterFinalStatus known is status next (drop next (now (s .entry))))
+        known (now (s .entry)) base (now (headers .entry)) (now (headers .exit)) r ⌝ }
 {
     let h = read_section(t, s, next, known, true, base, headers);
     match h {
@@ -85,8 +87,9 @@ pub fn next_head(
     base: usize,
     headers: &mut [u32],
 ) -> HeadRead
-    requires { ⌜ (now t ≡ classes) × (length (now s) < placesEnd) × (base * 4 + 256 ≤ length (now headers)) ⌝ }
-    ensures { λ r. ⌜ Headed (SoManyHeads count) (λ f is. responseMessage known (suc f) is i (drop i (now (s .entry)))) known (now (s .entry)) base (now (headers .entry)) (now (headers .exit)) r ⌝ }
+    requires { ⌜ (now t ≡ classes) × (length (now s) < placesEnd) × (base * 4 + sectionRoom ≤ length (now headers)) × (count ≤ informationalMost) ⌝ }
+    ensures { λ r. ⌜ Headed (SoManyHeads count) (λ f is. heads known (suc f) is i (drop i (now (s .entry))))
+        known (now (s .entry)) base (now (headers .entry)) (now (headers .exit)) r ⌝ }
 {
     let n = read_int(s, i);
     let Integer::Value { value, next } = n else {
@@ -99,15 +102,15 @@ pub fn next_head(
     if v == 0 {
         let status = value as u32;
         if is_informational(value) {
-            if Limits::INFORMATIONAL <= count {
-                return HeadRead::Refused {
-                    number: Refusals::TOO_LARGE,
-                    place: i,
-                };
+            if Limits::fits(count + 1, Limits::INFORMATIONAL) {
+                return after_informational_status(t, s, status, next, known, base, headers);
             }
-            return informational_head(t, s, status, next, known, base, headers);
+            return HeadRead::Refused {
+                number: Refusals::TOO_LARGE,
+                place: i,
+            };
         } else {
-            return final_head(t, s, status, next, known, base, headers);
+            return after_final_status(t, s, status, next, known, base, headers);
         }
     } else {
         return HeadRead::Refused {
@@ -127,8 +130,10 @@ pub fn read_heads(
     headers: &mut [u32],
     informational: &mut [u32],
 ) -> HeadsRead
-    requires { ⌜ (now t ≡ classes) × (length (now s) < placesEnd) × (1280 ≤ length (now headers)) × (8 ≤ length (now informational)) ⌝ }
-    ensures { λ r. ⌜ HeadsTaken (responseMessage known (suc informationalMost) [] from (drop from (now (s .entry)))) known (now (s .entry)) (now (headers .entry)) (now (headers .exit)) (now (informational .entry)) (now (informational .exit)) r ⌝ }
+    requires { ⌜ (now t ≡ classes) × (length (now s) < placesEnd)
+        × (headsRoom ≤ length (now headers)) × (informationalRoom ≤ length (now informational)) ⌝ }
+    ensures { λ r. ⌜ HeadsTaken (responseMessage known from (drop from (now (s .entry)))) known (now (s .entry))
+        (now (headers .entry)) (now (headers .exit)) (now (informational .entry)) (now (informational .exit)) r ⌝ }
 {
     let mut i = from;
     let mut count: usize = 0;

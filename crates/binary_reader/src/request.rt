@@ -8,10 +8,11 @@ use binary_parts::Span;
 use binary_parts::control::request_control;
 use binary_parts::lines::read_section;
 use messages::Authority;
+use messages::Counts;
 use messages::Notes;
 use messages::Outcome;
 use messages::Part;
-use messages::Record;
+use messages::answers::request_record;
 use messages::sections::authority_in;
 use messages::sections::is_clashing;
 use octets::Refusals;
@@ -20,12 +21,14 @@ ghost use Prim.Native.Nat.{_+_, _≤_, _<_};
 ghost use lib.ListN.{length, drop};
 ghost use Rattle.octets.specs.Table.{classes};
 ghost use Rattle.ranges.specs.Ranges.{placesEnd};
-ghost use Rattle.binary.specs.Read.{requestMessage};
-ghost use Rattle.binary_reader.specs.Requests.{HeadJudged, requestOutcome, controlIs, RequestRest, behindControl, Requested};
+ghost use Rattle.binary.specs.Read.{afterControl, requestMessage};
+ghost use Rattle.binary_parts.specs.Room.{sectionRoom, chunksRoom};
+ghost use Rattle.binary_parts.specs.Control.{Inside, controlOf};
+ghost use Rattle.binary_reader.specs.Requests.{HeadJudged, partIs, requestOutcome, RequestRest, Requested};
 
 // A request's head that ends at `end`, of whose control data `authority` is: host, then length.
 fn judge_head(t: &[u8; 256], s: &[u8], authority: Span, end: usize, notes: Notes) -> HeadAnswer
-    requires { ⌜ (now t ≡ classes) × (authority .start + authority .len ≤ length (now s)) ⌝ }
+    requires { ⌜ (now t ≡ classes) × Inside (now s) authority ⌝ }
     ensures { λ r. ⌜ HeadJudged (now (s .entry)) authority end notes r ⌝ }
 {
     let hosts = notes.hosts;
@@ -48,54 +51,57 @@ fn judge_head(t: &[u8; 256], s: &[u8], authority: Span, end: usize, notes: Notes
     }
 }
 
+// The part that a span names.
+fn part_of(a: Span) -> Part
+    requires { ⌜ a .start + a .len < placesEnd ⌝ }
+    ensures { λ r. ⌜ r ≡ partIs a ⌝ }
+{
+    Part {
+        start: a.start as u32,
+        len: a.len as u32,
+    }
+}
+
 // The outcome of a request of n octets of which all was read.
 fn request_outcome(
     read: RestRead,
     n: usize,
     scheme: u32,
     method: Span,
+    authority: Span,
     path: Span,
-    start: usize,
-    len: usize,
     fields: usize,
 ) -> Outcome
-    requires { ⌜ (method .start + method .len < placesEnd) × (path .start + path .len < placesEnd) × (start + len < placesEnd) ⌝ }
-    ensures { λ r. ⌜ r ≡ requestOutcome n scheme method path start len fields read ⌝ }
+    requires { ⌜ (method .start + method .len < placesEnd) × (authority .start + authority .len < placesEnd) × (path .start + path .len < placesEnd) ⌝ }
+    ensures { λ r. ⌜ r ≡ requestOutcome n scheme method authority path fields read ⌝ }
 {
     match read {
-        RestRead::Refused { number, place } => Outcome::Refusal { number, place },
+        RestRead::Refused { number, place } => return Outcome::Refusal { number, place },
         RestRead::Done {
             chunks,
             total,
             trailers,
-        } => Outcome::Message(Record {
-            response: false,
-            scheme,
-            method: Part {
-                start: method.start as u32,
-                len: method.len as u32,
-            },
-            authority: Part {
-                start: start as u32,
-                len: len as u32,
-            },
-            path: Part {
-                start: path.start as u32,
-                len: path.len as u32,
-            },
-            informational: 0,
-            status: 0,
-            headers: fields,
-            chunks,
-            content: total,
-            trailers,
-            length: n,
-        }),
+        } => {
+            let counts = Counts {
+                headers: fields,
+                chunks,
+                content: total,
+                trailers,
+                length: n,
+            };
+            return Outcome::Message(request_record(
+                scheme,
+                part_of(method),
+                part_of(authority),
+                part_of(path),
+                counts,
+            ));
+        }
     }
 }
 
 // What stands behind a request's header section that ends at `end` and has `fields` kept fields: its rules, then content, trailers and padding.
-fn request_rest(
+fn after_head(
     t: &[u8; 256],
     s: &[u8],
     known: bool,
@@ -109,8 +115,11 @@ fn request_rest(
     chunks: &mut [u32],
     trailers: &mut [u32],
 ) -> Outcome
-    requires { ⌜ (now t ≡ classes) × (end ≤ length (now s)) × (length (now s) < placesEnd) × (method .start + method .len ≤ length (now s)) × (authority .start + authority .len ≤ length (now s)) × (path .start + path .len ≤ length (now s)) × (512 ≤ length (now chunks)) × (256 ≤ length (now trailers)) ⌝ }
-    ensures { λ r. ⌜ RequestRest (now (s .entry)) known (controlIs (now (s .entry)) method scheme authority path) end fields notes (now (chunks .entry)) (now (chunks .exit)) (now (trailers .entry)) (now (trailers .exit)) r ⌝ }
+    requires { ⌜ (now t ≡ classes) × (end ≤ length (now s)) × (length (now s) < placesEnd)
+        × Inside (now s) method × Inside (now s) authority × Inside (now s) path
+        × (chunksRoom ≤ length (now chunks)) × (sectionRoom ≤ length (now trailers)) ⌝ }
+    ensures { λ r. ⌜ RequestRest (now (s .entry)) known (controlOf (now (s .entry)) method scheme authority path) end fields notes
+        (now (chunks .entry)) (now (chunks .exit)) (now (trailers .entry)) (now (trailers .exit)) r ⌝ }
 {
     let f = notes.framing;
     let j = judge_head(t, s, authority, end, notes);
@@ -118,13 +127,14 @@ fn request_rest(
         HeadAnswer::Refused { number, place } => return Outcome::Refusal { number, place },
         HeadAnswer::Good { start, len } => {
             let c = after_headers(t, s, end, known, true, f, chunks, trailers);
-            return request_outcome(c, s.len(), scheme, method, path, start, len, fields);
+            let found = Span { start, len };
+            return request_outcome(c, s.len(), scheme, method, found, path, fields);
         }
     }
 }
 
 // What stands behind the control data of a request that end at `from`.
-fn request_head(
+fn after_control(
     t: &[u8; 256],
     s: &[u8],
     known: bool,
@@ -137,13 +147,16 @@ fn request_head(
     chunks: &mut [u32],
     trailers: &mut [u32],
 ) -> Outcome
-    requires { ⌜ (now t ≡ classes) × (from ≤ length (now s)) × (length (now s) < placesEnd) × (method .start + method .len ≤ length (now s)) × (authority .start + authority .len ≤ length (now s)) × (path .start + path .len ≤ length (now s)) × (256 ≤ length (now headers)) × (512 ≤ length (now chunks)) × (256 ≤ length (now trailers)) ⌝ }
-    ensures { λ r. ⌜ Requested (behindControl known (controlIs (now (s .entry)) method scheme authority path) from (drop from (now (s .entry)))) (now (headers .entry)) (now (headers .exit)) (now (chunks .entry)) (now (chunks .exit)) (now (trailers .entry)) (now (trailers .exit)) r ⌝ }
+    requires { ⌜ (now t ≡ classes) × (from ≤ length (now s)) × (length (now s) < placesEnd)
+        × Inside (now s) method × Inside (now s) authority × Inside (now s) path
+        × (sectionRoom ≤ length (now headers)) × (chunksRoom ≤ length (now chunks)) × (sectionRoom ≤ length (now trailers)) ⌝ }
+    ensures { λ r. ⌜ Requested (afterControl known (controlOf (now (s .entry)) method scheme authority path) from (drop from (now (s .entry))))
+        (now (headers .entry)) (now (headers .exit)) (now (chunks .entry)) (now (chunks .exit)) (now (trailers .entry)) (now (trailers .exit)) r ⌝ }
 {
     let h = read_section(t, s, from, known, false, 0, headers);
     match h {
         Section::Refused { number, place } => return Outcome::Refusal { number, place },
-        Section::Done { end, kept, notes } => return request_rest(
+        Section::Done { end, kept, notes } => return after_head(
             t,
             s,
             known,
@@ -170,8 +183,10 @@ pub fn request_in(
     chunks: &mut [u32],
     trailers: &mut [u32],
 ) -> Outcome
-    requires { ⌜ (now t ≡ classes) × (length (now s) < placesEnd) × (256 ≤ length (now headers)) × (512 ≤ length (now chunks)) × (256 ≤ length (now trailers)) ⌝ }
-    ensures { λ r. ⌜ Requested (requestMessage known from (drop from (now (s .entry)))) (now (headers .entry)) (now (headers .exit)) (now (chunks .entry)) (now (chunks .exit)) (now (trailers .entry)) (now (trailers .exit)) r ⌝ }
+    requires { ⌜ (now t ≡ classes) × (length (now s) < placesEnd)
+        × (sectionRoom ≤ length (now headers)) × (chunksRoom ≤ length (now chunks)) × (sectionRoom ≤ length (now trailers)) ⌝ }
+    ensures { λ r. ⌜ Requested (requestMessage known from (drop from (now (s .entry))))
+        (now (headers .entry)) (now (headers .exit)) (now (chunks .entry)) (now (chunks .exit)) (now (trailers .entry)) (now (trailers .exit)) r ⌝ }
 {
     let c = request_control(t, s, from);
     match c {
@@ -182,7 +197,7 @@ pub fn request_in(
             authority,
             path,
             end,
-        } => return request_head(
+        } => return after_control(
             t,
             s,
             known,

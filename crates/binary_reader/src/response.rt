@@ -5,23 +5,22 @@ use crate::RestRead;
 use crate::heads::read_heads;
 use crate::rest::after_headers;
 use messages::BodyAnswer;
+use messages::Counts;
 use messages::Framing;
 use messages::Notes;
 use messages::Outcome;
-use messages::Part;
-use messages::Record;
+use messages::answers::response_record;
 use messages::parts::is_bodyless;
 use messages::sections::is_clashing;
 use messages::sections::nothing_stated;
 use octets::Refusals;
 ghost use mathlib.Core.Path.{_≡_};
-ghost use mathlib.Core.List.{[]};
-ghost use Prim.Native.Nat.{suc, _≤_, _<_};
+ghost use Prim.Native.Nat.{_≤_, _<_};
 ghost use lib.ListN.{length, drop};
 ghost use Rattle.octets.specs.Table.{classes};
-ghost use Rattle.octets.specs.Limits.{informationalMost};
 ghost use Rattle.binary.specs.Read.{responseMessage, messageAnswer};
 ghost use Rattle.ranges.specs.Ranges.{placesEnd, Responded};
+ghost use Rattle.binary_parts.specs.Room.{sectionRoom, headsRoom, informationalRoom, chunksRoom};
 ghost use Rattle.binary_reader.specs.Responses.{FinalJudged, responseOutcome, FinalRead};
 
 // A final head that ends at `end`, by what it states.
@@ -50,25 +49,21 @@ fn response_outcome(read: RestRead, n: usize, status: u32, heads: usize, fields:
     ensures { λ r. ⌜ r ≡ responseOutcome n status heads fields read ⌝ }
 {
     match read {
-        RestRead::Refused { number, place } => Outcome::Refusal { number, place },
+        RestRead::Refused { number, place } => return Outcome::Refusal { number, place },
         RestRead::Done {
             chunks,
             total,
             trailers,
-        } => Outcome::Message(Record {
-            response: true,
-            scheme: 0,
-            method: Part { start: 0, len: 0 },
-            authority: Part { start: 0, len: 0 },
-            path: Part { start: 0, len: 0 },
-            informational: heads,
-            status,
-            headers: fields,
-            chunks,
-            content: total,
-            trailers,
-            length: n,
-        }),
+        } => {
+            let counts = Counts {
+                headers: fields,
+                chunks,
+                content: total,
+                trailers,
+                length: n,
+            };
+            return Outcome::Message(response_record(heads, status, counts));
+        }
     }
 }
 
@@ -85,8 +80,10 @@ fn after_final(
     chunks: &mut [u32],
     trailers: &mut [u32],
 ) -> Outcome
-    requires { ⌜ (now t ≡ classes) × (end ≤ length (now s)) × (length (now s) < placesEnd) × (512 ≤ length (now chunks)) × (256 ≤ length (now trailers)) ⌝ }
-    ensures { λ r. ⌜ FinalRead (now (s .entry)) known status end heads fields notes (now (chunks .entry)) (now (chunks .exit)) (now (trailers .entry)) (now (trailers .exit)) r ⌝ }
+    requires { ⌜ (now t ≡ classes) × (end ≤ length (now s)) × (length (now s) < placesEnd)
+        × (chunksRoom ≤ length (now chunks)) × (sectionRoom ≤ length (now trailers)) ⌝ }
+    ensures { λ r. ⌜ FinalRead (now (s .entry)) known status end heads fields notes
+        (now (chunks .entry)) (now (chunks .exit)) (now (trailers .entry)) (now (trailers .exit)) r ⌝ }
 {
     let f = notes.framing;
     let j = judge_final(status, f, end);
@@ -110,8 +107,12 @@ pub fn response_in(
     chunks: &mut [u32],
     trailers: &mut [u32],
 ) -> Outcome
-    requires { ⌜ (now t ≡ classes) × (length (now s) < placesEnd) × (1280 ≤ length (now headers)) × (8 ≤ length (now informational)) × (512 ≤ length (now chunks)) × (256 ≤ length (now trailers)) ⌝ }
-    ensures { λ r. ⌜ Responded (messageAnswer (responseMessage known (suc informationalMost) [] from (drop from (now (s .entry))))) (now (headers .entry)) (now (headers .exit)) (now (informational .entry)) (now (informational .exit)) (now (chunks .entry)) (now (chunks .exit)) (now (trailers .entry)) (now (trailers .exit)) r ⌝ }
+    requires { ⌜ (now t ≡ classes) × (length (now s) < placesEnd)
+        × (headsRoom ≤ length (now headers)) × (informationalRoom ≤ length (now informational))
+        × (chunksRoom ≤ length (now chunks)) × (sectionRoom ≤ length (now trailers)) ⌝ }
+    ensures { λ r. ⌜ Responded (messageAnswer (responseMessage known from (drop from (now (s .entry)))))
+        (now (headers .entry)) (now (headers .exit)) (now (informational .entry)) (now (informational .exit))
+        (now (chunks .entry)) (now (chunks .exit)) (now (trailers .entry)) (now (trailers .exit)) r ⌝ }
 {
     let h = read_heads(t, s, from, known, headers, informational);
     match h {

@@ -18,6 +18,7 @@ ghost use lib.ListN.{length, drop};
 ghost use Rattle.octets.specs.Table.{classes};
 ghost use Rattle.ranges.specs.Ranges.{placesEnd};
 ghost use Rattle.binary.specs.Read.{trailers};
+ghost use Rattle.binary_parts.specs.Room.{sectionRoom, chunksRoom};
 ghost use Rattle.binary_reader.specs.Rest.{trailersAgree, Trailed, Behind, Rested};
 
 // Whether a trailer section with `kept` kept lines may stand in a message that may have content or not.
@@ -42,7 +43,7 @@ fn read_trailers(
     body: bool,
     out: &mut [u32],
 ) -> TrailersRead
-    requires { ⌜ (now t ≡ classes) × (from ≤ length (now s)) × (length (now s) < placesEnd) × (256 ≤ length (now out)) ⌝ }
+    requires { ⌜ (now t ≡ classes) × (from ≤ length (now s)) × (length (now s) < placesEnd) × (sectionRoom ≤ length (now out)) ⌝ }
     ensures { λ r. ⌜ Trailed (now (s .entry)) (trailers known body from (drop from (now (s .entry)))) (now (out .entry)) (now (out .exit)) r ⌝ }
 {
     if s.len() <= from {
@@ -64,7 +65,7 @@ fn read_trailers(
 }
 
 // Trailers and padding from `from` on, behind content of `count` chunks and `total` octets.
-fn behind_content(
+fn after_content(
     t: &[u8; 256],
     s: &[u8],
     from: usize,
@@ -74,7 +75,7 @@ fn behind_content(
     total: usize,
     trailers: &mut [u32],
 ) -> RestRead
-    requires { ⌜ (now t ≡ classes) × (from ≤ length (now s)) × (length (now s) < placesEnd) × (256 ≤ length (now trailers)) ⌝ }
+    requires { ⌜ (now t ≡ classes) × (from ≤ length (now s)) × (length (now s) < placesEnd) × (sectionRoom ≤ length (now trailers)) ⌝ }
     ensures { λ r. ⌜ Behind (now (s .entry)) from known body count total (now (trailers .entry)) (now (trailers .exit)) r ⌝ }
 {
     let h = read_trailers(t, s, from, known, body, trailers);
@@ -109,8 +110,10 @@ pub fn after_headers(
     chunks: &mut [u32],
     trailers: &mut [u32],
 ) -> RestRead
-    requires { ⌜ (now t ≡ classes) × (from ≤ length (now s)) × (length (now s) < placesEnd) × (512 ≤ length (now chunks)) × (256 ≤ length (now trailers)) ⌝ }
-    ensures { λ r. ⌜ Rested (now (s .entry)) from known body framing (now (chunks .entry)) (now (chunks .exit)) (now (trailers .entry)) (now (trailers .exit)) r ⌝ }
+    requires { ⌜ (now t ≡ classes) × (from ≤ length (now s)) × (length (now s) < placesEnd)
+        × (chunksRoom ≤ length (now chunks)) × (sectionRoom ≤ length (now trailers)) ⌝ }
+    ensures { λ r. ⌜ Rested (now (s .entry)) from known body framing
+        (now (chunks .entry)) (now (chunks .exit)) (now (trailers .entry)) (now (trailers .exit)) r ⌝ }
 {
     let c = read_content(s, from, known, chunks);
     match c {
@@ -121,7 +124,7 @@ pub fn after_headers(
             total,
         } => {
             if content_agrees(framing, body, total) {
-                return behind_content(t, s, end, known, body, count, total, trailers);
+                return after_content(t, s, end, known, body, count, total, trailers);
             }
             return RestRead::Refused {
                 number: Refusals::BAD_LENGTH,

@@ -1,4 +1,4 @@
-// Whole messages, the framing first.
+// Whole messages, the framing indicator first.
 use crate::request::request_in;
 use crate::response::response_in;
 use messages::Outcome;
@@ -14,34 +14,38 @@ ghost use Prim.Native.Nat.{_≤_, _<_};
 ghost use lib.ListN.{length, drop};
 ghost use Rattle.octets.specs.Table.{classes};
 ghost use Rattle.messages.specs.Answers.{readingOf};
-ghost use Rattle.binary.specs.Read.{readBinary, messageAnswer};
+ghost use Rattle.binary.specs.Read.{afterIndicator, messageAnswer, readBinary};
 ghost use Rattle.ranges.specs.Ranges.{placesEnd, Responded};
-ghost use Rattle.binary_reader.specs.Whole.{behindIndicator};
+ghost use Rattle.binary_parts.specs.Room.{sectionRoom, headsRoom, informationalRoom, chunksRoom};
 
-// The message behind its framing, which ends at `from`.
-fn framed_in(
+// What stands behind the framing indicator, which ends at `from`.
+fn after_indicator(
     t: &[u8; 256],
     s: &[u8],
-    framing: usize,
+    indicator: usize,
     from: usize,
     headers: &mut [u32],
     informational: &mut [u32],
     chunks: &mut [u32],
     trailers: &mut [u32],
 ) -> Outcome
-    requires { ⌜ (now t ≡ classes) × (length (now s) < placesEnd) × (1280 ≤ length (now headers)) × (8 ≤ length (now informational)) × (512 ≤ length (now chunks)) × (256 ≤ length (now trailers)) ⌝ }
-    ensures { λ r. ⌜ Responded (messageAnswer (behindIndicator framing from (drop from (now (s .entry))))) (now (headers .entry)) (now (headers .exit)) (now (informational .entry)) (now (informational .exit)) (now (chunks .entry)) (now (chunks .exit)) (now (trailers .entry)) (now (trailers .exit)) r ⌝ }
+    requires { ⌜ (now t ≡ classes) × (length (now s) < placesEnd)
+        × (headsRoom ≤ length (now headers)) × (informationalRoom ≤ length (now informational))
+        × (chunksRoom ≤ length (now chunks)) × (sectionRoom ≤ length (now trailers)) ⌝ }
+    ensures { λ r. ⌜ Responded (messageAnswer (afterIndicator indicator from (drop from (now (s .entry)))))
+        (now (headers .entry)) (now (headers .exit)) (now (informational .entry)) (now (informational .exit))
+        (now (chunks .entry)) (now (chunks .exit)) (now (trailers .entry)) (now (trailers .exit)) r ⌝ }
 {
-    if framing == 0 {
+    if indicator == 0 {
         return request_in(t, s, from, true, headers, chunks, trailers);
     }
-    if framing == 1 {
+    if indicator == 1 {
         return response_in(t, s, from, true, headers, informational, chunks, trailers);
     }
-    if framing == 2 {
+    if indicator == 2 {
         return request_in(t, s, from, false, headers, chunks, trailers);
     }
-    if framing == 3 {
+    if indicator == 3 {
         return response_in(t, s, from, false, headers, informational, chunks, trailers);
     }
     Outcome::Refusal {
@@ -59,10 +63,14 @@ pub fn binary_in(
     chunks: &mut [u32],
     trailers: &mut [u32],
 ) -> Outcome
-    requires { ⌜ (now t ≡ classes) × (1280 ≤ length (now headers)) × (8 ≤ length (now informational)) × (512 ≤ length (now chunks)) × (256 ≤ length (now trailers)) ⌝ }
-    ensures { λ r. ⌜ Responded (readBinary (now (s .entry))) (now (headers .entry)) (now (headers .exit)) (now (informational .entry)) (now (informational .exit)) (now (chunks .entry)) (now (chunks .exit)) (now (trailers .entry)) (now (trailers .exit)) r ⌝ }
+    requires { ⌜ (now t ≡ classes)
+        × (headsRoom ≤ length (now headers)) × (informationalRoom ≤ length (now informational))
+        × (chunksRoom ≤ length (now chunks)) × (sectionRoom ≤ length (now trailers)) ⌝ }
+    ensures { λ r. ⌜ Responded (readBinary (now (s .entry)))
+        (now (headers .entry)) (now (headers .exit)) (now (informational .entry)) (now (informational .exit))
+        (now (chunks .entry)) (now (chunks .exit)) (now (trailers .entry)) (now (trailers .exit)) r ⌝ }
 {
-    if s.len() <= Limits::BINARY {
+    if Limits::fits(s.len(), Limits::BINARY) {
         let v = read_int(s, 0);
         let Integer::Value { value, next } = v else {
             return Outcome::Refusal {
@@ -70,7 +78,7 @@ pub fn binary_in(
                 place: 0,
             };
         };
-        return framed_in(t, s, value, next, headers, informational, chunks, trailers);
+        return after_indicator(t, s, value, next, headers, informational, chunks, trailers);
     }
     Outcome::Refusal {
         number: Refusals::TOO_LARGE,

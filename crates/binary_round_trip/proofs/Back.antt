@@ -19,7 +19,7 @@ use Rattle.messages.specs.Valid.{validControl, ofResponse, hasBody, valid}
 use Rattle.messages.proofs.Valid.{section-fields, response-ok, meaning-ok}
 use Rattle.messages.proofs.ValidLines.{content-back}
 use Rattle.binary.specs.Reader.{got, Reader, _>>=_, integer}
-use Rattle.binary.specs.Read.{message, readBinary}
+use Rattle.binary.specs.Read.{afterIndicator, message, readBinary}
 use Rattle.binary_writer.specs.Write.{counted, sectionBytes, schemeBytes, informationalBytes, controlBytes, binaryOf, binaryFits}
 use Rattle.binary_round_trip.specs.RoundTrip.{startOf, placedFrom, placedBinary, RoundTrip, RoundTripOfMeanings, Unique}
 use Rattle.binary_round_trip.proofs.Judgement.{Reads, reads-integer, reads-bind}
@@ -27,31 +27,31 @@ use Rattle.binary_round_trip.proofs.Lines.{both-fit}
 use Rattle.binary_round_trip.proofs.Keeping.{fields-back, heads-back}
 use Rattle.binary_round_trip.proofs.Messages.{TailOk, tailBytes, requestBytes, reads-request-message, reads-response}
 
--- ---- the framing
+-- ---- the framing indicator
 
-framing-length : (v : ℕ) → v < 64 → length (intBytes v) ≡ 1
+indicator-length : (v : ℕ) → v < 64 → length (intBytes v) ≡ 1
 unfolding intLen
-framing-length v h = int-length v ∙ rw (lt-ltb v 64 h)
+indicator-length v h = int-length v ∙ rw (lt-ltb v 64 h)
 
-reads-framing : {A : Type 0} (v : ℕ) (k : ℕ → Reader A) {y rest : List ℕ} {b : A} → v < 64 → Reads (k v) 1 y rest b
+reads-indicator : {A : Type 0} (v : ℕ) (k : ℕ → Reader A) {y rest : List ℕ} {b : A} → v < 64 → Reads (k v) 1 y rest b
     → Reads (integer cutOff 0 >>= k) 0 (intBytes v ++ y) rest b
-reads-framing v k {y} {rest} {b} h g =
-    let f = framing-length v h in
+reads-indicator v k {y} {rest} {b} h g =
+    let f = indicator-length v h in
     let e : 1 ≡ 0 + length (intBytes v) = omega arith in
     reads-bind k (reads-integer cutOff 0 0 v _ (omega arith)) (subst (λ (z : ℕ). Reads (k v) z y rest b) e g)
 
 -- ---- control data
 
--- what stands behind the framing, its parts grouped to the right
-abbrev behindIndicator : Control → List ℕ
-behindIndicator (request m s a p) = requestBytes m s a p
-behindIndicator (response hs s) = informationalBytes hs ++ intBytes s
+-- the control data behind the framing indicator, grouped to the right
+abbrev controlRest : Control → List ℕ
+controlRest (request m s a p) = requestBytes m s a p
+controlRest (response hs s) = informationalBytes hs ++ intBytes s
 
-abbrev framing : Control → ℕ
-framing (request m s a p) = 0
-framing (response hs s) = 1
+abbrev indicatorOf : Control → ℕ
+indicatorOf (request m s a p) = 0
+indicatorOf (response hs s) = 1
 
-control-bytes : (c : Control) → controlBytes c ≡ intBytes (framing c) ++ behindIndicator c
+control-bytes : (c : Control) → controlBytes c ≡ intBytes (indicatorOf c) ++ controlRest c
 unfolding controlBytes
 control-bytes (request m s a p) =
     rw (
@@ -61,31 +61,31 @@ control-bytes (request m s a p) =
     )
 control-bytes (response hs s) = append-assoc (intBytes 1) (informationalBytes hs) (intBytes s)
 
-framing-small : (c : Control) → framing c < 64
-framing-small (request m s a p) = lit< tt
-framing-small (response hs s) = lit< tt
+indicator-small : (c : Control) → indicatorOf c < 64
+indicator-small (request m s a p) = lit< tt
+indicator-small (response hs s) = lit< tt
 
-control-length : (c : Control) → 1 + length (behindIndicator c) ≡ length (controlBytes c)
+control-length : (c : Control) → 1 + length (controlRest c) ≡ length (controlBytes c)
 control-length c =
-    let l : length (intBytes (framing c) ++ behindIndicator c) ≡ length (intBytes (framing c)) + length (behindIndicator c) = length-append (intBytes (framing c)) (behindIndicator c) in
-    let f = framing-length (framing c) (framing-small c) in
+    let l : length (intBytes (indicatorOf c) ++ controlRest c) ≡ length (intBytes (indicatorOf c)) + length (controlRest c) = length-append (intBytes (indicatorOf c)) (controlRest c) in
+    let f = indicator-length (indicatorOf c) (indicator-small c) in
     rw (control-bytes c) (omega arith)
 
-control-back : (c : Control) (w : Meaning) → validControl c ≡ true → TailOk (ofResponse c) (hasBody c) w → length (behindIndicator c) ≤ binaryMost
-    → Reads message 0 (intBytes (framing c) ++ (behindIndicator c ++ tailBytes w)) [] (placedFrom (startOf c) (1 + length (behindIndicator c)) w)
-unfolding message startOf
-control-back (request m s a p) w v ok h = reads-framing 0 _ (lit< tt) (reads-request-message w m a p s 1 v ok)
+control-back : (c : Control) (w : Meaning) → validControl c ≡ true → TailOk (ofResponse c) (hasBody c) w → length (controlRest c) ≤ binaryMost
+    → Reads message 0 (intBytes (indicatorOf c) ++ (controlRest c ++ tailBytes w)) [] (placedFrom (startOf c) (1 + length (controlRest c)) w)
+unfolding message afterIndicator startOf
+control-back (request m s a p) w v ok h = reads-indicator 0 _ (lit< tt) (reads-request-message w m a p s 1 v ok)
 control-back (response hs s) w v ok h =
     let o = response-ok hs s v in
     let few = o .few in
     let b = both-fit (informationalBytes hs) (intBytes s) h in
     rw (append-assoc (informationalBytes hs) (intBytes s) (tailBytes w))
-    (reads-framing 1 _ (lit< tt)
+    (reads-indicator 1 _ (lit< tt)
     (reads-response w s (o .status) (o .late) ok hs (suc informationalMost) 1 [] (o .heads) (omega arith) (omega arith) (b .0)))
 
 -- ---- the message
 
-binary-bytes : (m : Meaning) → binaryOf m ≡ intBytes (framing (m .control)) ++ (behindIndicator (m .control) ++ tailBytes m)
+binary-bytes : (m : Meaning) → binaryOf m ≡ intBytes (indicatorOf (m .control)) ++ (controlRest (m .control) ++ tailBytes m)
 unfolding binaryOf
 binary-bytes m =
     let c : List ℕ = controlBytes (m .control) in
@@ -93,15 +93,15 @@ binary-bytes m =
     let b : List ℕ = counted (m .content) in
     let t : List ℕ = sectionBytes (m .trailers) in
     append-assoc (c ++ h) b t ∙ append-assoc c h (b ++ t) ∙ ap (λ (z : List ℕ). z ++ (h ++ (b ++ t))) (control-bytes (m .control))
-    ∙ append-assoc (intBytes (framing (m .control))) (behindIndicator (m .control)) (h ++ (b ++ t))
+    ∙ append-assoc (intBytes (indicatorOf (m .control))) (controlRest (m .control)) (h ++ (b ++ t))
 
 message-back : (m : Meaning) → valid m ≡ true → length (binaryOf m) ≤ binaryMost → Reads message 0 (binaryOf m) [] (placedBinary m)
 unfolding placedBinary
 message-back m v h =
     let o = meaning-ok m v in
-    let g : length (intBytes (framing (m .control)) ++ (behindIndicator (m .control) ++ tailBytes m)) ≤ binaryMost = rw (binary-bytes m) at h in
-    let f1 = both-fit (intBytes (framing (m .control))) (behindIndicator (m .control) ++ tailBytes m) g in
-    let f2 = both-fit (behindIndicator (m .control)) (tailBytes m) (f1 .1) in
+    let g : length (intBytes (indicatorOf (m .control)) ++ (controlRest (m .control) ++ tailBytes m)) ≤ binaryMost = rw (binary-bytes m) at h in
+    let f1 = both-fit (intBytes (indicatorOf (m .control))) (controlRest (m .control) ++ tailBytes m) g in
+    let f2 = both-fit (controlRest (m .control)) (tailBytes m) (f1 .1) in
     let f3 = both-fit (sectionBytes (m .headers)) (counted (m .content) ++ sectionBytes (m .trailers)) (f2 .1) in
     let f4 = both-fit (counted (m .content)) (sectionBytes (m .trailers)) (f3 .1) in
     let t : TailOk (ofResponse (m .control)) (hasBody (m .control)) m = record {

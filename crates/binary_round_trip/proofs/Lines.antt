@@ -19,7 +19,7 @@ use Rattle.messages.specs.Meaning.{Field}
 use Rattle.messages.specs.Valid.{validFields, validSection}
 use Rattle.messages.proofs.Valid.{FieldOk, first-ok}
 use Rattle.binary.specs.Reader.{Got, got}
-use Rattle.binary.specs.Read.{judgedLine, knownLine, knownLines, onBody, bodyLines, knownSection, section}
+use Rattle.binary.specs.Read.{judgedLine, afterNameLength, knownLine, knownLines, onBody, bodyLines, knownSection, section}
 use Rattle.binary_writer.specs.Write.{counted, fieldBytes, fieldsBytes, sectionBytes}
 use Rattle.binary_round_trip.specs.RoundTrip.{lineAt, linesAt, sectionAt}
 use Rattle.binary_round_trip.proofs.Judgement.{Reads, reads-none, reads-give, reads-here, reads-ended, reads-tell, reads-integer, reads-octets, reads-bind, before, behind, reads-as}
@@ -42,7 +42,7 @@ line-good host f p i j ok = rw (ok .name, ok .value)
 
 reads-line : (host : Bool) (f : Field) (at : ℕ) (rest : List ℕ) → FieldOk host f → length (fieldBytes f) ≤ binaryMost
     → Reads knownLine at (fieldBytes f) rest (lineAt at f)
-unfolding knownLine fieldBytes counted
+unfolding knownLine afterNameLength fieldBytes counted
 reads-line host f at rest ok h =
     let n : List ℕ = f .name in
     let v : List ℕ = f .value in
@@ -56,8 +56,9 @@ reads-line host f at rest ok h =
     (reads-bind _ (reads-integer badSection at at (length n) _ (omega arith))
     (rw (ok .some)
     (reads-bind _ (reads-octets badSection at _ n _)
+    (before _ (reads-here _ _)
     (reads-bind _ (reads-integer badSection at _ (length v) _ (omega arith))
-    (behind _ (reads-octets badSection at _ v rest) (reads-tell _ rest _ _ (line-good host f at _ _ ok))))))))
+    (behind _ (reads-octets badSection at _ v rest) (reads-tell _ rest _ _ (line-good host f at _ _ ok)))))))))
 
 -- ---- the lines of a section
 

@@ -26,7 +26,8 @@ use Rattle.messages.proofs.Verdicts.{status-rule}
 use Rattle.messages.proofs.Valid.{section-fields, head-ok, request-ok}
 use Rattle.messages.proofs.ValidLines.{content-back}
 use Rattle.binary.specs.Reader.{rule, integer}
-use Rattle.binary.specs.Read.{knownContent, content, contentRule, trailerRule, trailers, padding, afterHeaders, requestMessage, finalResponse, responseMessage}
+use Rattle.binary.specs.Read.{knownContent, content, contentRule, trailerRule, trailers, padding, afterContent, afterHeaders, afterHead, afterControl}
+use Rattle.binary.specs.Read.{requestMessage, afterFinal, afterFinalStatus, afterInformational, afterInformationalStatus, heads}
 use Rattle.binary_writer.specs.Write.{counted, fieldsBytes, sectionBytes, schemeBytes, informationalBytes}
 use Rattle.binary_round_trip.specs.RoundTrip.{countedAt, linesAt, sectionAt, headAt, headsAt, placedFrom}
 use Rattle.binary_round_trip.proofs.Judgement.{Reads, reads-none, reads-give, reads-here, reads-ended, reads-tell, reads-integer, reads-bind, before, behind, reads-as}
@@ -97,7 +98,7 @@ module _ (host body : Bool) (m : Meaning) (ok : TailOk host body m) where
   reads-after : (start : Start) (h : Section) (at : ℕ)
       → Reads (afterHeaders true body start h Unstated) at (counted (m .content) ++ sectionBytes (m .trailers)) []
       (plainMessage start (h .lines) (nonEmpty (countedAt at (m .content))) (sectionAt (at + length (counted (m .content))) (m .trailers)))
-  unfolding afterHeaders
+  unfolding afterHeaders afterContent
   reads-after start h at =
       let b = bodied body (m .content) (m .trailers) (ok .bodyRule) in
       reads-bind _ (reads-content at (m .content) _ (ok .content))
@@ -133,7 +134,7 @@ requestAt at m s a p =
 
 pub reads-request-message : (w : Meaning) (m a p : List ℕ) (s at : ℕ) → validControl (request m s a p) ≡ true → TailOk false true w
     → Reads (requestMessage true) at (requestBytes m s a p ++ tailBytes w) [] (placedFrom (requestAt at m s a p) (at + length (requestBytes m s a p)) w)
-unfolding requestMessage placedFrom
+unfolding requestMessage afterControl afterHead placedFrom
 reads-request-message w m a p s at v ok =
     reads-bind _ (reads-request m a p s at _ v)
     (reads-bind _ (reads-section false (w .headers) _ _ (ok .headers) (ok .headersFit))
@@ -143,8 +144,8 @@ reads-request-message w m a p s at v ok =
 -- ---- responses
 
 reads-final : (w : Meaning) (is : List InformationalRead) (n at : ℕ) (b : Bool) → isBodyless n ≡ b → TailOk true (not b) w
-    → Reads (finalResponse true is n) at (tailBytes w) [] (placedFrom (responseStart is n) at w)
-unfolding finalResponse placedFrom
+    → Reads (afterFinalStatus true is n) at (tailBytes w) [] (placedFrom (responseStart is n) at w)
+unfolding afterFinalStatus afterFinal placedFrom
 reads-final w is n at true e ok =
     reads-bind _ (reads-section true (w .headers) at _ (ok .headers) (ok .headersFit))
     (rw e (before _ (reads-tell _ _ _ _ (none-stated (w .headers) _ _ (ok .headers))) (reads-after true false w ok _ _ _)))
@@ -162,9 +163,9 @@ status-good n p e = rw e
 pub reads-response : (w : Meaning) (n : ℕ) → statusVerdict n ≡ 0 → isInformational n ≡ false → TailOk true (not (isBodyless n)) w
     → (hs : List Informational) (f at : ℕ) (is : List InformationalRead) → validHeads hs ≡ true → length hs < f
     → length is + length hs ≤ informationalMost → length (informationalBytes hs) ≤ binaryMost
-    → Reads (responseMessage true f is) at (informationalBytes hs ++ (intBytes n ++ tailBytes w)) []
+    → Reads (heads true f is) at (informationalBytes hs ++ (intBytes n ++ tailBytes w)) []
     (placedFrom (responseStart (is ++ headsAt at hs) n) (at + length (informationalBytes hs ++ intBytes n)) w)
-unfolding responseMessage informationalBytes headsAt
+unfolding heads afterInformationalStatus afterInformational informationalBytes headsAt
 reads-response w n e late ok [] zero at is v h g k = absurd (omega arith)
 reads-response w n e late ok (x ∷ hs) zero at is v h g k = absurd (omega arith)
 reads-response w n e late ok [] (suc f) at is v h g k =

@@ -20,7 +20,7 @@ use Rattle.messages.proofs.Verdicts.{method-rule, path-rule}
 use Rattle.messages.proofs.Valid.{request-ok}
 use Rattle.messages.specs.Meaning.{request}
 use Rattle.binary.specs.Reader.{rule}
-use Rattle.binary.specs.Read.{part, partWithin, ruledPart, schemeOf, schemePart, requestControl}
+use Rattle.binary.specs.Read.{part, partWithin, ruledPart, schemeOf, schemePart, afterScheme, requestControl}
 use Rattle.binary_writer.specs.Write.{counted, schemeBytes}
 use Rattle.binary_round_trip.specs.RoundTrip.{countedAt}
 use Rattle.binary_round_trip.proofs.Judgement.{Reads, reads-give, reads-here, reads-tell, reads-integer, reads-octets, reads-bind, before, behind}
@@ -73,7 +73,7 @@ pub reads-request : (m a p : List ℕ) (s at : ℕ) (rest : List ℕ) → validC
       authority = countedAt (at + length (counted m) + length (counted (schemeBytes s))) a;
       path = countedAt (at + length (counted m) + length (counted (schemeBytes s)) + length (counted a)) p;
     })
-unfolding requestControl
+unfolding requestControl afterScheme
 reads-request m a p s at rest v =
     let o = request-ok m a p s v in
     reads-bind _ (reads-ruled methodMost methodVerdict at m _ (method-rule m (o .method) .2) (lit< tt) (o .method))

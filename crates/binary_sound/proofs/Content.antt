@@ -19,7 +19,7 @@ use Rattle.messages.specs.Meaning.{fieldMeans, contentOf}
 use Rattle.messages.specs.Valid.{noFields, validBody}
 use Rattle.messages.specs.declared.Framing.{Framing}
 use Rattle.binary.specs.Reader.{no}
-use Rattle.binary.specs.Read.{knownContent, openChunks, content, contentRule, noLines, trailerRule, trailers, padding, afterHeaders}
+use Rattle.binary.specs.Read.{knownContent, openChunks, content, contentRule, noLines, trailerRule, trailers, padding, afterContent, afterHeaders}
 use Rattle.sound.proofs.Each.{content-snoc}
 use Rattle.sound.proofs.Parts.{ChunksAt, chunks-none, chunks-snoc, chunks-one}
 use Rattle.binary_sound.proofs.Judgement.{Stands, stands-on, Gets, Every, stops-give, every-refuse, every-here, stops-ended, every-tell, stops-if, every-integer, every-octets, stops-bind, stops-then}
@@ -131,7 +131,7 @@ pub record TailAt (s : List ℕ) (body : Bool) (f : Framing) (cs : List Piece) (
 pub every-after : {s : List ℕ} {e : ℕ} {P : ℕ → Message → Type 0} {at : ℕ} (known body : Bool) (start : Start) (h : Section) (f : Framing)
     → ((cs : List Piece) (ts : List FieldRead) → TailAt s body f cs ts → P e (plainMessage start (h .lines) cs ts))
     → Every s e P at (afterHeaders known body start h f)
-unfolding afterHeaders
+unfolding afterHeaders afterContent
 every-after {s} {e} {P} known body start h f k =
     stops-then _ (every-content known) λ i cs a.
     stops-bind _ (every-here (stops-bind _ (every-tell (contentRule body f _ cs) λ c q.

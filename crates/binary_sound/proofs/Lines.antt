@@ -1,7 +1,7 @@
 -- What field lines and sections give wherever they stand.
 use Prim.Native.Nat.{ℕ, zero, suc, _+_, _<_}
 use mathlib.Core.Path.{_≡_, refl, subst}
-use mathlib.Core.Bool.{Bool}
+use mathlib.Core.Bool.{Bool, true, false}
 use mathlib.Core.List.{List, [], _∷_, _++_, map}
 use native.Mathlib.Omega.{arith}
 use borrow.Author.Tests.{leb-false}
@@ -16,7 +16,7 @@ use Rattle.messages.specs.Message.{FieldRead}
 use Rattle.messages.specs.Control.{isLowerName, isTrimmedValue}
 use Rattle.messages.proofs.Verdicts.{name-rule}
 use Rattle.binary.specs.Reader.{Got, got, no}
-use Rattle.binary.specs.Read.{judgedLine, knownLine, knownLines, onBody, bodyLines, knownSection, openLine, openLines, section}
+use Rattle.binary.specs.Read.{judgedLine, knownLine, knownLines, onBody, bodyLines, knownSection, afterNameLength, openLines, section}
 use Rattle.sound.specs.Placed.{Each, Lying}
 use Rattle.sound.proofs.Each.{each-snoc}
 use Rattle.sound.proofs.Parts.{LineAt, SectionAt, section-none, section-snoc}
@@ -56,22 +56,19 @@ line-is s p n v f e x y =
     subst (LowerLine s) z made
 
 module _ {s : List ℕ} {e : ℕ} where
+  every-name : {at : ℕ} (known : Bool) (p a : ℕ) → Every s e (λ n f. LowerLine s f) at (afterNameLength known p a)
+  unfolding afterNameLength
+  every-name known p a =
+      stops-bind _ (every-octets a _ _ λ w l x.
+      stops-bind _ (every-here (stops-bind _ (every-integer _ _ λ j b.
+      stops-bind _ (every-octets b _ _ λ u k y.
+      every-tell (judgedLine p _ _) λ f q. line-is s p _ _ f q x y)))))
+
   every-known-line : {at : ℕ} → Every s e (λ n f. LowerLine s f) at knownLine
   unfolding knownLine
   every-known-line =
       stops-bind _ (every-here (stops-bind _ (every-integer _ _ λ i a.
-      stops-if (eqb a 0) (λ h. every-refuse) λ h.
-      stops-bind _ (every-octets a _ _ λ w l x.
-      stops-bind _ (every-integer _ _ λ j b.
-      stops-bind _ (every-octets b _ _ λ u k y.
-      every-tell (judgedLine _ _ _) λ f q. line-is s _ _ _ f q x y))))))
-
-  every-open-line : {at : ℕ} (p a : ℕ) → Every s e (λ n f. LowerLine s f) at (openLine p a)
-  unfolding openLine
-  every-open-line p a =
-      stops-bind _ (every-octets a _ _ λ w l x.
-      stops-then _ every-part λ i v y.
-      every-tell (judgedLine p _ v) λ f q. line-is s p _ v f q x y)
+      stops-if (eqb a 0) (λ h. every-refuse) λ h. every-name true _ a)))
 
   -- ---- sections
 
@@ -93,7 +90,7 @@ module _ {s : List ℕ} {e : ℕ} where
       stops-bind _ (every-here (stops-bind _ (every-integer _ _ λ i a.
       stops-if (eqb a 0) (λ t. stops-give h) λ t.
       stops-if (leb linesMost (length fs)) (λ u. every-refuse) λ u.
-      stops-then _ (every-open-line _ a) λ j x g.
+      stops-then _ (every-name false _ a) λ j x g.
       every-open-lines f (fs ++ x ∷ []) (lines-snoc s fs x h g (leb-false linesMost (length fs) u)))))
 
 -- the body is a part of the input: the lines inside it lie in the input, at their places there

@@ -14,7 +14,7 @@ use Rattle.octets.specs.Refusals.{notSupported}
 use Rattle.script.specs.Do.{Piece, good, wrong}
 use Rattle.messages.specs.Control.{methodVerdict, pathVerdict, authorityVerdict}
 use Rattle.messages.specs.Valid.{isScheme}
-use Rattle.binary.specs.Read.{part, partWithin, ruledPart, schemeOf, schemePart, RequestControl, requestControl}
+use Rattle.binary.specs.Read.{part, partWithin, ruledPart, schemeOf, schemePart, RequestControl, afterScheme, requestControl}
 use Rattle.sound.specs.Placed.{Lying}
 use Rattle.binary_sound.proofs.Judgement.{Every, stops-give, every-refuse, every-here, every-tell, every-rule, stops-if, every-integer, every-octets, stops-bind, stops-then}
 
@@ -63,7 +63,7 @@ module _ {s : List ℕ} {e : ℕ} where
   every-scheme = stops-bind _ (every-here (stops-then _ every-part λ i w g. every-tell (schemeOf (w .text) _) λ v q. scheme-is (w .text) _ v q))
 
   pub every-control : {at : ℕ} → Every s e (λ n q. ControlAt s q) at requestControl
-  unfolding requestControl
+  unfolding requestControl afterScheme
   every-control =
       stops-then _ (every-ruled methodMost methodVerdict) λ i m a.
       stops-then _ every-scheme λ j v b.

@@ -22,8 +22,10 @@ use Rattle.messages.specs.Rules.{authorityIn, binaryFramingOf, nothingStated, m
 use Rattle.messages.specs.declared.Framing.{Framing}
 use Rattle.messages.specs.declared.Framing.the-variants.{Unstated}
 use Rattle.binary.specs.Reader.{Got, got, no, Reader}
-use Rattle.binary.specs.Read.{part, partWithin, ruledPart, schemeOf, schemePart, requestControl, judgedLine, knownLine, knownLines, onBody, bodyLines, knownSection, openLine, openLines, section}
-use Rattle.binary.specs.Read.{knownContent, openChunks, content, contentRule, noLines, trailerRule, trailers, padding, afterHeaders, requestMessage, finalResponse, responseMessage, message, messageAnswer, readBinary}
+use Rattle.binary.specs.Read.{part, partWithin, ruledPart, schemeOf, schemePart, afterScheme, requestControl, judgedLine, cutNumber, cutPlace, afterNameLength, knownLine, knownLines, onBody, bodyLines, knownSection, openLines, section}
+use Rattle.binary.specs.Read.{knownContent, openChunks, content, contentRule, noLines, trailerRule, trailers, padding, afterContent, afterHeaders}
+use Rattle.binary.specs.Read.{afterHead, afterControl, requestMessage, afterFinal, afterFinalStatus, afterInformational, afterInformationalStatus, heads}
+use Rattle.binary.specs.Read.{afterIndicator, message, messageAnswer, readBinary}
 use Rattle.sound.specs.Placed.{Lying}
 use Rattle.sound.specs.Refusal.{Refusal}
 use Rattle.sound.proofs.Refusals.{Verdict, method-verdict, path-verdict, authority-verdict, status-verdict, not-good, Refuses, refusal, authority-judged, nothing-judged, may-judged}
@@ -54,6 +56,15 @@ module _ {s : List ℕ} where
 
   bad-section : {p : ℕ} → p ≤ length s → Refusal binaryLast s badSection p
   bad-section = at-place (lit≤ tt) (lit≤ tt)
+
+  -- of a line that is cut off in either kind of section
+  cut-name : (known : Bool) {p : ℕ} → p ≤ length s → Refusal binaryLast s (cutNumber known) p
+  cut-name true i = bad-section i
+  cut-name false i = cut-off i
+
+  cut-value : (known : Bool) {p q : ℕ} → p ≤ length s → q ≤ length s → Refusal binaryLast s (cutNumber known) (cutPlace known p q)
+  cut-value true i j = bad-section i
+  cut-value false i j = cut-off j
 
 -- ---- rules
 
@@ -127,7 +138,7 @@ module _ {s : List ℕ} {e : ℕ} where
       stops-tell (schemeOf (w .text) _) (scheme-judged s _ i (w .text)) λ x q. tt)
 
   stops-control : {at : ℕ} → Refusing s e (λ n q. Unit {0}) at requestControl
-  unfolding requestControl
+  unfolding requestControl afterScheme
   stops-control =
       stops-then _ (stops-ruled methodMost methodVerdict method-verdict) λ i m a.
       stops-then _ stops-scheme λ j v b.
@@ -137,16 +148,21 @@ module _ {s : List ℕ} {e : ℕ} where
 
   -- ---- sections
 
+  stops-name : {at : ℕ} (known : Bool) (p a : ℕ) → p ≤ length s → Refusing s e (λ n f. Unit {0}) at (afterNameLength known p a)
+  unfolding afterNameLength
+  stops-name known p a i =
+      stops-bind _ (stops-octets a _ _ (cut-name known i) λ w k y.
+      stops-bind _ (stops-here λ j.
+      stops-bind _ (stops-integer _ _ (cut-value known i j) λ l b.
+      stops-bind _ (stops-octets b _ _ (cut-value known i j) λ u m z.
+      stops-tell (judgedLine p _ _) (line-judged s p i _ _) λ x q. tt))))
+
   stops-known-line : {at : ℕ} → Refusing s e (λ n f. Unit {0}) at knownLine
   unfolding knownLine
   stops-known-line =
       stops-bind _ (stops-here λ p.
       stops-bind _ (stops-integer _ _ (bad-section p) λ j a.
-      stops-both (eqb a 0) (stops-refuse (bad-section p))
-      (stops-bind _ (stops-octets a _ _ (bad-section p) λ w k y.
-      stops-bind _ (stops-integer _ _ (bad-section p) λ l b.
-      stops-bind _ (stops-octets b _ _ (bad-section p) λ u m y.
-      stops-tell (judgedLine _ _ _) (line-judged s _ p _ _) λ x q. tt))))))
+      stops-both (eqb a 0) (stops-refuse (bad-section p)) (stops-name true _ a p)))
 
   stops-known-lines : (f : ℕ) {at : ℕ} (fs : List FieldRead) → Refusing s e (λ n h. Unit {0}) at (knownLines f fs)
   unfolding knownLines
@@ -159,13 +175,6 @@ module _ {s : List ℕ} {e : ℕ} where
       (stops-then _ stops-known-line λ j x z.
       stops-known-lines f (fs ++ x ∷ [])))))
 
-  stops-open-line : {at : ℕ} (p a : ℕ) → p ≤ length s → Refusing s e (λ n f. Unit {0}) at (openLine p a)
-  unfolding openLine
-  stops-open-line p a i =
-      stops-bind _ (stops-octets a _ _ (cut-off i) λ w k y.
-      stops-then _ stops-part λ j v z.
-      stops-tell (judgedLine p _ v) (line-judged s p i _ v) λ x q. tt)
-
   stops-open-lines : (f : ℕ) {at : ℕ} (fs : List FieldRead) → Refusing s e (λ n h. Unit {0}) at (openLines f fs)
   unfolding openLines
   stops-open-lines zero fs = stops-refuse (too-large (omega arith))
@@ -174,7 +183,7 @@ module _ {s : List ℕ} {e : ℕ} where
       stops-bind _ (stops-integer _ _ (cut-off p) λ j a.
       stops-both (eqb a 0) (stops-give tt)
       (stops-both (leb linesMost (length fs)) (stops-refuse (too-large p))
-      (stops-then _ (stops-open-line _ a p) λ k x z.
+      (stops-then _ (stops-name false _ a p) λ k x z.
       stops-open-lines f (fs ++ x ∷ [])))))
 
 -- the body is a part of the input: places inside it are places of the input
@@ -244,7 +253,7 @@ module _ {s : List ℕ} {e : ℕ} where
   stops-padding {at} = record { go = λ l y. padded s e at l y }
 
   stops-after : {at : ℕ} (known body : Bool) (start : Start) (h : Section) (f : Framing) → Refusing s e (λ n m. Unit {0}) at (afterHeaders known body start h f)
-  unfolding afterHeaders
+  unfolding afterHeaders afterContent
   stops-after known body start h f =
       stops-then _ (stops-content known) λ i cs z.
       stops-bind _ (stops-here λ j.
@@ -256,7 +265,7 @@ module _ {s : List ℕ} {e : ℕ} where
   -- ---- whole messages
 
   stops-request : {at : ℕ} (known : Bool) → Refusing s e (λ n m. Unit {0}) at (requestMessage known)
-  unfolding requestMessage
+  unfolding requestMessage afterControl afterHead
   stops-request known =
       stops-then _ stops-control λ i q z.
       stops-then _ (stops-section known) λ j h g.
@@ -264,8 +273,8 @@ module _ {s : List ℕ} {e : ℕ} where
       stops-bind _ (stops-tell (mayState (h .end) (binaryFramingOf (h .lines))) (may-judged binaryLast s wide (h .end) g (binaryFramingOf (h .lines))) λ f q.
       stops-after known true _ h f))
 
-  stops-final : {at : ℕ} (known : Bool) (hs : List InformationalRead) (n : ℕ) → Refusing s e (λ i m. Unit {0}) at (finalResponse known hs n)
-  unfolding finalResponse
+  stops-final : {at : ℕ} (known : Bool) (hs : List InformationalRead) (n : ℕ) → Refusing s e (λ i m. Unit {0}) at (afterFinalStatus known hs n)
+  unfolding afterFinalStatus afterFinal
   stops-final known hs n =
       stops-then _ (stops-section known) λ j h g.
       stops-both (isBodyless n)
@@ -274,8 +283,8 @@ module _ {s : List ℕ} {e : ℕ} where
       (stops-bind _ (stops-tell (mayState (h .end) (binaryFramingOf (h .lines))) (may-judged binaryLast s wide (h .end) g (binaryFramingOf (h .lines))) λ f q.
       stops-after known true _ h f))
 
-  stops-response : (f : ℕ) {at : ℕ} (known : Bool) (hs : List InformationalRead) → Refusing s e (λ i m. Unit {0}) at (responseMessage known f hs)
-  unfolding responseMessage
+  stops-response : (f : ℕ) {at : ℕ} (known : Bool) (hs : List InformationalRead) → Refusing s e (λ i m. Unit {0}) at (heads known f hs)
+  unfolding heads afterInformationalStatus afterInformational
   stops-response zero known hs = stops-refuse (too-large (omega arith))
   stops-response (suc f) known hs =
       stops-bind _ (stops-here λ p.
@@ -289,14 +298,13 @@ module _ {s : List ℕ} {e : ℕ} where
       (stops-final known hs v))))
 
   stops-message : {at : ℕ} → Refusing s e (λ n m. Unit {0}) at message
-  unfolding message
+  unfolding message afterIndicator
   stops-message =
       stops-bind _ (stops-integer _ _ (cut-off (omega arith)) λ i f.
-      stops-both (leb f 3)
-      (stops-both (eqb f 0) (stops-request true)
+      stops-both (eqb f 0) (stops-request true)
       (stops-both (eqb f 1) (stops-response (suc informationalMost) true [])
-      (stops-both (eqb f 2) (stops-request false) (stops-response (suc informationalMost) false []))))
-      (stops-refuse (at-place (lit≤ tt) (lit≤ tt) (omega arith))))
+      (stops-both (eqb f 2) (stops-request false)
+      (stops-both (eqb f 3) (stops-response (suc informationalMost) false []) (stops-refuse (at-place (lit≤ tt) (lit≤ tt) (omega arith)))))))
 
 pub binary-refused : BinaryRefused
 unfolding readBinary

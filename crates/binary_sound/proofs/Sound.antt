@@ -27,7 +27,8 @@ use Rattle.messages.proofs.Verdicts.{host-made}
 use Rattle.messages.proofs.Valid.{host-ok}
 use Rattle.numbers.specs.Integer.{readInt}
 use Rattle.binary.specs.Reader.{Got, got, no, _>>=_, integer}
-use Rattle.binary.specs.Read.{RequestControl, requestMessage, finalResponse, responseMessage, message, messageAnswer, readBinary}
+use Rattle.binary.specs.Read.{RequestControl, afterHead, afterControl, requestMessage, afterFinal, afterFinalStatus, afterInformational}
+use Rattle.binary.specs.Read.{afterInformationalStatus, heads, afterIndicator, message, messageAnswer, readBinary}
 use Rattle.sound.specs.Placed.{Each, Lying}
 use Rattle.sound.specs.Sound.{LengthAgrees}
 use Rattle.sound.proofs.Each.{each-snoc}
@@ -147,7 +148,7 @@ response-at s hs n h body f cs ts a v i l b g u t = record {
 
 module _ {s : List ℕ} {e : ℕ} where
   every-request : {at : ℕ} (known : Bool) → Every s e (λ n m. MessageAt s m × (n ≡ e)) at (requestMessage known)
-  unfolding requestMessage
+  unfolding requestMessage afterControl afterHead
   every-request known =
       stops-then _ every-control λ i q c.
       stops-then _ (every-section known) λ j h l.
@@ -157,8 +158,8 @@ module _ {s : List ℕ} {e : ℕ} where
       every-after known true _ h f λ cs ts t. (request-at s q h a f cs ts c l o (may-state (h .end) _ f g) t, refl)))
 
   every-final : {at : ℕ} (known : Bool) (hs : List InformationalRead) (n : ℕ) → HeadsIn s hs → statusVerdict n ≡ 0 → isInformational n ≡ false
-      → Every s e (λ i m. MessageAt s m × (i ≡ e)) at (finalResponse known hs n)
-  unfolding finalResponse
+      → Every s e (λ i m. MessageAt s m × (i ≡ e)) at (afterFinalStatus known hs n)
+  unfolding afterFinalStatus afterFinal
   every-final known hs n a v i =
       stops-then _ (every-section known) λ j h l.
       stops-if (isBodyless n)
@@ -171,8 +172,8 @@ module _ {s : List ℕ} {e : ℕ} where
       every-after known true _ h f λ cs ts t. (response-at s hs n h true f cs ts a v i l (rw b) (may-state (h .end) _ f g) (λ z. cc) t, refl)))
 
   every-response : (f : ℕ) {at : ℕ} (known : Bool) (hs : List InformationalRead) → HeadsIn s hs
-      → Every s e (λ i m. MessageAt s m × (i ≡ e)) at (responseMessage known f hs)
-  unfolding responseMessage
+      → Every s e (λ i m. MessageAt s m × (i ≡ e)) at (heads known f hs)
+  unfolding heads afterInformationalStatus afterInformational
   every-response zero known hs a = every-refuse
   every-response (suc f) known hs a =
       stops-bind _ (every-here (stops-bind _ (every-integer _ _ λ i n.
@@ -186,16 +187,14 @@ module _ {s : List ℕ} {e : ℕ} where
       (λ b. every-final known hs n a v b)))))
 
   every-message : {at : ℕ} → Every s e (λ n m. MessageAt s m × (n ≡ e)) at message
-  unfolding message
+  unfolding message afterIndicator
   every-message =
       let a : HeadsIn s [] = record { heads = heads-none s; lower = tt; unstated = tt } in
       stops-bind _ (every-integer _ _ λ i f.
-      stops-if (leb f 3)
-      (λ t.
       stops-if (eqb f 0) (λ u. every-request true) λ u.
       stops-if (eqb f 1) (λ v. every-response (suc informationalMost) true [] a) λ v.
-      stops-if (eqb f 2) (λ w. every-request false) (λ w. every-response (suc informationalMost) false [] a))
-      (λ t. every-refuse))
+      stops-if (eqb f 2) (λ w. every-request false) λ w.
+      stops-if (eqb f 3) (λ t. every-response (suc informationalMost) false [] a) λ t. every-refuse)
 
 -- the framing is an integer: an input without octets is cut off
 not-none : (n : ℕ) (m : Message) → readBinary [] ≡ accepted n m → ⊥

@@ -1,56 +1,43 @@
+use borrow.Author.Needs.{needs}
 use native.Mathlib.Omega.{arith}
 use mathlib.Core.Path.{refl}
 use Rattle.binary_parts.proofs.Places.{part-got}
 use Rattle.binary_parts.proofs.Contents.{known-no, known-none, known-one}
-use borrow.Author.Needs.{needs}
 use Rattle.binary_parts.proofs.content.known_content.Statement.{statement}
 use Rattle.binary_parts.proofs.content.known_content.Tie as tie
 use Rattle.binary_parts.proofs.content.known_content.Reads as reads
 use Rattle.binary_parts.proofs.content.known_content.Lts as lts
-use Rattle.ranges.proofs.store.Reads as store-reads
-use Rattle.binary_parts.proofs.control.part_within.Reads as part-within-reads
 
--- src/content.rt:109:9
 part-within-requires : tie.Need-part-within-requires
 part-within-requires c κs = search needs
 
--- src/content.rt:111:29
 enum-known-w : tie.Need-enum-known-w
 enum-known-w c = search needs
 
--- src/content.rt:111:48
 returns : tie.Need-returns
 returns c = known-no (c .before .before .before .before .before .before .args .s .now) (c .before .before .before .before .before .before .args .from) (c .before .before .before .part-within .ensures) (c .before .w .given .1)
 
--- src/content.rt:112:24
 enum-known-w-2 : tie.Need-enum-known-w-2
 enum-known-w-2 c = search needs
 
--- src/content.rt:113:23
 add-end : tie.Need-add-end
 add-end c = omega (arith, part-got (c .before .before .before .part-within .ensures) (c .before .w2 .given .1) .1)
 
--- src/content.rt:115:17
 returns-2 : tie.Need-returns-2
 returns-2 c = known-none (c .before .before .before .before .before .before .before .args .s .now) (c .before .before .before .before .before .before .before .args .from) (c .before .before .before .before .part-within .ensures) (c .before .before .w2 .given .1) (c .if1 .taken) refl
 
--- src/content.rt:121:27
 cast-store : tie.Need-cast-store
 cast-store c = omega (arith, part-got (c .before .before .before .before .before .part-within .ensures) (c .before .before .before .w2 .given .1) .1, c .before .before .before .before .before .before .before .before .pre .0)
 
--- src/content.rt:121:41
 cast-store-2 : tie.Need-cast-store-2
 cast-store-2 c = omega (arith, part-got (c .before .before .before .before .before .part-within .ensures) (c .before .before .before .w2 .given .1) .1, c .before .before .before .before .before .before .before .before .pre .0)
 
--- src/content.rt:121:13
 store-requires : tie.Need-store-requires
-store-requires c κs = search needs
+store-requires c κs = omega (arith, c .before .before .before .before .before .before .before .before .pre .1)
 
--- src/content.rt:122:13
 same-length : tie.Need-same-length
 same-length c = search needs
 
--- src/content.rt:122:13
 returns-3 : tie.Need-returns-3
 returns-3 c = known-one (c .before .before .before .before .before .before .before .before .before .before .before .args .s .now) (c .before .before .before .before .before .before .before .before .before .before .before .args .from) (c .before .before .before .before .before .before .before .before .part-within .ensures) (c .before .before .before .before .before .before .w2 .given .1) (c .before .before .before .before .if1 .left) (c .before .before .store .ensures)
 

@@ -32,7 +32,7 @@ loop-holds c = ([], refl, omega arith, refl, omega arith, c .before .before .pre
 
 -- src/content.rt:85:13
 open-chunk-requires : tie.Need-open-chunk-requires Inv-loop μ-loop
-open-chunk-requires c κs = c .loop .inv .4
+open-chunk-requires c κs = (c .loop .inv .4, c .loop .inv .2)
 
 -- src/content.rt:87:34
 enum-known-c : tie.Need-enum-known-c Inv-loop μ-loop

@@ -1,59 +1,45 @@
+use borrow.Author.Needs.{needs}
 use native.Mathlib.Omega.{arith}
 use Rattle.binary_parts.proofs.Places.{part-got}
 use Rattle.binary_parts.proofs.Judged.{schemed-got}
 use Rattle.binary_parts.proofs.Controls.{method-no, scheme-bad, behind-scheme}
-use borrow.Author.Needs.{needs}
 use Rattle.binary_parts.proofs.control.request_control.Statement.{statement}
 use Rattle.binary_parts.proofs.control.request_control.Tie as tie
 use Rattle.binary_parts.proofs.control.request_control.Reads as reads
 use Rattle.binary_parts.proofs.control.request_control.Lts as lts
-use Rattle.binary_parts.proofs.control.control_rest.Reads as control-rest-reads
-use Rattle.binary_parts.proofs.control.ruled_part.Reads as ruled-part-reads
-use Rattle.binary_parts.proofs.control.scheme_part.Reads as scheme-part-reads
 
--- src/control.rt:170:9
 ruled-part-requires : tie.Need-ruled-part-requires
-ruled-part-requires c κs = search needs
+ruled-part-requires c κs = (c .before .pre)
 
--- src/control.rt:172:29
 enum-known-m : tie.Need-enum-known-m
 enum-known-m c = search needs
 
--- src/control.rt:172:48
 returns : tie.Need-returns
 returns c = method-no (c .before .before .before .before .before .args .s .now) _ (c .before .before .before .ruled-part .ensures) (c .before .m .given .1)
 
--- src/control.rt:173:24
 enum-known-m-2 : tie.Need-enum-known-m-2
 enum-known-m-2 c = search needs
 
--- src/control.rt:174:36
 add-scheme-part : tie.Need-add-scheme-part
 add-scheme-part c = omega (arith, part-got (c .before .before .before .ruled-part .ensures) (c .before .m2 .given .1) .1)
 
--- src/control.rt:174:17
 scheme-part-requires : tie.Need-scheme-part-requires
 scheme-part-requires c κs = search needs
 
--- src/control.rt:176:39
 enum-known-c : tie.Need-enum-known-c
 enum-known-c c = search needs
 
--- src/control.rt:176:58
 returns-2 : tie.Need-returns-2
 returns-2 c = scheme-bad (c .before .before .before .before .before .before .before .before .before .args .s .now) _ (c .before .before .before .before .before .before .before .ruled-part .ensures) (c .before .before .before .before .before .m2 .given .1) (c .before .before .before .scheme-part .ensures) (c .before .c .given .1)
 
--- src/control.rt:180:34
 enum-known-c-2 : tie.Need-enum-known-c-2
 enum-known-c-2 c = search needs
 
--- src/control.rt:180:51
-control-rest-requires : tie.Need-control-rest-requires
-control-rest-requires c κs = (c .before .before .before .before .before .before .before .before .before .pre, part-got (c .before .before .before .before .before .before .before .ruled-part .ensures) (c .before .before .before .before .before .m2 .given .1) .1, schemed-got (c .before .before .before .scheme-part .ensures) (c .before .c2 .given .1) .1)
+after-scheme-requires : tie.Need-after-scheme-requires
+after-scheme-requires c κs = (c .before .before .before .before .before .before .before .before .before .pre, part-got (c .before .before .before .before .before .before .before .ruled-part .ensures) (c .before .before .before .before .before .m2 .given .1) .1, schemed-got (c .before .before .before .scheme-part .ensures) (c .before .c2 .given .1) .1)
 
--- src/control.rt:180:51
 returns-3 : tie.Need-returns-3
-returns-3 c = behind-scheme (c .before .before .before .before .before .before .before .before .before .before .args .s .now) _ (c .before .before .before .before .before .before .before .before .ruled-part .ensures) (c .before .before .before .before .before .before .m2 .given .1) (c .before .before .before .before .scheme-part .ensures) (c .before .before .c2 .given .1) (c .control-rest .ensures)
+returns-3 c = behind-scheme (c .before .before .before .before .before .before .before .before .before .before .args .s .now) _ (c .before .before .before .before .before .before .before .before .ruled-part .ensures) (c .before .before .before .before .before .before .m2 .given .1) (c .before .before .before .before .scheme-part .ensures) (c .before .before .c2 .given .1) (c .after-scheme .ensures)
 
 pub request-control-spec : {M : Type 1} → statement M
 request-control-spec =
@@ -68,5 +54,5 @@ request-control-spec =
     enum-known-c
     returns-2
     enum-known-c-2
-    control-rest-requires
+    after-scheme-requires
     returns-3)

@@ -7,7 +7,7 @@ use Rattle.binary_parts.proofs.control.ruled_part.Tie as tie
 use Rattle.binary_parts.proofs.control.ruled_part.Reads as reads
 use Rattle.binary_parts.proofs.control.ruled_part.Lts as lts
 use Rattle.binary_parts.proofs.control.most_of.Reads as most-of-reads
-use Rattle.binary_parts.proofs.control.part_within.Reads as part-within-reads
+use Rattle.binary_parts.proofs.parts.part_within.Reads as part-within-reads
 use Rattle.binary_parts.proofs.control.verdict_of.Reads as verdict-of-reads
 
 -- src/control.rt:99:9

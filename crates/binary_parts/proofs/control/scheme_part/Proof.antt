@@ -8,7 +8,7 @@ use Rattle.binary_parts.proofs.control.scheme_part.Tie as tie
 use Rattle.binary_parts.proofs.control.scheme_part.Reads as reads
 use Rattle.binary_parts.proofs.control.scheme_part.Lts as lts
 use Rattle.octets.proofs.equal.Reads as equal-reads
-use Rattle.binary_parts.proofs.control.part_at.Reads as part-at-reads
+use Rattle.binary_parts.proofs.parts.part_at.Reads as part-at-reads
 
 -- src/control.rt:119:9
 part-at-requires : tie.Need-part-at-requires

@@ -1,52 +1,41 @@
+use borrow.Author.Needs.{needs}
 use native.Mathlib.Omega.{arith}
 use mathlib.Core.Path.{_≡_, refl, sym, ap, _∙_}
 use lib.ListN.{length, take, drop}
 use Rattle.numbers.proofs.IntegerLaws.{int-within}
 use Rattle.binary_parts.proofs.Rest.{lined-as, lined-no}
 use Rattle.binary_parts.proofs.Turns.{known-cut, known-none, known-rest}
-use borrow.Author.Needs.{needs}
 use Rattle.binary_parts.proofs.lines.known_line.Statement.{statement}
 use Rattle.binary_parts.proofs.lines.known_line.Tie as tie
 use Rattle.binary_parts.proofs.lines.known_line.Reads as reads
 use Rattle.binary_parts.proofs.lines.known_line.Lts as lts
-use Rattle.numbers.proofs.read_int.Reads as read-int-reads
-use Rattle.binary_parts.proofs.lines.rest_line.Reads as rest-line-reads
 
--- src/lines.rt:155:13
 add-p : tie.Need-add-p
 add-p c = search needs
 
--- src/lines.rt:156:45
 read-int-requires : tie.Need-read-int-requires
 read-int-requires c κs = search needs
 
--- src/lines.rt:156:33
 enum-known-n : tie.Need-enum-known-n
 enum-known-n c = search needs
 
--- src/lines.rt:157:9
 enum-told : tie.Need-enum-told
 enum-told c = search needs
 
--- src/lines.rt:157:9
 returns : tie.Need-returns
 returns c = lined-no (known-cut _ (c .before .before .before .before .before .args .s .now) _ (sym (c .before .before .read-int .ensures .0) ∙ c .enum-told .given .1)) refl
 
--- src/lines.rt:163:9
 returns-2 : tie.Need-returns-2
 returns-2 c = lined-no (known-none _ (c .before .before .before .before .before .before .before .args .s .now) _ (sym (c .before .before .before .before .read-int .ensures .0) ∙ c .before .before .n .given .1) (c .if1 .taken)) refl
 
--- src/lines.rt:168:5
-rest-line-requires : tie.Need-rest-line-requires
-rest-line-requires c κs = (c .before .before .before .before .before .before .before .before .pre .0, omega (arith, int-within (c .before .before .before .before .before .before .before .before .args .s .now) (c .before .before .before .before .before .before .before .before .args .at) (sym (c .before .before .before .before .before .read-int .ensures .0) ∙ c .before .before .before .n .given .1)), c .before .before .before .before .before .before .before .before .pre .2, c .before .before .before .before .before .before .before .before .pre .3)
+after-name-length-requires : tie.Need-after-name-length-requires
+after-name-length-requires c κs = (c .before .before .before .before .before .before .before .before .pre .0, omega (arith, int-within (c .before .before .before .before .before .before .before .before .args .s .now) (c .before .before .before .before .before .before .before .before .args .at) (sym (c .before .before .before .before .before .read-int .ensures .0) ∙ c .before .before .before .n .given .1)), c .before .before .before .before .before .before .before .before .pre .2, c .before .before .before .before .before .before .before .before .pre .3)
 
--- src/lines.rt:142:1
 same-length : tie.Need-same-length
 same-length c = search needs
 
--- src/lines.rt:142:1
 returns-3 : tie.Need-returns-3
-returns-3 c = lined-as (known-rest _ (c .before .before .before .before .before .before .before .before .before .before .before .args .s .now) _ (sym (c .before .before .before .before .before .before .before .before .read-int .ensures .0) ∙ c .before .before .before .before .before .before .n .given .1) (c .before .before .before .before .if1 .left)) (c .before .before .rest-line .ensures)
+returns-3 c = lined-as (known-rest _ (c .before .before .before .before .before .before .before .before .before .before .before .args .s .now) _ (sym (c .before .before .before .before .before .before .before .before .read-int .ensures .0) ∙ c .before .before .before .before .before .before .n .given .1) (c .before .before .before .before .if1 .left)) (c .before .before .after-name-length .ensures)
 
 pub known-line-spec : {M : Type 1} → statement M
 known-line-spec =
@@ -58,6 +47,6 @@ known-line-spec =
     enum-told
     returns
     returns-2
-    rest-line-requires
+    after-name-length-requires
     same-length
     returns-3)

@@ -1,10 +1,8 @@
 use native.Mathlib.Omega.{arith}
 use Prim.Native.Nat.{ℕ, suc, _+_, _-_, _*_, _≤_, _<_}
 use mathlib.Core.Path.{_≡_, refl, sym, _∙_}
-use mathlib.Core.List.{[]}
 use lib.ListN.{length, drop}
 use Rattle.octets.specs.Table.{classes}
-use Rattle.octets.specs.Limits.{informationalMost}
 use Rattle.binary.specs.Read.{responseMessage}
 use Rattle.binary_reader.proofs.HeadTurns.{HeadsTo, heads-start, heads-refused, heads-final, final-some, informational-some, heads-next}
 use Rattle.binary_reader.proofs.heads.read_heads.Statement.{statement}
@@ -16,7 +14,7 @@ use Rattle.ranges.proofs.store.Reads as store-reads
 
 abbrev Inv-loop : tie.InvT-loop
 Inv-loop t s from known headers₀ informational₀ i₀ count₀ base₀ headers informational i count base =
-    (t ≡ classes) × (length headers ≡ length headers₀) × (length informational ≡ length informational₀) × HeadsTo (responseMessage known (suc informationalMost) [] from (drop from s)) known s headers₀ headers informational₀ informational i count base
+    (t ≡ classes) × (length headers ≡ length headers₀) × (length informational ≡ length informational₀) × HeadsTo (responseMessage known from (drop from s)) known s headers₀ headers informational₀ informational i count base
 
 abbrev μ-loop : tie.MeasureT-loop
 μ-loop t s from known headers₀ informational₀ i₀ count₀ base₀ headers informational i count base =
@@ -28,7 +26,7 @@ loop-holds c = (c .before .before .before .pre .0, refl, refl, heads-start _ _ _
 
 -- src/heads.rt:136:13
 next-head-requires : tie.Need-next-head-requires Inv-loop μ-loop
-next-head-requires c κs = (c .before .loop .inv .0, c .before .before .before .before .before .pre .1, omega (arith, c .before .loop .inv .1, c .before .loop .inv .3 .few, c .before .loop .inv .3 .most, c .before .before .before .before .before .pre .2))
+next-head-requires c κs = (c .before .loop .inv .0, c .before .before .before .before .before .pre .1, omega (arith, c .before .loop .inv .1, c .before .loop .inv .3 .few, c .before .loop .inv .3 .most, c .before .before .before .before .before .pre .2), c .before .loop .inv .3 .most)
 
 -- src/heads.rt:138:33
 enum-known-h : tie.Need-enum-known-h Inv-loop μ-loop

@@ -1,55 +1,42 @@
+use borrow.Author.Needs.{needs}
 use native.Mathlib.Omega.{arith}
 use mathlib.Core.Path.{refl}
 use Rattle.binary_reader.proofs.Trailing.{trailers-none, trailers-no, trailers-good, trailers-bad}
-use borrow.Author.Needs.{needs}
 use Rattle.binary_reader.proofs.rest.read_trailers.Statement.{statement}
 use Rattle.binary_reader.proofs.rest.read_trailers.Tie as tie
 use Rattle.binary_reader.proofs.rest.read_trailers.Reads as reads
 use Rattle.binary_reader.proofs.rest.read_trailers.Lts as lts
-use Rattle.binary_reader.proofs.rest.trailers_agree.Reads as trailers-agree-reads
-use Rattle.binary_parts.proofs.lines.read_section.Reads as read-section-reads
 
--- src/rest.rt:49:9
 returns : tie.Need-returns
 returns c = trailers-none (c .before .before .before .args .s .now) _ _ _ (c .before .before .before .pre .1) (c .if1 .taken) refl
 
--- src/rest.rt:51:9
 read-section-requires : tie.Need-read-section-requires
-read-section-requires c κs = search needs
+read-section-requires c κs = (c .before .before .before .before .pre .0, c .before .before .before .before .pre .1, c .before .before .before .before .pre .2, omega (arith, c .before .before .before .before .pre .3))
 
--- src/rest.rt:53:28
 enum-known-h : tie.Need-enum-known-h
 enum-known-h c = search needs
 
--- src/rest.rt:53:47
 same-length : tie.Need-same-length
 same-length c = search needs
 
--- src/rest.rt:53:47
 returns-2 : tie.Need-returns-2
 returns-2 c = trailers-no (c .before .before .before .before .before .before .before .before .before .before .args .s .now) _ _ _ (c .before .before .before .before .before .before .before .if1 .left) (c .before .before .before .before .before .read-section .ensures) (c .before .h .given .1)
 
--- src/rest.rt:54:25
 enum-known-h-2 : tie.Need-enum-known-h-2
 enum-known-h-2 c = search needs
 
--- src/rest.rt:55:16
 trailers-agree-requires : tie.Need-trailers-agree-requires
 trailers-agree-requires c κs = search needs
 
--- src/rest.rt:56:17
 same-length-2 : tie.Need-same-length-2
 same-length-2 c = search needs
 
--- src/rest.rt:56:17
 returns-3 : tie.Need-returns-3
 returns-3 c = trailers-good (c .before .before .before .before .before .before .before .before .before .before .before .before .args .s .now) _ _ _ (c .before .before .before .before .before .before .before .before .before .if1 .left) (c .before .before .before .before .before .before .before .read-section .ensures) (c .before .before .before .h2 .given .1) (c .before .trailers-agree .ensures) (c .if2 .taken)
 
--- src/rest.rt:58:13
 same-length-3 : tie.Need-same-length-3
 same-length-3 c = search needs
 
--- src/rest.rt:58:13
 returns-4 : tie.Need-returns-4
 returns-4 c = trailers-bad (c .before .before .before .before .before .before .before .before .before .before .before .before .args .s .now) _ _ _ (c .before .before .before .before .before .before .before .before .before .if1 .left) (c .before .before .before .before .before .before .before .read-section .ensures) (c .before .before .before .h2 .given .1) (c .before .trailers-agree .ensures) (c .if2 .left)
 

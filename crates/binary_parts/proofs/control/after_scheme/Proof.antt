@@ -1,59 +1,47 @@
+use borrow.Author.Needs.{needs}
 use native.Mathlib.Omega.{arith}
 use Rattle.binary_parts.proofs.Places.{part-got}
 use Rattle.binary_parts.proofs.Controls.{authority-no, path-no, rest-got}
-use borrow.Author.Needs.{needs}
-use Rattle.binary_parts.proofs.control.control_rest.Statement.{statement}
-use Rattle.binary_parts.proofs.control.control_rest.Tie as tie
-use Rattle.binary_parts.proofs.control.control_rest.Reads as reads
-use Rattle.binary_parts.proofs.control.control_rest.Lts as lts
-use Rattle.binary_parts.proofs.control.ruled_part.Reads as ruled-part-reads
+use Rattle.binary_parts.proofs.control.after_scheme.Statement.{statement}
+use Rattle.binary_parts.proofs.control.after_scheme.Tie as tie
+use Rattle.binary_parts.proofs.control.after_scheme.Reads as reads
+use Rattle.binary_parts.proofs.control.after_scheme.Lts as lts
 
--- src/control.rt:143:9
 ruled-part-requires : tie.Need-ruled-part-requires
-ruled-part-requires c κs = search needs
+ruled-part-requires c κs = c .before .pre .0
 
--- src/control.rt:145:29
 enum-known-a : tie.Need-enum-known-a
 enum-known-a c = search needs
 
--- src/control.rt:145:48
 returns : tie.Need-returns
 returns c = authority-no (c .before .before .before .before .before .args .s .now) _ _ _ (c .before .before .before .before .before .pre .1) (c .before .before .before .before .before .pre .2) (c .before .before .before .ruled-part .ensures) (c .before .a .given .1)
 
--- src/control.rt:146:24
 enum-known-a-2 : tie.Need-enum-known-a-2
 enum-known-a-2 c = search needs
 
--- src/control.rt:147:38
 add-ruled-part : tie.Need-add-ruled-part
 add-ruled-part c = omega (arith, part-got (c .before .before .before .ruled-part .ensures) (c .before .a2 .given .1) .1)
 
--- src/control.rt:147:17
 ruled-part-requires-2 : tie.Need-ruled-part-requires-2
-ruled-part-requires-2 c κs = search needs
+ruled-part-requires-2 c κs = c .before .before .before .before .before .pre .0
 
--- src/control.rt:149:37
 enum-known-p : tie.Need-enum-known-p
 enum-known-p c = search needs
 
--- src/control.rt:149:56
 returns-2 : tie.Need-returns-2
 returns-2 c = path-no (c .before .before .before .before .before .before .before .before .before .args .s .now) _ _ _ (c .before .before .before .before .before .before .before .before .before .pre .1) (c .before .before .before .before .before .before .before .before .before .pre .2) (c .before .before .before .before .before .before .before .ruled-part .ensures) (c .before .before .before .before .before .a2 .given .1) (c .before .before .before .ruled-part2 .ensures) (c .before .p .given .1)
 
--- src/control.rt:153:39
 enum-known-p-2 : tie.Need-enum-known-p-2
 enum-known-p-2 c = search needs
 
--- src/control.rt:158:26
 add-t21 : tie.Need-add-t21
 add-t21 c = omega (arith, part-got (c .before .before .before .ruled-part2 .ensures) (c .before .p2 .given .1) .1)
 
--- src/control.rt:153:55
 returns-3 : tie.Need-returns-3
 returns-3 c = rest-got (c .before .before .before .before .before .before .before .before .before .args .s .now) _ _ _ (c .before .before .before .before .before .before .before .before .before .pre .1) (c .before .before .before .before .before .before .before .before .before .pre .2) (c .before .before .before .before .before .before .before .ruled-part .ensures) (c .before .before .before .before .before .a2 .given .1) (c .before .before .before .ruled-part2 .ensures) (c .before .p2 .given .1)
 
-pub control-rest-spec : {M : Type 1} → statement M
-control-rest-spec =
+pub after-scheme-spec : {M : Type 1} → statement M
+after-scheme-spec =
     tie.close
     (tie.spec
     ruled-part-requires
