@@ -3,7 +3,7 @@ use mathlib.Core.Path.{_≡_, refl, sym, ap, _∙_}
 use lib.ListN.{length}
 use Rattle.ranges.proofs.Outcomes.{given-refusal, given-more, response-outcomed}
 use Rattle.http1_writer.specs.Write.{toHttp1}
-use Rattle.http1_reader.specs.Readers.{told}
+use Rattle.messages.specs.Told.{plain as told}
 use Rattle.turning.specs.Behind.{readToHttp1}
 use Rattle.turning.proofs.Replies.{turned-more, turned-refused, turned, binary-held}
 use Rattle.turning.proofs.from_binary.turn_http1.Statement.{statement}
