@@ -6,6 +6,7 @@ use http1_reader::request::request_in;
 use http1_reader::response::response_in;
 use listing::listing;
 use messages::Outcome;
+use messages::Told;
 use octets::Refusals;
 use octets::class_table;
 ghost use mathlib.Core.Path.{_≡_};
@@ -14,7 +15,7 @@ ghost use lib.ListN.{length};
 ghost use Rattle.octets.specs.Table.{classes};
 ghost use Rattle.binary.specs.Read.{readBinary};
 ghost use Rattle.http1.specs.Read.{readRequest, readResponse};
-ghost use Rattle.http1_reader.specs.Readers.{told};
+ghost use Rattle.messages.specs.Told.{plain as told};
 ghost use Rattle.output.specs.Reply.{writes};
 ghost use Rattle.listing.specs.Listing.{listingOf};
 ghost use Rattle.capi.specs.Entries.{Entered, EntryServed, noHeads, headsFields};
@@ -33,7 +34,7 @@ fn enter_request(
     requires { ⌜ (now t ≡ classes) × (256 ≤ length (now headers)) × (512 ≤ length (now chunks)) × (256 ≤ length (now trailers)) ⌝ }
     ensures { λ r. ⌜ Entered (readRequest (told scheme) (now (input .entry))) (length (now (input .entry))) (now (ranges .entry)) (now (ranges .exit)) (now (place .exit)) r ⌝ }
 {
-    let o = request_in(t, input, scheme, headers, chunks, trailers);
+    let o = request_in(t, input, Told { scheme }, headers, chunks, trailers);
     match o {
         Outcome::More => {
             *place = input.len();

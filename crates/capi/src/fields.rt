@@ -5,7 +5,7 @@ use question::binary_found;
 use question::request_found;
 use question::response_found;
 ghost use mathlib.Core.Path.{_≡_};
-ghost use Rattle.http1_reader.specs.Readers.{told};
+ghost use Rattle.messages.specs.Told.{plain as told};
 ghost use Rattle.turn.specs.Question.{requestQuestion, responseQuestion, binaryQuestion};
 ghost use Rattle.question.specs.Asking.{askedOf};
 ghost use Rattle.capi.specs.Entries.{FieldEntered};

@@ -5,7 +5,7 @@ use turning::from_binary::binary_to_http1;
 use turning::to_binary::request_to_binary;
 use turning::to_binary::response_to_binary;
 ghost use mathlib.Core.Path.{_≡_};
-ghost use Rattle.http1_reader.specs.Readers.{told};
+ghost use Rattle.messages.specs.Told.{plain as told};
 ghost use Rattle.turn.specs.Turn.{requestToBinary, responseToBinary, binaryToBinary, binaryToHttp1};
 ghost use Rattle.capi.specs.Entries.{EntryServed};
 

@@ -25,7 +25,7 @@ use Rattle.http1.specs.Lines.{RequestRead}
 use Rattle.http1.specs.Read.{Lines, section, content, afterHead, readRequest}
 use Rattle.sound.specs.Placed.{Each}
 use Rattle.ranges.specs.Ranges.{OutcomeSays, Outcomed}
-use Rattle.http1_reader.specs.Readers.{told, requestIs, Before, HeadFacts, RestSays, RestRead}
+use Rattle.http1_reader.specs.Readers.{requestIs, Before, HeadFacts, RestSays, RestRead}
 use Rattle.http1_reader.proofs.Facts.{SectionFacts, section-facts}
 use Rattle.http1_reader.proofs.Outcomes.{SectionDone, behind-more, behind-refused, behind-done}
 
@@ -104,11 +104,11 @@ module _ (s : List ℕ) (m p next : ℕ) (g : next ≤ length s) (k : m + 1 + p 
           before = subst (λ (x : ℕ). Each (Before x) (d .read .lines)) place-is (facts .ended .before);
         }
 
-    pub head-done : (scheme : ℕ) (cs cs′ ts ts′ : List ℕ) (r : Outcome) → RestRead s scheme m p e c n cs cs′ ts ts′ r
-        → Outcomed (run (section (headMost - next) >>= afterHead (told scheme) (requestIs s next m p)) next (drop next s)) hs hs′ cs cs′ ts ts′ r
-    head-done scheme cs cs′ ts ts′ r w =
+    pub head-done : (t : Told) (cs cs′ ts ts′ : List ℕ) (r : Outcome) → RestRead s t m p e c n cs cs′ ts ts′ r
+        → Outcomed (run (section (headMost - next) >>= afterHead t (requestIs s next m p)) next (drop next s)) hs hs′ cs cs′ ts ts′ r
+    head-done t cs cs′ ts ts′ r w =
         let q = requestIs s next m p in
-        let f = behind-done (headMost - next) (afterHead (told scheme) q) s next (d .place) (d .read) (d .accepts) in
-        let z = ap (λ (x : ℕ). run (afterHead (told scheme) q (d .read)) x (drop x s)) place-is in
+        let f = behind-done (headMost - next) (afterHead t q) s next (d .place) (d .read) (d .accepts) in
+        let z = ap (λ (x : ℕ). run (afterHead t q (d .read)) x (drop x s)) place-is in
         outcomed-as (f ∙ z)
-        (with-headers (d .read) (run (afterHead (told scheme) q (d .read)) e (drop e s)) hs hs′ cs cs′ ts ts′ r (d .stored) (rest-of s (told scheme) q (d .read) e (head-within .0)) (w .by q (d .read) head-facts))
+        (with-headers (d .read) (run (afterHead t q (d .read)) e (drop e s)) hs hs′ cs cs′ ts ts′ r (d .stored) (rest-of s t q (d .read) e (head-within .0)) (w .by q (d .read) head-facts))

@@ -38,7 +38,7 @@ use Rattle.sound.proofs.Rules.{HostIs}
 use Rattle.http1_sound.proofs.Rules.{host-is, Fits, Framed, request-framed}
 use Rattle.http1_parts.specs.Content.{SizedWithin, ContentSays, Contented}
 use Rattle.http1_parts.specs.declared.ContentRead.{ContentRead}
-use Rattle.http1_reader.specs.Readers.{HeadSays, HeadJudged, RequestJudged, RestRead, told, requestIs, requestOutcome, Before, HeadFacts, RestSays}
+use Rattle.http1_reader.specs.Readers.{HeadSays, HeadJudged, RequestJudged, RestRead, requestIs, requestOutcome, Before, HeadFacts, RestSays}
 use Rattle.http1_reader.specs.declared.HeadAnswer.{HeadAnswer}
 use Rattle.http1_reader.specs.declared.HeadAnswer.the-variants as head
 
@@ -95,16 +95,16 @@ rest-content t q h s e a b u v =
     go more = refl
 
 -- what stands behind a head that is good, with its content as it was read
-pub rest-read : (scheme : ℕ) (q : RequestRead) (h : Lines) (s : List ℕ) (m p e k : ℕ) (n : Notes) (a l : ℕ) (b : Body) (cs cs′ ts ts′ : List ℕ) (c : ContentRead) (r : Outcome)
+pub rest-read : (t : Told) (q : RequestRead) (h : Lines) (s : List ℕ) (m p e k : ℕ) (n : Notes) (a l : ℕ) (b : Body) (cs cs′ ts ts′ : List ℕ) (c : ContentRead) (r : Outcome)
     → HeadFacts s q h m p e k n → GoodHead (authorityIn (h .end) (piece 0 []) (h .lines)) (requestBody (h .end) (framingOf (h .lines))) a l b
-    → Contented (run (content b) e (drop e s)) cs cs′ ts ts′ c → r ≡ requestOutcome scheme m p a l k c
-    → RestSays (run (afterHead (told scheme) q h) e (drop e s)) cs cs′ ts ts′ r
+    → Contented (run (content b) e (drop e s)) cs cs′ ts ts′ c → r ≡ requestOutcome t m p a l k c
+    → RestSays (run (afterHead t q h) e (drop e s)) cs cs′ ts ts′ r
 unfolding recordOf
-rest-read scheme q h s m p e k n a l b cs cs′ ts ts′ c r f g w o =
-    subst (λ (x : Answer Message). RestSays x cs cs′ ts ts′ r) (sym (rest-content (told scheme) q h s e (g .authority) b (g .found) (g .body)))
+rest-read t q h s m p e k n a l b cs cs′ ts ts′ c r f g w o =
+    subst (λ (x : Answer Message). RestSays x cs cs′ ts ts′ r) (sym (rest-content t q h s e (g .authority) b (g .found) (g .body)))
     (go (run (content b) e (drop e s)) (w .says))
   where
-    go : (x : Answer Content) → ContentSays x cs cs′ ts ts′ c → RestSays (andThen x (λ n c. accepted n (messageWith (told scheme) q h (g .authority) c))) cs cs′ ts ts′ r
+    go : (x : Answer Content) → ContentSays x cs cs′ ts ts′ c → RestSays (andThen x (λ n c. accepted n (messageWith t q h (g .authority) c))) cs cs′ ts ts′ r
     go (accepted i d) u = (o ∙ rw (u .0, f .method, f .path, f .fields, g .place, g .long) refl, u .1, u .2)
     go (refused i j) u = o ∙ rw u refl
     go more u = o ∙ rw u refl
@@ -128,38 +128,38 @@ body-within e fs a n {j} {b} g = go b (request-framed e (framingOf fs) b (g .bod
 
 -- ---- the request line
 
-pub scheme-other : (n : ℕ) (s : List ℕ) → isScheme n ≡ false → readRequest (told n) s ≡ refused notSupported 0
+pub scheme-other : (t : Told) (s : List ℕ) → isScheme (t .scheme) ≡ false → readRequest t s ≡ refused notSupported 0
 unfolding readRequest
-scheme-other n s e = rw e refl
+scheme-other t s e = rw e refl
 
-module _ (n : ℕ) (s : List ℕ) (y : isScheme n ≡ true) where
-  pub first-more : lineOf (drop 0 s) headMost 0 0 ≡ More → readRequest (told n) s ≡ more
+module _ (t : Told) (s : List ℕ) (y : isScheme (t .scheme) ≡ true) where
+  pub first-more : lineOf (drop 0 s) headMost 0 0 ≡ More → readRequest t s ≡ more
   unfolding readRequest request _>>=_
   first-more e = rw y (line-more _ _ _ _ s 0 e)
 
-  pub first-bad : lineOf (drop 0 s) headMost 0 0 ≡ Bad → readRequest (told n) s ≡ refused badSyntax 0
+  pub first-bad : lineOf (drop 0 s) headMost 0 0 ≡ Bad → readRequest t s ≡ refused badSyntax 0
   unfolding readRequest request _>>=_
   first-bad e = rw y (line-bad _ _ _ _ s 0 e)
 
-  pub first-long : lineOf (drop 0 s) headMost 0 0 ≡ Long → readRequest (told n) s ≡ refused tooLarge 0
+  pub first-long : lineOf (drop 0 s) headMost 0 0 ≡ Long → readRequest t s ≡ refused tooLarge 0
   unfolding readRequest request _>>=_
   first-long e = rw y (line-long _ _ _ _ s 0 e)
 
   module _ (next : ℕ) (e : lineOf (drop 0 s) headMost 0 0 ≡ Ends next) where
-    first : readRequest (told n) s
-        ≡ run (tell (requestOf (piece 0 (take (next - 2) s))) >>= λ q. section (headMost - (length (take (next - 2) s) + 2)) >>= afterHead (told n) q) next (drop next s)
+    first : readRequest t s
+        ≡ run (tell (requestOf (piece 0 (take (next - 2) s))) >>= λ q. section (headMost - (length (take (next - 2) s) + 2)) >>= afterHead t q) next (drop next s)
     unfolding readRequest request _>>=_
     first = let z : next - 2 - 0 ≡ next - 2 = omega arith in rw y (line-ends _ _ _ _ s 0 next e ∙ rw z refl)
 
     first-long-as : length (take (next - 2) s) ≡ next - 2
     first-long-as = length-take-le (next - 2) s (omega (arith, line-within s headMost 0 next (omega arith) e))
 
-    pub first-wrong : (k : ℕ) → requestLens (take (next - 2) s) ≡ line.Bad k → readRequest (told n) s ≡ refused k 0
+    pub first-wrong : (k : ℕ) → requestLens (take (next - 2) s) ≡ line.Bad k → readRequest t s ≡ refused k 0
     unfolding requestOf _>>=_
     first-wrong k q = first ∙ rw (q, run-stop) refl
 
     pub first-rest : (m p : ℕ) → requestLens (take (next - 2) s) ≡ line.Of m p
-        → readRequest (told n) s ≡ run (section (headMost - next) >>= afterHead (told n) (requestIs s next m p)) next (drop next s)
+        → readRequest t s ≡ run (section (headMost - next) >>= afterHead t (requestIs s next m p)) next (drop next s)
     unfolding requestOf _>>=_
     first-rest m p q =
         let l : headMost - (length (take (next - 2) s) + 2) ≡ headMost - next = omega (arith, first-long-as, line-within s headMost 0 next (omega arith) e) in
@@ -176,24 +176,24 @@ first-in s next m p e q =
 
 -- ---- as the code has it
 
-module _ (s : List ℕ) (e : ℕ) (n : Notes) {r : HeadAnswer} (w : RequestJudged s e n r) (scheme m p k : ℕ) where
+module _ (s : List ℕ) (e : ℕ) (n : Notes) {r : HeadAnswer} (w : RequestJudged s e n r) (t : Told) (m p k : ℕ) where
   head-of : (q : RequestRead) (h : Lines) → HeadFacts s q h m p e k n
       → HeadJudged (authorityIn (h .end) (piece 0 []) (h .lines)) (requestBody (h .end) (framingOf (h .lines))) r
   head-of q h f =
       subst (λ (x : ℕ). HeadJudged (authorityIn x (piece 0 []) (h .lines)) (requestBody x (framingOf (h .lines))) r) (sym (f .end))
       (w .by (h .lines) (f .notes) (f .lie))
 
-  pub rest-wrong : (i j : ℕ) → r ≡ head.Refused i j → (cs cs′ ts ts′ : List ℕ) → RestRead s scheme m p e k n cs cs′ ts ts′ (outcome.Refusal i j)
+  pub rest-wrong : (i j : ℕ) → r ≡ head.Refused i j → (cs cs′ ts ts′ : List ℕ) → RestRead s t m p e k n cs cs′ ts ts′ (outcome.Refusal i j)
   rest-wrong i j g cs cs′ ts ts′ =
       record {
-        by = λ q h f. subst (λ (x : Answer Message). RestSays x cs cs′ ts ts′ (outcome.Refusal i j)) (sym (rest-refused (told scheme) q h s e i j (head-of q h f) g)) refl;
+        by = λ q h f. subst (λ (x : Answer Message). RestSays x cs cs′ ts ts′ (outcome.Refusal i j)) (sym (rest-refused t q h s e i j (head-of q h f) g)) refl;
       }
 
   module _ (a l : ℕ) (b : Body) (g : r ≡ head.Good a l b) where
     pub rest-good : (cs cs′ ts ts′ : List ℕ) (c : ContentRead) (o : Outcome) → Contented (run (content b) e (drop e s)) cs cs′ ts ts′ c
-        → o ≡ requestOutcome scheme m p a l k c → RestRead s scheme m p e k n cs cs′ ts ts′ o
+        → o ≡ requestOutcome t m p a l k c → RestRead s t m p e k n cs cs′ ts ts′ o
     rest-good cs cs′ ts ts′ c o u v =
-        record { by = λ q h f. rest-read scheme q h s m p e k n a l b cs cs′ ts ts′ c o f (head-good a l b (head-of q h f) g) u v }
+        record { by = λ q h f. rest-read t q h s m p e k n a l b cs cs′ ts ts′ c o f (head-good a l b (head-of q h f) g) u v }
 
     pub rest-bounds : (q : RequestRead) (h : Lines) → HeadFacts s q h m p e k n → SizedWithin b × (a + l ≤ e)
     rest-bounds q h f =

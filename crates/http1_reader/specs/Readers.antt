@@ -45,10 +45,6 @@ pub record RequestJudged (s : List ℕ) (end : ℕ) (notes : Notes) (r : HeadAns
 
 -- ---- requests
 
--- what a call is told, by the scheme's number
-abbrev pub told : ℕ → Told
-told n = record { scheme = n }
-
 -- the record of a request, by its numbers
 abbrev pub requestRecord : ℕ → ℕ → ℕ → ℕ → ℕ → ℕ → ℕ → ℕ → ℕ → ℕ → Record
 requestRecord scheme method path start len fields n chunks total trailers =
@@ -68,19 +64,19 @@ requestRecord scheme method path start len fields n chunks total trailers =
     }
 
 -- the outcome of a request whose content was read
-abbrev pub requestOutcome : ℕ → ℕ → ℕ → ℕ → ℕ → ℕ → ContentRead → Outcome
-requestOutcome scheme method path start len fields (content.Done n k total m) =
-    outcome.Message (requestRecord scheme method path start len fields n k total m)
-requestOutcome scheme method path start len fields (content.Refused k p) = outcome.Refusal k p
-requestOutcome scheme method path start len fields content.More = outcome.More
+abbrev pub requestOutcome : Told → ℕ → ℕ → ℕ → ℕ → ℕ → ContentRead → Outcome
+requestOutcome t method path start len fields (content.Done n k total m) =
+    outcome.Message (requestRecord (t .scheme) method path start len fields n k total m)
+requestOutcome t method path start len fields (content.Refused k p) = outcome.Refusal k p
+requestOutcome t method path start len fields content.More = outcome.More
 
 -- the request line of s that ends, with its CR LF, at the place `next`: a method of m octets and a path of p
 abbrev pub requestIs : List ℕ → ℕ → ℕ → ℕ → RequestRead
 requestIs s next m p = record { method = piece 0 (take m (take (next - 2) s)); path = piece (0 + (m + 1)) (take p (drop (m + 1) (take (next - 2) s))) }
 
 -- the field lines of a request's head within what is left of its allowance, and what stands behind them
-abbrev pub fieldsOnward : ℕ → ℕ → RequestRead → Script Message
-fieldsOnward left scheme q = section left >>= afterHead (told scheme) q
+abbrev pub fieldsOnward : ℕ → Told → RequestRead → Script Message
+fieldsOnward left t q = section left >>= afterHead t q
 
 -- a line's value ends at or before n
 abbrev pub Before : ℕ → FieldRead → Type 0
@@ -104,6 +100,6 @@ RestSays (refused k p) cs cs′ ts ts′ r = r ≡ outcome.Refusal k p
 RestSays more cs cs′ ts ts′ r = r ≡ outcome.More
 
 -- the promise of what is read behind any head that has these numbers
-pub record RestRead (s : List ℕ) (scheme method path end fields : ℕ) (notes : Notes) (cs cs′ ts ts′ : List ℕ) (r : Outcome) : Type 0 where
+pub record RestRead (s : List ℕ) (t : Told) (method path end fields : ℕ) (notes : Notes) (cs cs′ ts ts′ : List ℕ) (r : Outcome) : Type 0 where
   pub by : (q : RequestRead) (h : Lines) → HeadFacts s q h method path end fields notes
-      → RestSays (run (afterHead (told scheme) q h) end (drop end s)) cs cs′ ts ts′ r
+      → RestSays (run (afterHead t q h) end (drop end s)) cs cs′ ts ts′ r

@@ -12,6 +12,7 @@ use messages::Outcome;
 use messages::Part;
 use messages::Reading;
 use messages::Record;
+use messages::Told;
 use messages::parts::is_scheme;
 use octets::Limits;
 use octets::Refusals;
@@ -29,12 +30,12 @@ ghost use Rattle.messages.specs.Answers.{readingOf};
 ghost use Rattle.http1.specs.Lines.{RequestRead};
 ghost use Rattle.http1.specs.Read.{Lines, readRequest};
 ghost use Rattle.ranges.specs.Ranges.{placesEnd, Outcomed};
-ghost use Rattle.http1_reader.specs.Readers.{told, requestIs, fieldsOnward, requestOutcome, HeadFacts, RestRead};
+ghost use Rattle.http1_reader.specs.Readers.{requestIs, fieldsOnward, requestOutcome, HeadFacts, RestRead};
 
 // The outcome of a request whose content was read.
 fn request_outcome(
     read: ContentRead,
-    scheme: u32,
+    told: Told,
     method: usize,
     path: usize,
     start: usize,
@@ -42,7 +43,7 @@ fn request_outcome(
     fields: usize,
 ) -> Outcome
     requires { ⌜ (method + 1 + path < placesEnd) × (start + len < placesEnd) ⌝ }
-    ensures { λ r. ⌜ r ≡ requestOutcome scheme method path start len fields read ⌝ }
+    ensures { λ r. ⌜ r ≡ requestOutcome told method path start len fields read ⌝ }
 {
     match read {
         ContentRead::More => Outcome::More,
@@ -54,7 +55,7 @@ fn request_outcome(
             trailers,
         } => Outcome::Message(Record {
             response: false,
-            scheme,
+            scheme: told.scheme,
             method: Part {
                 start: 0,
                 len: method as u32,
@@ -82,7 +83,7 @@ fn request_outcome(
 fn read_rest(
     t: &[u8; 256],
     s: &[u8],
-    scheme: u32,
+    told: Told,
     method: usize,
     path: usize,
     end: usize,
@@ -92,14 +93,14 @@ fn read_rest(
     trailers: &mut [u32],
 ) -> Outcome
     requires { ⌜ (now t ≡ classes) × (end ≤ length (now s)) × (end ≤ headMost) × (method + 1 + path ≤ headMost) × (512 ≤ length (now chunks)) × (256 ≤ length (now trailers)) × ((q : RequestRead) × (h : Lines) × HeadFacts (now s) q h method path end fields notes) ⌝ }
-    ensures { λ r. ⌜ RestRead (now (s .entry)) scheme method path end fields notes (now (chunks .entry)) (now (chunks .exit)) (now (trailers .entry)) (now (trailers .exit)) r ⌝ }
+    ensures { λ r. ⌜ RestRead (now (s .entry)) told method path end fields notes (now (chunks .entry)) (now (chunks .exit)) (now (trailers .entry)) (now (trailers .exit)) r ⌝ }
 {
     let j = judge_request(t, s, end, notes);
     match j {
         HeadAnswer::Refused { number, place } => return Outcome::Refusal { number, place },
         HeadAnswer::Good { start, len, body } => {
             let c = read_content(t, s, end, body, chunks, trailers);
-            return request_outcome(c, scheme, method, path, start, len, fields);
+            return request_outcome(c, told, method, path, start, len, fields);
         }
     }
 }
@@ -108,7 +109,7 @@ fn read_rest(
 fn read_head(
     t: &[u8; 256],
     s: &[u8],
-    scheme: u32,
+    told: Told,
     method: usize,
     path: usize,
     next: usize,
@@ -117,7 +118,7 @@ fn read_head(
     trailers: &mut [u32],
 ) -> Outcome
     requires { ⌜ (now t ≡ classes) × (next ≤ length (now s)) × (method + 1 + path + 11 ≡ next) × (next ≤ headMost) × (256 ≤ length (now headers)) × (512 ≤ length (now chunks)) × (256 ≤ length (now trailers)) ⌝ }
-    ensures { λ r. ⌜ Outcomed (run (fieldsOnward (headMost - next) scheme (requestIs (now (s .entry)) next method path)) next (drop next (now (s .entry)))) (now (headers .entry)) (now (headers .exit)) (now (chunks .entry)) (now (chunks .exit)) (now (trailers .entry)) (now (trailers .exit)) r ⌝ }
+    ensures { λ r. ⌜ Outcomed (run (fieldsOnward (headMost - next) told (requestIs (now (s .entry)) next method path)) next (drop next (now (s .entry)))) (now (headers .entry)) (now (headers .exit)) (now (chunks .entry)) (now (chunks .exit)) (now (trailers .entry)) (now (trailers .exit)) r ⌝ }
 {
     let h = read_section(t, s, next, Limits::HEAD - next, false, 0, headers);
     match h {
@@ -128,33 +129,23 @@ fn read_head(
             left: _,
             kept,
             notes,
-        } => return read_rest(
-            t,
-            s,
-            scheme,
-            method,
-            path,
-            end,
-            kept,
-            notes,
-            chunks,
-            trailers,
-        ),
+        } => return read_rest(t, s, told, method, path, end, kept, notes, chunks, trailers),
     }
 }
 
-// The first request of s, under the scheme told: its outcome, and the ranges of an accepted one in the lent space.
+// The first request of s, as told: its outcome, and the ranges of an accepted one in the lent space.
 pub fn request_in(
     t: &[u8; 256],
     s: &[u8],
-    scheme: u32,
+    told: Told,
     headers: &mut [u32],
     chunks: &mut [u32],
     trailers: &mut [u32],
 ) -> Outcome
     requires { ⌜ (now t ≡ classes) × (256 ≤ length (now headers)) × (512 ≤ length (now chunks)) × (256 ≤ length (now trailers)) ⌝ }
-    ensures { λ r. ⌜ Outcomed (readRequest (told scheme) (now (s .entry))) (now (headers .entry)) (now (headers .exit)) (now (chunks .entry)) (now (chunks .exit)) (now (trailers .entry)) (now (trailers .exit)) r ⌝ }
+    ensures { λ r. ⌜ Outcomed (readRequest told (now (s .entry))) (now (headers .entry)) (now (headers .exit)) (now (chunks .entry)) (now (chunks .exit)) (now (trailers .entry)) (now (trailers .exit)) r ⌝ }
 {
+    let scheme = told.scheme;
     if is_scheme(scheme) {
         let l = line_end(s, 0, Limits::HEAD);
         match l {
@@ -175,7 +166,7 @@ pub fn request_in(
                     RequestLine::Of { method, path } => return read_head(
                         t,
                         s,
-                        scheme,
+                        told,
                         method,
                         path,
                         next,
@@ -193,15 +184,15 @@ pub fn request_in(
     }
 }
 
-// The first request of a stream, under the scheme told: its answer by value.
-pub fn read_request(input: &[u8], scheme: u32) -> Reading
-    ensures { λ r. ⌜ r ≡ readingOf (readRequest (told scheme) (now (input .entry))) ⌝ }
+// The first request of a stream, as told: its answer by value.
+pub fn read_request(input: &[u8], told: Told) -> Reading
+    ensures { λ r. ⌜ r ≡ readingOf (readRequest told (now (input .entry))) ⌝ }
 {
     let t = class_table();
     let informational = [0u32; 8];
     let mut headers = [0u32; 1280];
     let mut chunks = [0u32; 512];
     let mut trailers = [0u32; 256];
-    let o = request_in(&t, input, scheme, &mut headers, &mut chunks, &mut trailers);
+    let o = request_in(&t, input, told, &mut headers, &mut chunks, &mut trailers);
     reading(o, informational, headers, trailers, chunks)
 }

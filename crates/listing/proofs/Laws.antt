@@ -24,7 +24,8 @@ use Rattle.messages.specs.declared.Outcome.the-variants as outcome
 use Rattle.http1.specs.Read.{readRequest}
 use Rattle.ranges.specs.Ranges.{Outcomed}
 use Rattle.ranges.proofs.Outcomes.{given-message, given-refusal, given-more}
-use Rattle.http1_reader.specs.Readers.{told}
+use Rattle.messages.specs.Told.{plain}
+use Rattle.messages.specs.declared.Told.{Told}
 use Rattle.http1_reader.proofs.Requests.{first-more}
 use Rattle.http1_sound.proofs.Front.{request-within}
 use Rattle.numbers.specs.Digits.{digits}
@@ -45,9 +46,9 @@ use Rattle.listing.proofs.Stops.{request-place}
 
 -- ---- the row at a place
 
-empty-more : readRequest (told 0) [] ≡ more
+empty-more : readRequest (plain 0) [] ≡ more
 unfolding lineOf isScheme
-empty-more = first-more 0 [] refl refl
+empty-more = first-more (plain 0) [] refl refl
 
 pub row-none : (s : List ℕ) (at : ℕ) → length s ≤ at → at-row.Stop at 0 ≡ rowAt s at
 unfolding rowAt isEmpty
@@ -69,17 +70,17 @@ of-message h at r z e =
     let g = given-message h z e in
     ap (λ (y : Record). at-row.Message (y .length) (y .headers) (y .content) (y .trailers)) (g .numbers) ∙ counts-are (g .long) (g .message) ∙ ap (rowOf at r) (sym (g .taken))
 
-module _ (s : List ℕ) (at : ℕ) {hs hs′ cs cs′ ts ts′ : List ℕ} {o : Outcome}
-    (h : Outcomed (readRequest (told 0) (take (length s - at) (drop at s))) hs hs′ cs cs′ ts ts′ o) where
-  whole : Outcomed (readRequest (told 0) (drop at s)) hs hs′ cs cs′ ts ts′ o
-  whole = rw (part-all s at) at h
+module _ (s : List ℕ) (at : ℕ) {hs hs′ cs cs′ ts ts′ : List ℕ} {o : Outcome} {t : Told} (told : t ≡ plain 0)
+    (h : Outcomed (readRequest t (take (length s - at) (drop at s))) hs hs′ cs cs′ ts ts′ o) where
+  whole : Outcomed (readRequest (plain 0) (drop at s)) hs hs′ cs cs′ ts ts′ o
+  whole = rw (part-all s at, told) at h
 
   pub row-message : (z : Record) → o ≡ outcome.Message z → at-row.Message (z .length) (z .headers) (z .content) (z .trailers) ≡ rowAt s at
   unfolding rowAt
   row-message z e = of-message whole at (drop at s) z e
 
   module _ (k p : ℕ) (e : o ≡ outcome.Refusal k p) where
-    is-refused : readRequest (told 0) (drop at s) ≡ refused k p
+    is-refused : readRequest (plain 0) (drop at s) ≡ refused k p
     is-refused = given-refusal whole k p e
 
     pub row-refused : at-row.Stop (at + p) k ≡ rowAt s at
@@ -87,7 +88,7 @@ module _ (s : List ℕ) (at : ℕ) {hs hs′ cs cs′ ts ts′ : List ℕ} {o : 
     row-refused = rw is-refused
 
     pub refused-in : at ≤ length s → at + p ≤ length s
-    refused-in g = omega (arith, request-place (told 0) (drop at s) k p is-refused, length-drop at s)
+    refused-in g = omega (arith, request-place (plain 0) (drop at s) k p is-refused, length-drop at s)
 
   pub row-more : at < length s → o ≡ outcome.More → at-row.Stop (length s) moreNeeded ≡ rowAt s at
   unfolding rowAt isEmpty
@@ -114,35 +115,35 @@ pub record Follows (s : List ℕ) (i at n f c t : ℕ) : Type 0 where
   pub within : at + n ≤ length s
 
 module _ (s : List ℕ) (i at : ℕ) where
-  step : rowsAt s i at ≡ rows i at (next (readRequest (told 0) (drop at s)) (drop at s) (takeOff (readRequest (told 0))))
+  step : rowsAt s i at ≡ rows i at (next (readRequest (plain 0) (drop at s)) (drop at s) (takeOff (readRequest (plain 0))))
   unfolding rowsAt
-  step = ap (rows i at) (take-step (readRequest (told 0)) (request-within (told 0)) (drop at s))
+  step = ap (rows i at) (take-step (readRequest (plain 0)) (request-within (plain 0)) (drop at s))
 
   pub row-last : (p k : ℕ) → at-row.Stop p k ≡ rowAt s at → rowsAt s i at ≡ endLine p k
   unfolding rowAt rows
-  row-last p k e = step ∙ go (readRequest (told 0) (drop at s)) e
+  row-last p k e = step ∙ go (readRequest (plain 0) (drop at s)) e
     where
       end : (b : Bool) → at-row.Stop p k ≡ cond b (at-row.Stop at 0) (at-row.Stop (at + length (drop at s)) moreNeeded)
           → cond b (endLine at 0) (endLine (at + length (drop at s)) moreNeeded) ≡ endLine p k
       end true g = let x : p ≡ at = cc in let y : k ≡ 0 = cc in rw (x, y)
       end false g = let x : p ≡ at + length (drop at s) = cc in let y : k ≡ moreNeeded = cc in rw (x, y)
 
-      go : (x : Answer Message) → at-row.Stop p k ≡ rowOf at (drop at s) x → rows i at (next x (drop at s) (takeOff (readRequest (told 0)))) ≡ endLine p k
+      go : (x : Answer Message) → at-row.Stop p k ≡ rowOf at (drop at s) x → rows i at (next x (drop at s) (takeOff (readRequest (plain 0)))) ≡ endLine p k
       go (accepted n m) g = let w : _≡_ {A = ℕ} 0 1 = cc in absurd (omega arith)
       go (refused a b) g = let x : p ≡ at + b = cc in let y : k ≡ a = cc in rw (x, y)
       go more g = end (isEmpty (drop at s)) g
 
   pub row-follows : (n f c t : ℕ) → at ≤ length s → at-row.Message n f c t ≡ rowAt s at → Follows s i at n f c t
   unfolding rowAt rows row rowsAt
-  row-follows n f c t h e = go (readRequest (told 0) (drop at s)) refl e step
+  row-follows n f c t h e = go (readRequest (plain 0) (drop at s)) refl e step
     where
-      made : (n : ℕ) (m : Message) → readRequest (told 0) (drop at s) ≡ accepted n m
-          → rowsAt s i at ≡ row i at n m ++ rows (i + 1) (at + n) (takeOff (readRequest (told 0)) (drop n (drop at s)))
+      made : (n : ℕ) (m : Message) → readRequest (plain 0) (drop at s) ≡ accepted n m
+          → rowsAt s i at ≡ row i at n m ++ rows (i + 1) (at + n) (takeOff (readRequest (plain 0)) (drop n (drop at s)))
           → Follows s i at n (length (meaning m .headers)) (length (meaning m .content)) (length (meaning m .trailers))
       made n m q z =
           let d : drop n (drop at s) ≡ drop (at + n) s = drop-drop n at s in
           let y : rowsAt s i at ≡ row i at n m ++ rowsAt s (i + 1) (at + n) = rw d at z in
-          let w = request-within (told 0) (drop at s) n m q in
+          let w = request-within (plain 0) (drop at s) n m q in
           let l : length (drop at s) ≡ length s - at = length-drop at s in
           record {
             rows = y;
@@ -151,8 +152,8 @@ module _ (s : List ℕ) (i at : ℕ) where
             within = omega (arith, w .1);
           }
 
-      go : (x : Answer Message) → readRequest (told 0) (drop at s) ≡ x → at-row.Message n f c t ≡ rowOf at (drop at s) x
-          → rowsAt s i at ≡ rows i at (next x (drop at s) (takeOff (readRequest (told 0)))) → Follows s i at n f c t
+      go : (x : Answer Message) → readRequest (plain 0) (drop at s) ≡ x → at-row.Message n f c t ≡ rowOf at (drop at s) x
+          → rowsAt s i at ≡ rows i at (next x (drop at s) (takeOff (readRequest (plain 0)))) → Follows s i at n f c t
       go (accepted k m) q g z =
           let a : k ≡ n = cc in
           let b : length (meaning m .headers) ≡ f = cc in

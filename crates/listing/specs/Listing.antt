@@ -11,7 +11,7 @@ use Rattle.octets.specs.Refusals.{moreNeeded, tooLarge}
 use Rattle.numbers.specs.Digits.{digits}
 use Rattle.messages.specs.Message.{Message}
 use Rattle.messages.specs.Meaning.{Meaning, meaning}
-use Rattle.messages.specs.declared.Told.{Told}
+use Rattle.messages.specs.Told.{plain}
 use Rattle.http1.specs.Read.{readRequest}
 use Rattle.stream.specs.Taking.{Taken, message, waits, stops, takeOff}
 
@@ -47,4 +47,4 @@ title = ascii "message start length fields content trailers\n"
 
 -- all that is printed: the title, then a row for each message and the last line, read under http; for input above the size a last line with 8
 unfoldable pub listingOf : List ℕ → List ℕ
-listingOf s = title ++ cond (leb (length s) listingMost) (rows 1 0 (takeOff (readRequest (record { scheme = 0 })) s)) (endLine listingMost tooLarge)
+listingOf s = title ++ cond (leb (length s) listingMost) (rows 1 0 (takeOff (readRequest (plain 0)) s)) (endLine listingMost tooLarge)

@@ -12,7 +12,7 @@ use Rattle.stream.specs.Taking.{takeOff}
 use Rattle.messages.specs.Message.{Message}
 use Rattle.messages.specs.Meaning.{meaning}
 use Rattle.http1.specs.Read.{readRequest}
-use Rattle.http1_reader.specs.Readers.{told}
+use Rattle.messages.specs.Told.{plain}
 use Rattle.listing.specs.Listing.{lf, column, rows}
 use Rattle.listing.specs.declared.Row.{Row}
 use Rattle.listing.specs.declared.Row.the-variants as row
@@ -25,11 +25,11 @@ rowOf at r more = cond (isEmpty r) (row.Stop at 0) (row.Stop (at + length r) mor
 
 -- the row of the message, or the stop, at a place of the stream
 unfoldable pub rowAt : List ℕ → ℕ → Row
-rowAt s at = rowOf at (drop at s) (readRequest (told 0) (drop at s))
+rowAt s at = rowOf at (drop at s) (readRequest (plain 0) (drop at s))
 
 -- the rows from a place of the stream on, the first with the number i
 unfoldable pub rowsAt : List ℕ → ℕ → ℕ → List ℕ
-rowsAt s i at = rows i at (takeOff (readRequest (told 0)) (drop at s))
+rowsAt s i at = rows i at (takeOff (readRequest (plain 0)) (drop at s))
 
 -- the last three columns, by their numbers
 abbrev pub countsText : ℕ → ℕ → ℕ → List ℕ

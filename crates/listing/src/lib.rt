@@ -1,6 +1,7 @@
 // The listing of a request stream.
 use http1_reader::request::request_in;
 use messages::Outcome;
+use messages::call::plain;
 use numbers::digit_count;
 use octets::Limits;
 use octets::Refusals;
@@ -49,7 +50,14 @@ pub fn next_row(t: &[u8; 256], s: &[u8], at: usize) -> Row
     let mut headers = [0u32; 256];
     let mut chunks = [0u32; 512];
     let mut trailers = [0u32; 256];
-    let o = request_in(t, &s[at..], 0, &mut headers, &mut chunks, &mut trailers);
+    let o = request_in(
+        t,
+        &s[at..],
+        plain(0),
+        &mut headers,
+        &mut chunks,
+        &mut trailers,
+    );
     match o {
         Outcome::More => return Row::Stop {
             place: s.len(),

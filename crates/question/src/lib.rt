@@ -3,6 +3,7 @@ use binary_reader::whole::binary_in;
 use http1_reader::request::request_in;
 use http1_reader::response::response_in;
 use messages::Outcome;
+use messages::Told;
 use octets::Refusals;
 use octets::class_table;
 use octets::same;
@@ -15,7 +16,7 @@ ghost use denote.Ref.{ptr};
 ghost use lib.ListN.{length};
 ghost use Rattle.octets.specs.Text.{lowerOf, sameText};
 ghost use Rattle.ranges.specs.Entries.{fieldIn, EntryWithin, FieldsWithin};
-ghost use Rattle.http1_reader.specs.Readers.{told};
+ghost use Rattle.messages.specs.Told.{plain as told};
 ghost use Rattle.turn.specs.Question.{requestQuestion, responseQuestion, binaryQuestion};
 ghost use Rattle.question.specs.Asking.{askedOf, valuePart, foundIn, OutcomeWithin, askedFrom, octetsOr, pointsTo, FoundWithin, Answered};
 
@@ -105,7 +106,14 @@ pub fn request_found(s: &[u8], scheme: u32, name: &[u8]) -> Asked
     let mut headers = [0u32; 256];
     let mut chunks = [0u32; 512];
     let mut trailers = [0u32; 256];
-    let o = request_in(&t, s, scheme, &mut headers, &mut chunks, &mut trailers);
+    let o = request_in(
+        &t,
+        s,
+        Told { scheme },
+        &mut headers,
+        &mut chunks,
+        &mut trailers,
+    );
     asked_from(s, o, &headers, &heads, name)
 }
 

@@ -11,7 +11,7 @@ ghost use Prim.Native.Nat.{_≤_};
 ghost use lib.ListN.{length};
 ghost use Rattle.octets.specs.Table.{classes};
 ghost use Rattle.output.specs.Reply.{Served};
-ghost use Rattle.http1_reader.specs.Readers.{told};
+ghost use Rattle.messages.specs.Told.{plain as told};
 ghost use Rattle.turn.specs.Turn.{binaryToBinary, binaryToHttp1};
 ghost use Rattle.turning.specs.Behind.{readToHttp1};
 

@@ -3,6 +3,7 @@ use binary_writer::write_message;
 use http1_reader::request::request_in;
 use http1_reader::response::response_in;
 use messages::Outcome;
+use messages::Told;
 use octets::Refusals;
 use octets::class_table;
 use output::Written;
@@ -11,7 +12,7 @@ ghost use Prim.Native.Nat.{_≤_};
 ghost use lib.ListN.{length};
 ghost use Rattle.octets.specs.Table.{classes};
 ghost use Rattle.output.specs.Reply.{Served};
-ghost use Rattle.http1_reader.specs.Readers.{told};
+ghost use Rattle.messages.specs.Told.{plain as told};
 ghost use Rattle.turn.specs.Turn.{requestToBinary, responseToBinary};
 
 // The same through working space for the ranges.
@@ -27,7 +28,7 @@ fn turn_request(
     requires { ⌜ (now t ≡ classes) × (256 ≤ length (now headers)) × (512 ≤ length (now chunks)) × (256 ≤ length (now trailers)) ⌝ }
     ensures { λ r. ⌜ Served (requestToBinary (told scheme) (now (input .entry))) (now (out .entry)) (now (out .exit)) r ⌝ }
 {
-    let o = request_in(t, input, scheme, headers, chunks, trailers);
+    let o = request_in(t, input, Told { scheme }, headers, chunks, trailers);
     match o {
         Outcome::More => return Written::Refused {
             number: Refusals::MORE_NEEDED,

@@ -1,6 +1,6 @@
 use borrow.Author.Needs.{needs}
 use mathlib.Core.Path.{_≡_, refl, sym, ap, _∙_}
-use Rattle.http1_reader.specs.Readers.{told}
+use Rattle.messages.specs.Told.{plain as told}
 use Rattle.turn.specs.Question.{requestQuestion}
 use Rattle.question.proofs.Laws.{request-lies, found-within, answered}
 use Rattle.question.proofs.request_field.Statement.{statement}

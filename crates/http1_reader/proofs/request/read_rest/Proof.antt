@@ -1,48 +1,36 @@
+use borrow.Author.Needs.{needs}
 use mathlib.Core.Path.{_≡_, refl, sym, ap, _∙_}
 use native.Mathlib.Omega.{arith}
 use Rattle.http1_reader.proofs.Requests.{rest-wrong, rest-good, rest-bounds}
-use borrow.Author.Needs.{needs}
 use Rattle.http1_reader.proofs.request.read_rest.Statement.{statement}
 use Rattle.http1_reader.proofs.request.read_rest.Tie as tie
 use Rattle.http1_reader.proofs.request.read_rest.Reads as reads
 use Rattle.http1_reader.proofs.request.read_rest.Lts as lts
-use Rattle.http1_parts.proofs.content.read_content.Reads as read-content-reads
-use Rattle.http1_reader.proofs.heads.judge_request.Reads as judge-request-reads
-use Rattle.http1_reader.proofs.request.request_outcome.Reads as request-outcome-reads
 
--- src/request.rt:65:9
 judge-request-requires : tie.Need-judge-request-requires
-judge-request-requires c κs = search needs
+judge-request-requires c κs = c .before .before .before .pre .0
 
--- src/request.rt:67:31
 enum-known-j : tie.Need-enum-known-j
 enum-known-j c = search needs
 
--- src/request.rt:67:50
 returns : tie.Need-returns
 returns c = rest-wrong (c .before .before .before .before .before .before .before .args .s .now) _ _ (c .before .before .before .judge-request .ensures) _ _ _ _ _ _ (c .before .j .given .1) _ _ _ _
 
--- src/request.rt:68:28
 enum-known-j-2 : tie.Need-enum-known-j-2
 enum-known-j-2 c = search needs
 
--- src/request.rt:69:17
 read-content-requires : tie.Need-read-content-requires
-read-content-requires c κs = (c .before .before .before .before .before .before .before .before .before .pre .0, c .before .before .before .before .before .before .before .before .before .pre .1, c .before .before .before .before .before .before .before .before .before .pre .2, rest-bounds (c .before .before .before .before .before .before .before .before .before .args .s .now) _ _ (c .before .before .before .before .before .judge-request .ensures) (c .before .before .before .before .before .before .before .before .before .args .scheme) _ _ _ _ _ _ (c .before .before .before .j2 .given .1) (c .before .before .before .before .before .before .before .before .before .pre .6 .0) (c .before .before .before .before .before .before .before .before .before .pre .6 .1) (c .before .before .before .before .before .before .before .before .before .pre .6 .2) .0, c .before .before .before .before .before .before .before .before .before .pre .4, c .before .before .before .before .before .before .before .before .before .pre .5)
+read-content-requires c κs = (c .before .before .before .before .before .before .before .before .before .pre .0, c .before .before .before .before .before .before .before .before .before .pre .1, c .before .before .before .before .before .before .before .before .before .pre .2, rest-bounds (c .before .before .before .before .before .before .before .before .before .args .s .now) _ _ (c .before .before .before .before .before .judge-request .ensures) (c .before .before .before .before .before .before .before .before .before .args .told) _ _ _ _ _ _ (c .before .before .before .j2 .given .1) (c .before .before .before .before .before .before .before .before .before .pre .6 .0) (c .before .before .before .before .before .before .before .before .before .pre .6 .1) (c .before .before .before .before .before .before .before .before .before .pre .6 .2) .0, c .before .before .before .before .before .before .before .before .before .pre .4, c .before .before .before .before .before .before .before .before .before .pre .5)
 
--- src/request.rt:70:13
 request-outcome-requires : tie.Need-request-outcome-requires
-request-outcome-requires c κs = (omega (arith, c .before .before .before .before .before .before .before .before .before .before .before .before .before .before .pre .3), omega (arith, c .before .before .before .before .before .before .before .before .before .before .before .before .before .before .pre .2, rest-bounds (c .before .before .before .before .before .before .before .before .before .before .before .before .before .before .args .s .now) _ _ (c .before .before .before .before .before .before .before .before .before .before .judge-request .ensures) (c .before .before .before .before .before .before .before .before .before .before .before .before .before .before .args .scheme) _ _ _ _ _ _ (c .before .before .before .before .before .before .before .before .j2 .given .1) (c .before .before .before .before .before .before .before .before .before .before .before .before .before .before .pre .6 .0) (c .before .before .before .before .before .before .before .before .before .before .before .before .before .before .pre .6 .1) (c .before .before .before .before .before .before .before .before .before .before .before .before .before .before .pre .6 .2) .1))
+request-outcome-requires c κs = (omega (arith, c .before .before .before .before .before .before .before .before .before .before .before .before .before .before .pre .3), omega (arith, c .before .before .before .before .before .before .before .before .before .before .before .before .before .before .pre .2, rest-bounds (c .before .before .before .before .before .before .before .before .before .before .before .before .before .before .args .s .now) _ _ (c .before .before .before .before .before .before .before .before .before .before .judge-request .ensures) (c .before .before .before .before .before .before .before .before .before .before .before .before .before .before .args .told) _ _ _ _ _ _ (c .before .before .before .before .before .before .before .before .j2 .given .1) (c .before .before .before .before .before .before .before .before .before .before .before .before .before .before .pre .6 .0) (c .before .before .before .before .before .before .before .before .before .before .before .before .before .before .pre .6 .1) (c .before .before .before .before .before .before .before .before .before .before .before .before .before .before .pre .6 .2) .1))
 
--- src/request.rt:70:13
 same-length : tie.Need-same-length
 same-length c = search needs
 
--- src/request.rt:70:13
 same-length-2 : tie.Need-same-length-2
 same-length-2 c = search needs
 
--- src/request.rt:70:13
 returns-2 : tie.Need-returns-2
 returns-2 c = rest-good (c .before .before .before .before .before .before .before .before .before .before .before .before .before .before .before .args .s .now) _ _ (c .before .before .before .before .before .before .before .before .before .before .before .judge-request .ensures) _ _ _ _ _ _ _ (c .before .before .before .before .before .before .before .before .before .j2 .given .1) _ _ _ _ _ _ (c .before .before .before .before .before .read-content .ensures) (c .request-outcome .ensures)
 

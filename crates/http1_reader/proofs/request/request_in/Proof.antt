@@ -23,19 +23,19 @@ enum-told : tie.Need-enum-told
 enum-told c = search needs
 
 returns : tie.Need-returns
-returns c = outcomed-as (first-more _ (c .before .before .before .before .before .before .before .before .before .args .s .now) (sym (c .before .before .before .before .is-scheme .ensures) ∙ c .before .before .before .if1 .taken) (sym (c .before .before .line-end .ensures) ∙ c .enum-told .given .1)) refl
+returns c = outcomed-as (first-more (c .before .before .before .before .before .before .before .before .before .args .told) (c .before .before .before .before .before .before .before .before .before .args .s .now) (sym (c .before .before .before .before .is-scheme .ensures) ∙ c .before .before .before .if1 .taken) (sym (c .before .before .line-end .ensures) ∙ c .enum-told .given .1)) refl
 
 enum-told-2 : tie.Need-enum-told-2
 enum-told-2 c = search needs
 
 returns-2 : tie.Need-returns-2
-returns-2 c = outcomed-as (first-bad _ (c .before .before .before .before .before .before .before .before .before .args .s .now) (sym (c .before .before .before .before .is-scheme .ensures) ∙ c .before .before .before .if1 .taken) (sym (c .before .before .line-end .ensures) ∙ c .enum-told2 .given .1)) refl
+returns-2 c = outcomed-as (first-bad (c .before .before .before .before .before .before .before .before .before .args .told) (c .before .before .before .before .before .before .before .before .before .args .s .now) (sym (c .before .before .before .before .is-scheme .ensures) ∙ c .before .before .before .if1 .taken) (sym (c .before .before .line-end .ensures) ∙ c .enum-told2 .given .1)) refl
 
 enum-told-3 : tie.Need-enum-told-3
 enum-told-3 c = search needs
 
 returns-3 : tie.Need-returns-3
-returns-3 c = outcomed-as (first-long _ (c .before .before .before .before .before .before .before .before .before .args .s .now) (sym (c .before .before .before .before .is-scheme .ensures) ∙ c .before .before .before .if1 .taken) (sym (c .before .before .line-end .ensures) ∙ c .enum-told3 .given .1)) refl
+returns-3 c = outcomed-as (first-long (c .before .before .before .before .before .before .before .before .before .args .told) (c .before .before .before .before .before .before .before .before .before .args .s .now) (sym (c .before .before .before .before .is-scheme .ensures) ∙ c .before .before .before .if1 .taken) (sym (c .before .before .line-end .ensures) ∙ c .enum-told3 .given .1)) refl
 
 enum-known-l : tie.Need-enum-known-l
 enum-known-l c = search needs
@@ -53,7 +53,7 @@ enum-known-q : tie.Need-enum-known-q
 enum-known-q c = search needs
 
 returns-4 : tie.Need-returns-4
-returns-4 c = outcomed-as (first-wrong _ (c .before .before .before .before .before .before .before .before .before .before .before .before .before .before .before .args .s .now) (sym (c .before .before .before .before .before .before .before .before .before .before .is-scheme .ensures) ∙ c .before .before .before .before .before .before .before .before .before .if1 .taken) _ (sym (c .before .before .before .before .before .before .before .before .line-end .ensures) ∙ c .before .before .before .before .before .before .l .given .1) _ (sym (c .before .before .before .request-line .ensures (c .before .before .before .before .before .before .before .before .before .before .before .before .before .before .before .pre .0)) ∙ c .before .q .given .1)) refl
+returns-4 c = outcomed-as (first-wrong (c .before .before .before .before .before .before .before .before .before .before .before .before .before .before .before .args .told) (c .before .before .before .before .before .before .before .before .before .before .before .before .before .before .before .args .s .now) (sym (c .before .before .before .before .before .before .before .before .before .before .is-scheme .ensures) ∙ c .before .before .before .before .before .before .before .before .before .if1 .taken) _ (sym (c .before .before .before .before .before .before .before .before .line-end .ensures) ∙ c .before .before .before .before .before .before .l .given .1) _ (sym (c .before .before .before .request-line .ensures (c .before .before .before .before .before .before .before .before .before .before .before .before .before .before .before .pre .0)) ∙ c .before .q .given .1)) refl
 
 enum-known-q-2 : tie.Need-enum-known-q-2
 enum-known-q-2 c = search needs
@@ -71,10 +71,10 @@ same-length-3 : tie.Need-same-length-3
 same-length-3 c = search needs
 
 returns-5 : tie.Need-returns-5
-returns-5 c = outcomed-is (first-rest _ (c .before .before .before .before .before .before .before .before .before .before .before .before .before .before .before .before .before .before .before .before .before .before .before .before .before .args .s .now) (sym (c .before .before .before .before .before .before .before .before .before .before .before .before .before .before .before .before .before .before .before .before .is-scheme .ensures) ∙ c .before .before .before .before .before .before .before .before .before .before .before .before .before .before .before .before .before .before .before .if1 .taken) _ (sym (c .before .before .before .before .before .before .before .before .before .before .before .before .before .before .before .before .before .before .line-end .ensures) ∙ c .before .before .before .before .before .before .before .before .before .before .before .before .before .before .before .before .l .given .1) _ _ (sym (c .before .before .before .before .before .before .before .before .before .before .before .before .before .request-line .ensures (c .before .before .before .before .before .before .before .before .before .before .before .before .before .before .before .before .before .before .before .before .before .before .before .before .before .pre .0)) ∙ c .before .before .before .before .before .before .before .before .before .before .before .q2 .given .1)) (c .before .before .before .before .before .before .read-head .ensures)
+returns-5 c = outcomed-is (first-rest (c .before .before .before .before .before .before .before .before .before .before .before .before .before .before .before .before .before .before .before .before .before .before .before .before .before .args .told) (c .before .before .before .before .before .before .before .before .before .before .before .before .before .before .before .before .before .before .before .before .before .before .before .before .before .args .s .now) (sym (c .before .before .before .before .before .before .before .before .before .before .before .before .before .before .before .before .before .before .before .before .is-scheme .ensures) ∙ c .before .before .before .before .before .before .before .before .before .before .before .before .before .before .before .before .before .before .before .if1 .taken) _ (sym (c .before .before .before .before .before .before .before .before .before .before .before .before .before .before .before .before .before .before .line-end .ensures) ∙ c .before .before .before .before .before .before .before .before .before .before .before .before .before .before .before .before .l .given .1) _ _ (sym (c .before .before .before .before .before .before .before .before .before .before .before .before .before .request-line .ensures (c .before .before .before .before .before .before .before .before .before .before .before .before .before .before .before .before .before .before .before .before .before .before .before .before .before .pre .0)) ∙ c .before .before .before .before .before .before .before .before .before .before .before .q2 .given .1)) (c .before .before .before .before .before .before .read-head .ensures)
 
 returns-6 : tie.Need-returns-6
-returns-6 c = outcomed-as (scheme-other _ (c .before .before .before .before .before .before .args .s .now) (sym (c .before .is-scheme .ensures) ∙ c .if1 .left)) refl
+returns-6 c = outcomed-as (scheme-other (c .before .before .before .before .before .before .args .told) (c .before .before .before .before .before .before .args .s .now) (sym (c .before .is-scheme .ensures) ∙ c .if1 .left)) refl
 
 pub request-in-spec : {M : Type 1} → statement M
 request-in-spec =

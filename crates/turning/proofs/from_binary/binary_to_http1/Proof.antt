@@ -1,7 +1,7 @@
 use borrow.Author.Needs.{needs}
 use native.Mathlib.Omega.{arith}
 use mathlib.Core.Path.{_≡_, refl, sym, ap, _∙_}
-use Rattle.http1_reader.specs.Readers.{told}
+use Rattle.messages.specs.Told.{plain as told}
 use Rattle.turning.proofs.Replies.{told-scheme, told-other}
 use Rattle.turning.proofs.from_binary.binary_to_http1.Statement.{statement}
 use Rattle.turning.proofs.from_binary.binary_to_http1.Tie as tie

@@ -1,94 +1,73 @@
+use borrow.Author.Needs.{needs}
 use mathlib.Core.Path.{_≡_, refl, sym, ap, _∙_}
 use lib.ListN.{length}
 use Rattle.ranges.proofs.Outcomes.{given-refusal, given-more}
-use Rattle.http1_reader.specs.Readers.{told}
+use Rattle.messages.specs.Told.{plain as told}
 use Rattle.http1_reader.proofs.Values.{request-held}
 use Rattle.binary_writer.specs.Write.{toBinary}
 use Rattle.turning.proofs.Replies.{turned-more, turned-refused, turned}
 use Rattle.turn.specs.Turn.{requestToBinary}
-use borrow.Author.Needs.{needs}
 use Rattle.turning.proofs.to_binary.turn_request.Statement.{statement}
 use Rattle.turning.proofs.to_binary.turn_request.Tie as tie
 use Rattle.turning.proofs.to_binary.turn_request.Reads as reads
 use Rattle.turning.proofs.to_binary.turn_request.Lts as lts
-use Rattle.http1_reader.proofs.request.request_in.Reads as request-in-reads
-use Rattle.binary_writer.proofs.write_message.Reads as write-message-reads
 
--- src/to_binary.rt:30:9
 request-in-requires : tie.Need-request-in-requires
-request-in-requires c κs = search needs
+request-in-requires c κs = c .before .before .before .before .before .before .before .before .pre
 
--- src/to_binary.rt:34:20
 enum-told : tie.Need-enum-told
 enum-told c = search needs
 
--- src/to_binary.rt:32:26
 same-length : tie.Need-same-length
 same-length c = search needs
 
--- src/to_binary.rt:32:26
 same-length-2 : tie.Need-same-length-2
 same-length-2 c = search needs
 
--- src/to_binary.rt:32:26
 same-length-3 : tie.Need-same-length-3
 same-length-3 c = search needs
 
--- src/to_binary.rt:32:26
 returns : tie.Need-returns
 unfolding requestToBinary
 returns c = turned-more _ toBinary _ (given-more (c .before .before .before .before .before .before .before .before .request-in .ensures) (c .enum-told .given .1))
 
--- src/to_binary.rt:36:28
 enum-known-o : tie.Need-enum-known-o
 enum-known-o c = search needs
 
--- src/to_binary.rt:36:47
 same-length-4 : tie.Need-same-length-4
 same-length-4 c = search needs
 
--- src/to_binary.rt:36:47
 same-length-5 : tie.Need-same-length-5
 same-length-5 c = search needs
 
--- src/to_binary.rt:36:47
 same-length-6 : tie.Need-same-length-6
 same-length-6 c = search needs
 
--- src/to_binary.rt:36:47
 returns-2 : tie.Need-returns-2
 unfolding requestToBinary
 returns-2 c = turned-refused _ toBinary _ _ _ (given-refusal (c .before .before .before .before .before .before .before .before .before .request-in .ensures) _ _ (c .before .o .given .1))
 
--- src/to_binary.rt:37:26
 enum-known-o-2 : tie.Need-enum-known-o-2
 enum-known-o-2 c = search needs
 
--- src/to_binary.rt:39:53
 slice-aggregate-write-message : tie.Need-slice-aggregate-write-message
 slice-aggregate-write-message c = search needs
 
--- src/to_binary.rt:39:13
 write-message-requires : tie.Need-write-message-requires
 write-message-requires c κs = let h = request-held (told (c .before .before .before .before .before .before .before .before .before .before .before .before .before .before .before .before .before .before .before .before .before .before .before .args .scheme)) (c .before .before .before .before .before .before .before .before .before .before .before .before .before .before .before .before .before .before .before .before .before .before .before .args .input .now) _ (c .before .before .before .before .before .before .before .before .before .before .before .before .before .before .request-in .ensures) (c .before .before .before .before .before .before .o2 .given .1) (c .before .before .before .before .before .before .before .before .before .before .before .before .before .before .before .before .before .before .before .before .before .before .before .pre .1) (c .before .before .before .before .before .before .before .before .before .before .before .before .before .before .before .before .before .before .before .before .before .before .before .pre .2) (c .before .before .before .before .before .before .before .before .before .before .before .before .before .before .before .before .before .before .before .before .before .before .before .pre .3) in (h .0, h .1, h .3)
 
--- src/to_binary.rt:39:13
 same-length-7 : tie.Need-same-length-7
 same-length-7 c = search needs
 
--- src/to_binary.rt:39:13
 same-length-8 : tie.Need-same-length-8
 same-length-8 c = search needs
 
--- src/to_binary.rt:39:13
 same-length-9 : tie.Need-same-length-9
 same-length-9 c = search needs
 
--- src/to_binary.rt:39:13
 same-length-10 : tie.Need-same-length-10
 same-length-10 c = search needs
 
--- src/to_binary.rt:39:13
 returns-3 : tie.Need-returns-3
 unfolding requestToBinary
 returns-3 c = let h = request-held (told (c .before .before .before .before .before .before .before .before .before .before .before .before .before .before .before .before .before .before .before .before .before .before .before .before .before .before .args .scheme)) (c .before .before .before .before .before .before .before .before .before .before .before .before .before .before .before .before .before .before .before .before .before .before .before .before .before .before .args .input .now) _ (c .before .before .before .before .before .before .before .before .before .before .before .before .before .before .before .before .before .request-in .ensures) (c .before .before .before .before .before .before .before .before .before .o2 .given .1) (c .before .before .before .before .before .before .before .before .before .before .before .before .before .before .before .before .before .before .before .before .before .before .before .before .before .before .pre .1) (c .before .before .before .before .before .before .before .before .before .before .before .before .before .before .before .before .before .before .before .before .before .before .before .before .before .before .pre .2) (c .before .before .before .before .before .before .before .before .before .before .before .before .before .before .before .before .before .before .before .before .before .before .before .before .before .before .pre .3) in turned _ toBinary (h .0) (h .1) (h .2) (c .before .before .write-message .ensures .by (h .0) (h .1) (h .3))
