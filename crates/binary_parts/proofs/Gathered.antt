@@ -18,7 +18,7 @@ use Rattle.messages.specs.declared.Notes.{Notes}
 use Rattle.messages.proofs.Noting.{notes-none, notes-more, kept-few}
 use Rattle.ranges.proofs.Stored.{stored-next, count-next}
 use Rattle.binary.specs.Reader.{Got}
-use Rattle.binary_parts.specs.Room.{sectionRoom}
+use Rattle.messages.specs.Room.{sectionRoom}
 use Rattle.binary_parts.proofs.Turns.{NextLine}
 
 -- behind the `base` entries of o

@@ -1,4 +1,3 @@
-pub mod Room
 pub mod Section
 pub mod Control
 pub mod Content

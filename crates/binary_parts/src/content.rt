@@ -17,7 +17,7 @@ ghost use lib.ListN.{length, drop};
 ghost use Rattle.octets.specs.Limits.{chunksMost, contentMost};
 ghost use Rattle.ranges.specs.Ranges.{placesEnd};
 ghost use Rattle.binary.specs.Read.{knownContent, content, padding};
-ghost use Rattle.binary_parts.specs.Room.{chunksRoom};
+ghost use Rattle.messages.specs.Room.{chunksRoom};
 ghost use Rattle.binary_parts.specs.Content.{Chunked, openContent, Contented, contentAgrees, Padded};
 
 // The zero octets from `from` on, to the end of the input.

@@ -24,7 +24,7 @@ ghost use Rattle.script.specs.Do.{piece};
 ghost use Rattle.messages.specs.Control.{isLowerName, isTrimmedValue};
 ghost use Rattle.ranges.specs.Ranges.{placesEnd};
 ghost use Rattle.binary.specs.Read.{judgedLine, cutNumber, cutPlace, afterNameLength, knownLine, knownLines, section};
-ghost use Rattle.binary_parts.specs.Room.{sectionRoom};
+ghost use Rattle.messages.specs.Room.{sectionRoom};
 ghost use Rattle.binary_parts.specs.Section.{JudgedLine, Lined, Bodied, Sectioned};
 
 // The number of a line that is cut off.

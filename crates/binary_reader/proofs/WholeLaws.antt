@@ -20,7 +20,7 @@ use Rattle.binary.specs.Read.{requestMessage, responseMessage, afterIndicator, 
 use Rattle.binary_sound.proofs.Sound.{binary-sound}
 use Rattle.ranges.specs.Ranges.{Responded, readingFrom}
 use Rattle.ranges.proofs.ByValue.{by-value}
-use Rattle.binary_parts.specs.Room.{sectionRoom, headsRoom, informationalRoom, chunksRoom}
+use Rattle.messages.specs.Room.{sectionRoom, headsRoom, informationalRoom, chunksRoom}
 use Rattle.binary_parts.proofs.Places.{integer-cut, integer-got}
 use Rattle.binary_reader.specs.Requests.{Requested}
 use Rattle.binary_reader.proofs.Answered.{answered-as, answered-no}

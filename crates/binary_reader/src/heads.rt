@@ -20,7 +20,7 @@ ghost use Rattle.octets.specs.Table.{classes};
 ghost use Rattle.octets.specs.Limits.{informationalMost};
 ghost use Rattle.ranges.specs.Ranges.{placesEnd};
 ghost use Rattle.binary.specs.Read.{afterFinalStatus, afterInformationalStatus, heads, responseMessage};
-ghost use Rattle.binary_parts.specs.Room.{sectionRoom, headsRoom, informationalRoom};
+ghost use Rattle.messages.specs.Room.{sectionRoom, headsRoom, informationalRoom};
 ghost use Rattle.binary_reader.specs.Heads.{FinalStatus, Headed, HeadsTaken};
 
 // What stands behind an informational status that ends at `next`: its section, which states no length.

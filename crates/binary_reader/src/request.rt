@@ -22,7 +22,7 @@ ghost use lib.ListN.{length, drop};
 ghost use Rattle.octets.specs.Table.{classes};
 ghost use Rattle.ranges.specs.Ranges.{placesEnd};
 ghost use Rattle.binary.specs.Read.{afterControl, requestMessage};
-ghost use Rattle.binary_parts.specs.Room.{sectionRoom, chunksRoom};
+ghost use Rattle.messages.specs.Room.{sectionRoom, chunksRoom};
 ghost use Rattle.binary_parts.specs.Control.{Inside, controlOf};
 ghost use Rattle.binary_reader.specs.Requests.{HeadJudged, partIs, requestOutcome, RequestRest, Requested};
 

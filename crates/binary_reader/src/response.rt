@@ -20,7 +20,7 @@ ghost use lib.ListN.{length, drop};
 ghost use Rattle.octets.specs.Table.{classes};
 ghost use Rattle.binary.specs.Read.{responseMessage, messageAnswer};
 ghost use Rattle.ranges.specs.Ranges.{placesEnd, Responded};
-ghost use Rattle.binary_parts.specs.Room.{sectionRoom, headsRoom, informationalRoom, chunksRoom};
+ghost use Rattle.messages.specs.Room.{sectionRoom, headsRoom, informationalRoom, chunksRoom};
 ghost use Rattle.binary_reader.specs.Responses.{FinalJudged, responseOutcome, FinalRead};
 
 // A final head that ends at `end`, by what it states.

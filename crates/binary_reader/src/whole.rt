@@ -16,7 +16,7 @@ ghost use Rattle.octets.specs.Table.{classes};
 ghost use Rattle.messages.specs.Answers.{readingOf};
 ghost use Rattle.binary.specs.Read.{afterIndicator, messageAnswer, readBinary};
 ghost use Rattle.ranges.specs.Ranges.{placesEnd, Responded};
-ghost use Rattle.binary_parts.specs.Room.{sectionRoom, headsRoom, informationalRoom, chunksRoom};
+ghost use Rattle.messages.specs.Room.{sectionRoom, headsRoom, informationalRoom, chunksRoom};
 
 // What stands behind the framing indicator, which ends at `from`.
 fn after_indicator(

@@ -6,11 +6,13 @@ use mathlib.Core.Bool.{Bool, true, false, cond}
 use mathlib.Core.List.{List, [], _∷_, _++_}
 use lib.Dec.{leb}
 use lib.ListN.{length, getD, replicate}
+use Rattle.octets.specs.Limits.{linesMost, informationalMost}
 use Rattle.octets.specs.Refusals.{noRoom}
 use Rattle.script.specs.Script.{Answer, accepted, refused, more}
-use Rattle.output.specs.Splice.{splice}
+use Rattle.output.specs.Splice.{splice, part}
 use Rattle.output.specs.Reply.{Reply, writtenOf, lentAfter, writtenNumber, writtenPlace}
 use Rattle.messages.specs.Message.{Message}
+use Rattle.messages.specs.Room.{informationalRoom}
 use Rattle.messages.specs.Answers.{chunksNumbers, informationalNumbers, informationalIn, padded, recordOf, readingOf, numberOf, placeOf}
 use Rattle.messages.specs.declared.Part.{Part}
 use Rattle.messages.specs.declared.Record.{Record}
@@ -35,10 +37,36 @@ countNumbers r = (r .status ∷ r .informational ∷ []) ++ (r .headers ∷ r .c
 unfoldable pub recordNumbers : Record → List ℕ
 recordNumbers r = controlNumbers r ++ countNumbers r
 
+-- how many numbers control data have, the status and the counts, and a record
+abbrev pub controlCount : ℕ
+controlCount = 8
+
+abbrev pub countsCount : ℕ
+countsCount = 6
+
+abbrev pub recordCount : ℕ
+recordCount = controlCount + countsCount
+
+-- with those of the informational heads
+abbrev pub startCount : ℕ
+startCount = recordCount + informationalRoom
+
+-- how many fields all heads of a response have at most
+abbrev pub fieldsMost : ℕ
+fieldsMost = (informationalMost + 1) * linesMost
+
+-- what stands before the lists, by the record and by the numbers of the informational heads
+abbrev pub startNumbers : Record → List ℕ → List ℕ
+startNumbers r ns = recordNumbers r ++ part ns 0 informationalRoom
+
+-- the lists: so many numbers of header fields, of chunks and of trailer fields
+abbrev pub listNumbers : List ℕ → ℕ → List ℕ → ℕ → List ℕ → ℕ → List ℕ
+listNumbers hs h cs c ts k = part hs 0 h ++ part cs 0 c ++ part ts 0 k
+
 -- the numbers that describe an accepted message of length n, one behind the other
 unfoldable pub entryNumbers : ℕ → Message → List ℕ
 entryNumbers n m =
-    (recordNumbers (recordOf n m) ++ padded 8 (informationalNumbers (informationalIn (m .start))))
+    (recordNumbers (recordOf n m) ++ padded informationalRoom (informationalNumbers (informationalIn (m .start))))
     ++ (headNumbers m ++ chunksNumbers (m .chunks) ++ trailerNumbers m)
 
 -- ---- the answer of a reading entry that was lent ranges o, on an input of so many octets
@@ -79,7 +107,7 @@ pub record Numbered (bs : List ℕ) (n : ℕ) (o o′ : List ℕ) (place number 
 
 -- the ranges of informational heads before any is read
 unfoldable pub noHeads : List ℕ
-noHeads = replicate 8 0
+noHeads = replicate informationalRoom 0
 
 -- how many fields the informational heads have, by their numbers
 unfoldable pub headsFields : List ℕ → ℕ

@@ -10,12 +10,15 @@ use messages::Told;
 use octets::Refusals;
 use octets::class_table;
 ghost use mathlib.Core.Path.{_≡_};
-ghost use Prim.Native.Nat.{_+_, _≤_, _<_};
+ghost use Prim.Native.Nat.{_+_, _*_, _≤_, _<_};
 ghost use lib.ListN.{length};
 ghost use Rattle.octets.specs.Table.{classes};
+ghost use Rattle.octets.specs.Limits.{linesMost, informationalMost};
+ghost use Rattle.ranges.specs.Ranges.{placesEnd};
 ghost use Rattle.binary.specs.Read.{readBinary};
 ghost use Rattle.http1.specs.Read.{readRequest, readResponse};
-ghost use Rattle.messages.specs.Told.{plain as told};
+ghost use Rattle.messages.specs.Told.{plain};
+ghost use Rattle.messages.specs.Room.{sectionRoom, headsRoom, informationalRoom, chunksRoom};
 ghost use Rattle.output.specs.Reply.{writes};
 ghost use Rattle.listing.specs.Listing.{listingOf};
 ghost use Rattle.capi.specs.Entries.{Entered, EntryServed, noHeads, headsFields};
@@ -24,17 +27,19 @@ ghost use Rattle.capi.specs.Entries.{Entered, EntryServed, noHeads, head
 fn enter_request(
     t: &[u8; 256],
     input: &[u8],
-    scheme: u32,
+    told: Told,
     ranges: &mut [u32],
     place: &mut usize,
     headers: &mut [u32],
     chunks: &mut [u32],
     trailers: &mut [u32],
 ) -> u32
-    requires { ⌜ (now t ≡ classes) × (256 ≤ length (now headers)) × (512 ≤ length (now chunks)) × (256 ≤ length (now trailers)) ⌝ }
-    ensures { λ r. ⌜ Entered (readRequest (told scheme) (now (input .entry))) (length (now (input .entry))) (now (ranges .entry)) (now (ranges .exit)) (now (place .exit)) r ⌝ }
+    requires { ⌜ (now t ≡ classes) × (sectionRoom ≤ length (now headers))
+        × (chunksRoom ≤ length (now chunks)) × (sectionRoom ≤ length (now trailers)) ⌝ }
+    ensures { λ r. ⌜ Entered (readRequest told (now (input .entry))) (length (now (input .entry)))
+        (now (ranges .entry)) (now (ranges .exit)) (now (place .exit)) r ⌝ }
 {
-    let o = request_in(t, input, Told { scheme }, headers, chunks, trailers);
+    let o = request_in(t, input, told, headers, chunks, trailers);
     match o {
         Outcome::More => {
             *place = input.len();
@@ -60,7 +65,8 @@ pub extern "C" fn ospirnar_read_request(
     ranges: &mut [u32],
     place: &mut usize,
 ) -> u32
-    ensures { λ r. ⌜ Entered (readRequest (told scheme) (now (input .entry))) (length (now (input .entry))) (now (ranges .entry)) (now (ranges .exit)) (now (place .exit)) r ⌝ }
+    ensures { λ r. ⌜ Entered (readRequest (plain scheme) (now (input .entry))) (length (now (input .entry)))
+        (now (ranges .entry)) (now (ranges .exit)) (now (place .exit)) r ⌝ }
 {
     let t = class_table();
     let mut headers = [0u32; 256];
@@ -69,7 +75,7 @@ pub extern "C" fn ospirnar_read_request(
     enter_request(
         &t,
         input,
-        scheme,
+        Told { scheme },
         ranges,
         place,
         &mut headers,
@@ -79,15 +85,15 @@ pub extern "C" fn ospirnar_read_request(
 }
 
 fn wide(n: u32) -> usize
-    ensures { λ r. ⌜ (r ≡ n) × (r < 4294967296) ⌝ }
+    ensures { λ r. ⌜ (r ≡ n) × (r < placesEnd) ⌝ }
 {
     n as usize
 }
 
 // How many fields the informational heads have.
 fn heads_fields(heads: &[u32]) -> usize
-    requires { ⌜ 8 ≤ length (now heads) ⌝ }
-    ensures { λ r. ⌜ (r ≡ headsFields (now (heads .entry))) × (r < 17179869184) ⌝ }
+    requires { ⌜ informationalRoom ≤ length (now heads) ⌝ }
+    ensures { λ r. ⌜ (r ≡ headsFields (now (heads .entry))) × (r < placesEnd * informationalMost) ⌝ }
 {
     let a = wide(heads[1]);
     let b = wide(heads[3]);
@@ -107,8 +113,11 @@ fn enter_response(
     chunks: &mut [u32],
     trailers: &mut [u32],
 ) -> u32
-    requires { ⌜ (now t ≡ classes) × (1280 ≤ length (now headers)) × (8 ≤ length (now heads)) × (512 ≤ length (now chunks)) × (256 ≤ length (now trailers)) × (now heads ≡ noHeads) ⌝ }
-    ensures { λ r. ⌜ Entered (readResponse (now (input .entry))) (length (now (input .entry))) (now (ranges .entry)) (now (ranges .exit)) (now (place .exit)) r ⌝ }
+    requires { ⌜ (now t ≡ classes) × (headsRoom ≤ length (now headers))
+        × (informationalRoom ≤ length (now heads)) × (chunksRoom ≤ length (now chunks)) × (sectionRoom ≤ length (now trailers))
+        × (now heads ≡ noHeads) ⌝ }
+    ensures { λ r. ⌜ Entered (readResponse (now (input .entry))) (length (now (input .entry)))
+        (now (ranges .entry)) (now (ranges .exit)) (now (place .exit)) r ⌝ }
 {
     let o = response_in(t, input, headers, heads, chunks, trailers);
     match o {
@@ -129,7 +138,7 @@ fn enter_response(
 
 // With the fields of the final head.
 fn all_fields(heads: &[u32], fields: usize) -> usize
-    requires { ⌜ (8 ≤ length (now heads)) × (fields ≤ 64) ⌝ }
+    requires { ⌜ (informationalRoom ≤ length (now heads)) × (fields ≤ linesMost) ⌝ }
     ensures { λ r. ⌜ r ≡ headsFields (now (heads .entry)) + fields ⌝ }
 {
     heads_fields(heads) + fields
@@ -138,7 +147,8 @@ fn all_fields(heads: &[u32], fields: usize) -> usize
 // The first HTTP/1.1 response of a stream.
 #[no_mangle]
 pub extern "C" fn ospirnar_read_response(input: &[u8], ranges: &mut [u32], place: &mut usize) -> u32
-    ensures { λ r. ⌜ Entered (readResponse (now (input .entry))) (length (now (input .entry))) (now (ranges .entry)) (now (ranges .exit)) (now (place .exit)) r ⌝ }
+    ensures { λ r. ⌜ Entered (readResponse (now (input .entry))) (length (now (input .entry)))
+        (now (ranges .entry)) (now (ranges .exit)) (now (place .exit)) r ⌝ }
 {
     let t = class_table();
     let mut headers = [0u32; 1280];
@@ -168,8 +178,11 @@ fn enter_binary(
     chunks: &mut [u32],
     trailers: &mut [u32],
 ) -> u32
-    requires { ⌜ (now t ≡ classes) × (1280 ≤ length (now headers)) × (8 ≤ length (now heads)) × (512 ≤ length (now chunks)) × (256 ≤ length (now trailers)) × (now heads ≡ noHeads) ⌝ }
-    ensures { λ r. ⌜ Entered (readBinary (now (input .entry))) (length (now (input .entry))) (now (ranges .entry)) (now (ranges .exit)) (now (place .exit)) r ⌝ }
+    requires { ⌜ (now t ≡ classes) × (headsRoom ≤ length (now headers))
+        × (informationalRoom ≤ length (now heads)) × (chunksRoom ≤ length (now chunks)) × (sectionRoom ≤ length (now trailers))
+        × (now heads ≡ noHeads) ⌝ }
+    ensures { λ r. ⌜ Entered (readBinary (now (input .entry))) (length (now (input .entry)))
+        (now (ranges .entry)) (now (ranges .exit)) (now (place .exit)) r ⌝ }
 {
     let o = binary_in(t, input, headers, heads, chunks, trailers);
     match o {
@@ -191,7 +204,8 @@ fn enter_binary(
 // One Binary message: the whole input.
 #[no_mangle]
 pub extern "C" fn ospirnar_read_binary(input: &[u8], ranges: &mut [u32], place: &mut usize) -> u32
-    ensures { λ r. ⌜ Entered (readBinary (now (input .entry))) (length (now (input .entry))) (now (ranges .entry)) (now (ranges .exit)) (now (place .exit)) r ⌝ }
+    ensures { λ r. ⌜ Entered (readBinary (now (input .entry))) (length (now (input .entry)))
+        (now (ranges .entry)) (now (ranges .exit)) (now (place .exit)) r ⌝ }
 {
     let t = class_table();
     let mut headers = [0u32; 1280];
@@ -213,7 +227,8 @@ pub extern "C" fn ospirnar_read_binary(input: &[u8], ranges: &mut [u32], place: 
 // The listing of an HTTP/1.1 request stream under http.
 #[no_mangle]
 pub extern "C" fn ospirnar_listing(input: &[u8], output: &mut [u8], place: &mut usize) -> u32
-    ensures { λ r. ⌜ EntryServed (writes (listingOf (now (input .entry)))) (now (output .entry)) (now (output .exit)) (now (place .exit)) r ⌝ }
+    ensures { λ r. ⌜ EntryServed (writes (listingOf (now (input .entry))))
+        (now (output .entry)) (now (output .exit)) (now (place .exit)) r ⌝ }
 {
     let w = listing(input, output);
     give_written(w, place)

@@ -1,11 +1,12 @@
 // The field question's entries. C can't be handed a slice back, so start and length stand for the part of the message that the inner call's slice would be.
+use messages::Told;
 use question::Asked;
 use question::Found;
 use question::binary_found;
 use question::request_found;
 use question::response_found;
 ghost use mathlib.Core.Path.{_≡_};
-ghost use Rattle.messages.specs.Told.{plain as told};
+ghost use Rattle.messages.specs.Told.{plain};
 ghost use Rattle.turn.specs.Question.{requestQuestion, responseQuestion, binaryQuestion};
 ghost use Rattle.question.specs.Asking.{askedOf};
 ghost use Rattle.capi.specs.Entries.{FieldEntered};
@@ -48,9 +49,10 @@ pub extern "C" fn ospirnar_request_field(
     start: &mut usize,
     len: &mut usize,
 ) -> u32
-    ensures { λ r. ⌜ FieldEntered (askedOf (requestQuestion (told scheme) (now (name .entry)) (now (input .entry)))) (now (number .exit)) (now (place .exit)) (now (start .exit)) (now (len .exit)) r ⌝ }
+    ensures { λ r. ⌜ FieldEntered (askedOf (requestQuestion (plain scheme) (now (name .entry)) (now (input .entry))))
+        (now (number .exit)) (now (place .exit)) (now (start .exit)) (now (len .exit)) r ⌝ }
 {
-    let a = request_found(input, scheme, name);
+    let a = request_found(input, Told { scheme }, name);
     give_field(a, number, place, start, len)
 }
 
@@ -64,7 +66,8 @@ pub extern "C" fn ospirnar_response_field(
     start: &mut usize,
     len: &mut usize,
 ) -> u32
-    ensures { λ r. ⌜ FieldEntered (askedOf (responseQuestion (now (name .entry)) (now (input .entry)))) (now (number .exit)) (now (place .exit)) (now (start .exit)) (now (len .exit)) r ⌝ }
+    ensures { λ r. ⌜ FieldEntered (askedOf (responseQuestion (now (name .entry)) (now (input .entry))))
+        (now (number .exit)) (now (place .exit)) (now (start .exit)) (now (len .exit)) r ⌝ }
 {
     let a = response_found(input, name);
     give_field(a, number, place, start, len)
@@ -80,7 +83,8 @@ pub extern "C" fn ospirnar_binary_field(
     start: &mut usize,
     len: &mut usize,
 ) -> u32
-    ensures { λ r. ⌜ FieldEntered (askedOf (binaryQuestion (now (name .entry)) (now (input .entry)))) (now (number .exit)) (now (place .exit)) (now (start .exit)) (now (len .exit)) r ⌝ }
+    ensures { λ r. ⌜ FieldEntered (askedOf (binaryQuestion (now (name .entry)) (now (input .entry))))
+        (now (number .exit)) (now (place .exit)) (now (start .exit)) (now (len .exit)) r ⌝ }
 {
     let a = binary_found(input, name);
     give_field(a, number, place, start, len)

@@ -2,6 +2,6 @@
 
 pub mod entries;
 pub mod fields;
-pub mod numbers_out;
+mod numbers_out;
 pub mod turnings;
-pub mod written;
+mod written;

@@ -8,11 +8,13 @@ ghost use mathlib.Core.Bool.{cond};
 ghost use Prim.Native.Nat.{_+_, _*_, _≤_};
 ghost use lib.ListN.{length};
 ghost use Rattle.output.specs.Splice.{part, Put};
+ghost use Rattle.messages.specs.Room.{informationalRoom};
 ghost use Rattle.ranges.specs.Ranges.{SmallRecord};
-ghost use Rattle.capi.specs.Entries.{partNumbers, controlNumbers, recordNumbers, Numbered};
+ghost use Rattle.capi.specs.Entries.{partNumbers, controlNumbers, recordNumbers, startNumbers, listNumbers, Numbered};
+ghost use Rattle.capi.specs.Entries.{controlCount, countsCount, recordCount, startCount, fieldsMost};
 
 // The first `len` numbers of src, from `at` on in out.
-pub fn put_numbers(out: &mut [u32], at: usize, src: &[u32], len: usize) -> usize
+fn put_numbers(out: &mut [u32], at: usize, src: &[u32], len: usize) -> usize
     requires { ⌜ at + len ≤ length (now out) ⌝ }
     requires { ⌜ len ≤ length (now src) ⌝ }
     ensures { λ r. ⌜ Put (now (out .entry)) at (part (now (src .entry)) 0 len) len (now (out .exit)) r ⌝ }
@@ -43,8 +45,8 @@ fn put_part_numbers(out: &mut [u32], at: usize, p: Part) -> usize
 
 // Kind, scheme and the three parts of control data.
 fn put_control(out: &mut [u32], r: Record) -> usize
-    requires { ⌜ 8 ≤ length (now out) ⌝ }
-    ensures { λ z. ⌜ Put (now (out .entry)) 0 (controlNumbers r) 8 (now (out .exit)) z ⌝ }
+    requires { ⌜ controlCount ≤ length (now out) ⌝ }
+    ensures { λ z. ⌜ Put (now (out .entry)) 0 (controlNumbers r) controlCount (now (out .exit)) z ⌝ }
 {
     let kind = kind_number(r.response);
     let a = put_two(out, 0, kind, r.scheme);
@@ -76,18 +78,19 @@ fn put_counts(
     content: u32,
     trailers: u32,
 ) -> usize
-    requires { ⌜ at + 6 ≤ length (now out) ⌝ }
-    ensures { λ z. ⌜ Put (now (out .entry)) at ((status ∷ heads ∷ []) ++ (headers ∷ chunks ∷ []) ++ (content ∷ trailers ∷ [])) 6 (now (out .exit)) z ⌝ }
+    requires { ⌜ at + countsCount ≤ length (now out) ⌝ }
+    ensures { λ z. ⌜ Put (now (out .entry)) at
+        ((status ∷ heads ∷ []) ++ (headers ∷ chunks ∷ []) ++ (content ∷ trailers ∷ [])) countsCount (now (out .exit)) z ⌝ }
 {
     let a = put_two(out, at, status, heads);
     let b = put_two(out, a, headers, chunks);
     put_two(out, b, content, trailers)
 }
 
-// The fourteen numbers of a record.
+// The numbers of a record.
 fn put_record(out: &mut [u32], r: Record) -> usize
-    requires { ⌜ (14 ≤ length (now out)) × SmallRecord r ⌝ }
-    ensures { λ z. ⌜ Put (now (out .entry)) 0 (recordNumbers r) 14 (now (out .exit)) z ⌝ }
+    requires { ⌜ (recordCount ≤ length (now out)) × SmallRecord r ⌝ }
+    ensures { λ z. ⌜ Put (now (out .entry)) 0 (recordNumbers r) recordCount (now (out .exit)) z ⌝ }
 {
     let a = put_control(out, r);
     put_counts(
@@ -104,8 +107,8 @@ fn put_record(out: &mut [u32], r: Record) -> usize
 
 // The numbers of a record, and of its informational heads.
 fn put_start(out: &mut [u32], r: Record, heads: &[u32]) -> usize
-    requires { ⌜ (22 ≤ length (now out)) × SmallRecord r × (8 ≤ length (now heads)) ⌝ }
-    ensures { λ z. ⌜ Put (now (out .entry)) 0 (recordNumbers r ++ part (now (heads .entry)) 0 8) 22 (now (out .exit)) z ⌝ }
+    requires { ⌜ (startCount ≤ length (now out)) × SmallRecord r × (informationalRoom ≤ length (now heads)) ⌝ }
+    ensures { λ z. ⌜ Put (now (out .entry)) 0 (startNumbers r (now (heads .entry))) startCount (now (out .exit)) z ⌝ }
 {
     let a = put_record(out, r);
     put_numbers(out, a, heads, 8)
@@ -122,8 +125,10 @@ fn put_lists(
     trailers: &[u32],
     k: usize,
 ) -> usize
-    requires { ⌜ (at + h + c + k ≤ length (now out)) × (h ≤ length (now headers)) × (c ≤ length (now chunks)) × (k ≤ length (now trailers)) ⌝ }
-    ensures { λ z. ⌜ Put (now (out .entry)) at (part (now (headers .entry)) 0 h ++ part (now (chunks .entry)) 0 c ++ part (now (trailers .entry)) 0 k) (h + c + k) (now (out .exit)) z ⌝ }
+    requires { ⌜ (at + h + c + k ≤ length (now out)) × (h ≤ length (now headers))
+        × (c ≤ length (now chunks)) × (k ≤ length (now trailers)) ⌝ }
+    ensures { λ z. ⌜ Put (now (out .entry)) at
+        (listNumbers (now (headers .entry)) h (now (chunks .entry)) c (now (trailers .entry)) k) (h + c + k) (now (out .exit)) z ⌝ }
 {
     let a = put_numbers(out, at, headers, h);
     let b = put_numbers(out, a, chunks, c);
@@ -131,7 +136,7 @@ fn put_lists(
 }
 
 // All numbers of a message of which `fields` kept fields stand in `headers`: 0, or 13 where they do not fit.
-pub fn give_message(
+pub(crate) fn give_message(
     ranges: &mut [u32],
     place: &mut usize,
     r: Record,
@@ -141,8 +146,12 @@ pub fn give_message(
     chunks: &[u32],
     trailers: &[u32],
 ) -> u32
-    requires { ⌜ SmallRecord r × (fields ≤ 320) × (8 ≤ length (now heads)) × (fields * 4 ≤ length (now headers)) × (r .chunks * 2 ≤ length (now chunks)) × (r .trailers * 4 ≤ length (now trailers)) ⌝ }
-    ensures { λ z. ⌜ Numbered ((recordNumbers r ++ part (now (heads .entry)) 0 8) ++ (part (now (headers .entry)) 0 (fields * 4) ++ part (now (chunks .entry)) 0 (r .chunks * 2) ++ part (now (trailers .entry)) 0 (r .trailers * 4))) (r .length) (now (ranges .entry)) (now (ranges .exit)) (now (place .exit)) z ⌝ }
+    requires { ⌜ SmallRecord r × (fields ≤ fieldsMost) × (informationalRoom ≤ length (now heads)) × (fields * 4 ≤ length (now headers))
+        × (r .chunks * 2 ≤ length (now chunks)) × (r .trailers * 4 ≤ length (now trailers)) ⌝ }
+    ensures { λ z. ⌜ Numbered
+        (startNumbers r (now (heads .entry))
+        ++ listNumbers (now (headers .entry)) (fields * 4) (now (chunks .entry)) (r .chunks * 2) (now (trailers .entry)) (r .trailers * 4))
+        (r .length) (now (ranges .entry)) (now (ranges .exit)) (now (place .exit)) z ⌝ }
 {
     let h = fields * 4;
     let c = r.chunks * 2;

@@ -1,11 +1,12 @@
 // The turning entries: what is read of the one form is written in the other.
 use crate::written::give_written;
+use messages::Told;
 use turning::from_binary::binary_to_binary;
 use turning::from_binary::binary_to_http1;
 use turning::to_binary::request_to_binary;
 use turning::to_binary::response_to_binary;
 ghost use mathlib.Core.Path.{_≡_};
-ghost use Rattle.messages.specs.Told.{plain as told};
+ghost use Rattle.messages.specs.Told.{plain};
 ghost use Rattle.turn.specs.Turn.{requestToBinary, responseToBinary, binaryToBinary, binaryToHttp1};
 ghost use Rattle.capi.specs.Entries.{EntryServed};
 
@@ -17,9 +18,10 @@ pub extern "C" fn ospirnar_request_to_binary(
     output: &mut [u8],
     place: &mut usize,
 ) -> u32
-    ensures { λ r. ⌜ EntryServed (requestToBinary (told scheme) (now (input .entry))) (now (output .entry)) (now (output .exit)) (now (place .exit)) r ⌝ }
+    ensures { λ r. ⌜ EntryServed (requestToBinary (plain scheme) (now (input .entry)))
+        (now (output .entry)) (now (output .exit)) (now (place .exit)) r ⌝ }
 {
-    let w = request_to_binary(input, scheme, output);
+    let w = request_to_binary(input, Told { scheme }, output);
     give_written(w, place)
 }
 
@@ -30,7 +32,8 @@ pub extern "C" fn ospirnar_response_to_binary(
     output: &mut [u8],
     place: &mut usize,
 ) -> u32
-    ensures { λ r. ⌜ EntryServed (responseToBinary (now (input .entry))) (now (output .entry)) (now (output .exit)) (now (place .exit)) r ⌝ }
+    ensures { λ r. ⌜ EntryServed (responseToBinary (now (input .entry)))
+        (now (output .entry)) (now (output .exit)) (now (place .exit)) r ⌝ }
 {
     let w = response_to_binary(input, output);
     give_written(w, place)
@@ -43,7 +46,8 @@ pub extern "C" fn ospirnar_binary_to_binary(
     output: &mut [u8],
     place: &mut usize,
 ) -> u32
-    ensures { λ r. ⌜ EntryServed (binaryToBinary (now (input .entry))) (now (output .entry)) (now (output .exit)) (now (place .exit)) r ⌝ }
+    ensures { λ r. ⌜ EntryServed (binaryToBinary (now (input .entry)))
+        (now (output .entry)) (now (output .exit)) (now (place .exit)) r ⌝ }
 {
     let w = binary_to_binary(input, output);
     give_written(w, place)
@@ -57,8 +61,9 @@ pub extern "C" fn ospirnar_binary_to_http1(
     output: &mut [u8],
     place: &mut usize,
 ) -> u32
-    ensures { λ r. ⌜ EntryServed (binaryToHttp1 (told scheme) (now (input .entry))) (now (output .entry)) (now (output .exit)) (now (place .exit)) r ⌝ }
+    ensures { λ r. ⌜ EntryServed (binaryToHttp1 (plain scheme) (now (input .entry)))
+        (now (output .entry)) (now (output .exit)) (now (place .exit)) r ⌝ }
 {
-    let w = binary_to_http1(input, scheme, output);
+    let w = binary_to_http1(input, Told { scheme }, output);
     give_written(w, place)
 }

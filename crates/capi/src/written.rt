@@ -4,7 +4,7 @@ ghost use mathlib.Core.Path.{_≡_};
 ghost use Rattle.output.specs.Reply.{writtenNumber, writtenPlace};
 
 // 0 and the length written, or the refusal's number and place.
-pub fn give_written(w: Written, place: &mut usize) -> u32
+pub(crate) fn give_written(w: Written, place: &mut usize) -> u32
     ensures { λ r. ⌜ (r ≡ writtenNumber w) × (now (place .exit) ≡ writtenPlace w) ⌝ }
 {
     match w {

@@ -16,7 +16,6 @@ ghost use denote.Ref.{ptr};
 ghost use lib.ListN.{length};
 ghost use Rattle.octets.specs.Text.{lowerOf, sameText};
 ghost use Rattle.ranges.specs.Entries.{fieldIn, EntryWithin, FieldsWithin};
-ghost use Rattle.messages.specs.Told.{plain as told};
 ghost use Rattle.turn.specs.Question.{requestQuestion, responseQuestion, binaryQuestion};
 ghost use Rattle.question.specs.Asking.{askedOf, valuePart, foundIn, OutcomeWithin, askedFrom, octetsOr, pointsTo, FoundWithin, Answered};
 
@@ -98,22 +97,15 @@ fn asked_from(s: &[u8], o: Outcome, headers: &[u32], heads: &[u32], name: &[u8])
 }
 
 // The field question to the first HTTP/1.1 request of s, under the scheme told.
-pub fn request_found(s: &[u8], scheme: u32, name: &[u8]) -> Asked
-    ensures { λ r. ⌜ r ≡ askedOf (requestQuestion (told scheme) (now (name .entry)) (now (s .entry))) ⌝ }
+pub fn request_found(s: &[u8], told: Told, name: &[u8]) -> Asked
+    ensures { λ r. ⌜ r ≡ askedOf (requestQuestion told (now (name .entry)) (now (s .entry))) ⌝ }
 {
     let t = class_table();
     let heads = [0u32; 8];
     let mut headers = [0u32; 256];
     let mut chunks = [0u32; 512];
     let mut trailers = [0u32; 256];
-    let o = request_in(
-        &t,
-        s,
-        Told { scheme },
-        &mut headers,
-        &mut chunks,
-        &mut trailers,
-    );
+    let o = request_in(&t, s, told, &mut headers, &mut chunks, &mut trailers);
     asked_from(s, o, &headers, &heads, name)
 }
 
@@ -170,15 +162,16 @@ fn field_or<'a>(
 // and place receive the message's refusal, or 0 and 0.
 pub fn request_field<'a>(
     s: &'a [u8],
-    scheme: u32,
+    told: Told,
     name: &[u8],
     default: &'a [u8],
     number: &mut u32,
     place: &mut usize,
 ) -> &'a [u8]
-    ensures { λ r. ⌜ Answered (requestQuestion (told scheme) (now (name .entry)) (now (s .entry))) (now («default» .entry)) (ptr (s .entry)) (ptr («default» .entry)) (now r) (ptr r) (now (number .exit)) (now (place .exit)) ⌝ }
+    ensures { λ r. ⌜ Answered (requestQuestion told (now (name .entry)) (now (s .entry)))
+        (now («default» .entry)) (ptr (s .entry)) (ptr («default» .entry)) (now r) (ptr r) (now (number .exit)) (now (place .exit)) ⌝ }
 {
-    let a = request_found(s, scheme, name);
+    let a = request_found(s, told, name);
     field_or(s, a, default, number, place)
 }
 
@@ -190,7 +183,8 @@ pub fn response_field<'a>(
     number: &mut u32,
     place: &mut usize,
 ) -> &'a [u8]
-    ensures { λ r. ⌜ Answered (responseQuestion (now (name .entry)) (now (s .entry))) (now («default» .entry)) (ptr (s .entry)) (ptr («default» .entry)) (now r) (ptr r) (now (number .exit)) (now (place .exit)) ⌝ }
+    ensures { λ r. ⌜ Answered (responseQuestion (now (name .entry)) (now (s .entry)))
+        (now («default» .entry)) (ptr (s .entry)) (ptr («default» .entry)) (now r) (ptr r) (now (number .exit)) (now (place .exit)) ⌝ }
 {
     let a = response_found(s, name);
     field_or(s, a, default, number, place)
@@ -204,7 +198,8 @@ pub fn binary_field<'a>(
     number: &mut u32,
     place: &mut usize,
 ) -> &'a [u8]
-    ensures { λ r. ⌜ Answered (binaryQuestion (now (name .entry)) (now (s .entry))) (now («default» .entry)) (ptr (s .entry)) (ptr («default» .entry)) (now r) (ptr r) (now (number .exit)) (now (place .exit)) ⌝ }
+    ensures { λ r. ⌜ Answered (binaryQuestion (now (name .entry)) (now (s .entry)))
+        (now («default» .entry)) (ptr (s .entry)) (ptr («default» .entry)) (now r) (ptr r) (now (number .exit)) (now (place .exit)) ⌝ }
 {
     let a = binary_found(s, name);
     field_or(s, a, default, number, place)

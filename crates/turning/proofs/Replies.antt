@@ -13,6 +13,7 @@ use Rattle.output.specs.declared.Written.{Written}
 use Rattle.output.specs.declared.Written.the-variants.{Refused}
 use Rattle.output.proofs.Serve.{serve-wrong}
 use Rattle.messages.specs.declared.Told.{Told}
+use Rattle.messages.specs.Room.{sectionRoom, headsRoom, informationalRoom, chunksRoom}
 use Rattle.messages.specs.Valid.{isScheme}
 use Rattle.messages.specs.declared.Record.{Record}
 use Rattle.messages.specs.declared.Outcome.{Outcome}
@@ -36,7 +37,7 @@ module _ {x : Answer Message} (n : ℕ) (write : Meaning → Reply) where
 
 -- a Binary message that was read is held
 pub binary-held : (s : List ℕ) {hs hs′ ns ns′ cs cs′ ts ts′ : List ℕ} {o : Outcome} {r : Record} → Responded (readBinary s) hs hs′ ns ns′ cs cs′ ts ts′ o
-    → o ≡ outcome.Message r → 1280 ≤ length hs → 8 ≤ length ns → 512 ≤ length cs → 256 ≤ length ts → IsHeld (readBinary s) s r hs′ ns′ cs′ ts′
+    → o ≡ outcome.Message r → headsRoom ≤ length hs → informationalRoom ≤ length ns → chunksRoom ≤ length cs → sectionRoom ≤ length ts → IsHeld (readBinary s) s r hs′ ns′ cs′ ts′
 binary-held s h e = held s h e (λ n m q. binary-sound s n m q .sound)
 
 -- ---- the scheme that is told

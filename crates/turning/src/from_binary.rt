@@ -10,8 +10,8 @@ ghost use mathlib.Core.Path.{_≡_};
 ghost use Prim.Native.Nat.{_≤_};
 ghost use lib.ListN.{length};
 ghost use Rattle.octets.specs.Table.{classes};
+ghost use Rattle.messages.specs.Room.{sectionRoom, headsRoom, informationalRoom, chunksRoom};
 ghost use Rattle.output.specs.Reply.{Served};
-ghost use Rattle.messages.specs.Told.{plain as told};
 ghost use Rattle.turn.specs.Turn.{binaryToBinary, binaryToHttp1};
 ghost use Rattle.turning.specs.Behind.{readToHttp1};
 
@@ -25,7 +25,8 @@ fn turn_anew(
     chunks: &mut [u32],
     trailers: &mut [u32],
 ) -> Written
-    requires { ⌜ (now t ≡ classes) × (1280 ≤ length (now headers)) × (8 ≤ length (now heads)) × (512 ≤ length (now chunks)) × (256 ≤ length (now trailers)) ⌝ }
+    requires { ⌜ (now t ≡ classes) × (headsRoom ≤ length (now headers))
+        × (informationalRoom ≤ length (now heads)) × (chunksRoom ≤ length (now chunks)) × (sectionRoom ≤ length (now trailers)) ⌝ }
     ensures { λ r. ⌜ Served (binaryToBinary (now (input .entry))) (now (out .entry)) (now (out .exit)) r ⌝ }
 {
     let o = binary_in(t, input, headers, heads, chunks, trailers);
@@ -67,19 +68,20 @@ pub fn binary_to_binary(input: &[u8], out: &mut [u8]) -> Written
     )
 }
 
-// The message as HTTP/1.1 on a connection of the scheme, through working space for the ranges.
+// The message as HTTP/1.1 on a connection of the scheme told, through working space for the ranges.
 fn turn_http1(
     t: &[u8; 256],
     input: &[u8],
-    scheme: u32,
+    told: Told,
     out: &mut [u8],
     headers: &mut [u32],
     heads: &mut [u32],
     chunks: &mut [u32],
     trailers: &mut [u32],
 ) -> Written
-    requires { ⌜ (now t ≡ classes) × (1280 ≤ length (now headers)) × (8 ≤ length (now heads)) × (512 ≤ length (now chunks)) × (256 ≤ length (now trailers)) ⌝ }
-    ensures { λ r. ⌜ Served (readToHttp1 (told scheme) (now (input .entry))) (now (out .entry)) (now (out .exit)) r ⌝ }
+    requires { ⌜ (now t ≡ classes) × (headsRoom ≤ length (now headers))
+        × (informationalRoom ≤ length (now heads)) × (chunksRoom ≤ length (now chunks)) × (sectionRoom ≤ length (now trailers)) ⌝ }
+    ensures { λ r. ⌜ Served (readToHttp1 told (now (input .entry))) (now (out .entry)) (now (out .exit)) r ⌝ }
 {
     let o = binary_in(t, input, headers, heads, chunks, trailers);
     match o {
@@ -90,7 +92,7 @@ fn turn_http1(
         Outcome::Refusal { number, place } => return Written::Refused { number, place },
         Outcome::Message(r) => return http1_writer::write_message(
             input,
-            Told { scheme },
+            told,
             r,
             headers,
             heads,
@@ -102,10 +104,10 @@ fn turn_http1(
 }
 
 // A Binary message as HTTP/1.1 on a connection of the scheme told.
-pub fn binary_to_http1(input: &[u8], scheme: u32, out: &mut [u8]) -> Written
-    ensures { λ r. ⌜ Served (binaryToHttp1 (told scheme) (now (input .entry))) (now (out .entry)) (now (out .exit)) r ⌝ }
+pub fn binary_to_http1(input: &[u8], told: Told, out: &mut [u8]) -> Written
+    ensures { λ r. ⌜ Served (binaryToHttp1 told (now (input .entry))) (now (out .entry)) (now (out .exit)) r ⌝ }
 {
-    if is_scheme(scheme) {
+    if is_scheme(told.scheme) {
         let t = class_table();
         let mut headers = [0u32; 1280];
         let mut heads = [0u32; 8];
@@ -114,7 +116,7 @@ pub fn binary_to_http1(input: &[u8], scheme: u32, out: &mut [u8]) -> Written
         return turn_http1(
             &t,
             input,
-            scheme,
+            told,
             out,
             &mut headers,
             &mut heads,

@@ -11,24 +11,25 @@ ghost use mathlib.Core.Path.{_≡_};
 ghost use Prim.Native.Nat.{_≤_};
 ghost use lib.ListN.{length};
 ghost use Rattle.octets.specs.Table.{classes};
+ghost use Rattle.messages.specs.Room.{sectionRoom, headsRoom, informationalRoom, chunksRoom};
 ghost use Rattle.output.specs.Reply.{Served};
-ghost use Rattle.messages.specs.Told.{plain as told};
 ghost use Rattle.turn.specs.Turn.{requestToBinary, responseToBinary};
 
 // The same through working space for the ranges.
 fn turn_request(
     t: &[u8; 256],
     input: &[u8],
-    scheme: u32,
+    told: Told,
     out: &mut [u8],
     headers: &mut [u32],
     chunks: &mut [u32],
     trailers: &mut [u32],
 ) -> Written
-    requires { ⌜ (now t ≡ classes) × (256 ≤ length (now headers)) × (512 ≤ length (now chunks)) × (256 ≤ length (now trailers)) ⌝ }
-    ensures { λ r. ⌜ Served (requestToBinary (told scheme) (now (input .entry))) (now (out .entry)) (now (out .exit)) r ⌝ }
+    requires { ⌜ (now t ≡ classes) × (sectionRoom ≤ length (now headers))
+        × (chunksRoom ≤ length (now chunks)) × (sectionRoom ≤ length (now trailers)) ⌝ }
+    ensures { λ r. ⌜ Served (requestToBinary told (now (input .entry))) (now (out .entry)) (now (out .exit)) r ⌝ }
 {
-    let o = request_in(t, input, Told { scheme }, headers, chunks, trailers);
+    let o = request_in(t, input, told, headers, chunks, trailers);
     match o {
         Outcome::More => return Written::Refused {
             number: Refusals::MORE_NEEDED,
@@ -43,8 +44,8 @@ fn turn_request(
 }
 
 // The first HTTP/1.1 request of the input, under the scheme told, as Binary.
-pub fn request_to_binary(input: &[u8], scheme: u32, out: &mut [u8]) -> Written
-    ensures { λ r. ⌜ Served (requestToBinary (told scheme) (now (input .entry))) (now (out .entry)) (now (out .exit)) r ⌝ }
+pub fn request_to_binary(input: &[u8], told: Told, out: &mut [u8]) -> Written
+    ensures { λ r. ⌜ Served (requestToBinary told (now (input .entry))) (now (out .entry)) (now (out .exit)) r ⌝ }
 {
     let t = class_table();
     let mut headers = [0u32; 256];
@@ -53,7 +54,7 @@ pub fn request_to_binary(input: &[u8], scheme: u32, out: &mut [u8]) -> Written
     turn_request(
         &t,
         input,
-        scheme,
+        told,
         out,
         &mut headers,
         &mut chunks,
@@ -71,7 +72,8 @@ fn turn_response(
     chunks: &mut [u32],
     trailers: &mut [u32],
 ) -> Written
-    requires { ⌜ (now t ≡ classes) × (1280 ≤ length (now headers)) × (8 ≤ length (now heads)) × (512 ≤ length (now chunks)) × (256 ≤ length (now trailers)) ⌝ }
+    requires { ⌜ (now t ≡ classes) × (headsRoom ≤ length (now headers))
+        × (informationalRoom ≤ length (now heads)) × (chunksRoom ≤ length (now chunks)) × (sectionRoom ≤ length (now trailers)) ⌝ }
     ensures { λ r. ⌜ Served (responseToBinary (now (input .entry))) (now (out .entry)) (now (out .exit)) r ⌝ }
 {
     let o = response_in(t, input, headers, heads, chunks, trailers);
