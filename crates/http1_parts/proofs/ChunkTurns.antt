@@ -18,8 +18,8 @@ use Rattle.script.proofs.Laws.{run-stop}
 use Rattle.script.proofs.Places.{line-more, line-bad, line-long, line-ends, line-within, octets-more, octets-in}
 use Rattle.http1.specs.Lines.{chunkLens, chunkOf}
 use Rattle.http1.specs.declared.ChunkLine.the-variants as line
-use Rattle.http1.specs.Read.{Content, trailerSection, chunkData, chunksFrom}
-use Rattle.http1_parts.specs.Chunk.{ChunkSays, dataThen, DataRead, DataLies, ChunkLies, Chunked}
+use Rattle.http1.specs.Read.{Content, trailerSection, chunkData, afterChunkLine, chunksFrom}
+use Rattle.http1_parts.specs.Chunk.{ChunkSays, DataRead, DataLies, ChunkLies, Chunked}
 use Rattle.http1_parts.specs.declared.ChunkRead.{ChunkRead}
 use Rattle.http1_parts.specs.declared.ChunkRead.the-variants as read
 use Rattle.http1_parts.proofs.Parts.{drop-take}
@@ -31,7 +31,7 @@ two-of s i h = rw (drop-cons s i 0 (omega arith), drop-cons s (suc i) 0 (omega a
 
 module _ (s : List ℕ) (start n : ℕ) (within : start ≤ length s) where
   pub data-short : length s - start < n + 2 → DataRead s start n read.More
-  unfolding dataThen _>>=_
+  unfolding _>>=_
   data-short h = record { says = λ f cs total. octets-more _ _ s start within h; lies = tt }
 
   module _ (h : n + 2 ≤ length s - start) where
@@ -41,7 +41,7 @@ module _ (s : List ℕ) (start n : ℕ) (within : start ≤ length s) where
         rw (drop-take n (n + 2) (drop start s), e, drop-drop n start s) (two-of s (start + n) (omega arith))
 
     refuse : chunkData n (piece start (take (n + 2) (drop start s))) ≡ wrong badSyntax (start + n) → DataRead s start n (read.Refused badSyntax (start + n))
-    unfolding dataThen _>>=_
+    unfolding _>>=_
     refuse e = record { says = λ f cs total. octets-in _ _ s start within h ∙ rw (e, run-stop); lies = tt }
 
     pub data-cr : (getD s (start + n) 0 ≡ 13 → ⊥) → DataRead s start n (read.Refused badSyntax (start + n))
@@ -58,7 +58,7 @@ module _ (s : List ℕ) (start n : ℕ) (within : start ≤ length s) where
       good-data y = rw (ending, eq-eqb _ 13 x, eq-eqb _ 10 y, take-take n (n + 2) (drop start s) (omega arith))
 
       pub data-good : getD s (start + n + 1) 0 ≡ 10 → DataRead s start n (read.Next start n)
-      unfolding dataThen _>>=_
+      unfolding _>>=_
       data-good y = record { says = λ f cs total. octets-in _ _ s start within h ∙ rw (good-data y); lies = (refl, refl, omega arith) }
 
 -- ---- the line
@@ -107,8 +107,8 @@ module _ (s : List ℕ) (i count total : ℕ) where
 
           module _ (g : total + n ≤ contentMost) where
             to-data : (f : ℕ) (cs : List Piece) → length cs ≡ count
-                → run (chunksFrom (suc f) cs total) i (drop i s) ≡ run (dataThen f cs total n) next (drop next s)
-            unfolding chunksFrom _>>=_ chunkOf dataThen
+                → run (chunksFrom (suc f) cs total) i (drop i s) ≡ run (afterChunkLine (chunksFrom f) cs total n) next (drop next s)
+            unfolding chunksFrom _>>=_ chunkOf
             to-data f cs c =
                 line-ends _ _ _ _ s i next e ∙ rw (q, ne-eqb n 0 z, c, lt-leb chunksMost count m, le-ltb contentMost (total + n) g)
 

@@ -5,13 +5,13 @@ use mathlib.Core.Path.{_≡_}
 use mathlib.Core.List.{List, [], _∷_, _++_}
 use lib.ListN.{length, take, drop}
 use Rattle.octets.specs.Limits.{chunkLineMost, chunksMost, contentMost}
-use Rattle.script.specs.Script.{Answer, refused, more, Script, someOctets, run}
-use Rattle.script.specs.Do.{_>>=_, Piece, piece, word, tell}
+use Rattle.script.specs.Script.{Answer, refused, more, run}
+use Rattle.script.specs.Do.{Piece, piece}
 use Rattle.output.specs.Splice.{splice}
 use Rattle.messages.specs.Meaning.{contentOf}
 use Rattle.messages.specs.Answers.{chunksNumbers}
 use Rattle.messages.specs.declared.Body.the-variants.{Sized}
-use Rattle.http1.specs.Read.{Content, trailerSection, chunkData, chunksFrom, content}
+use Rattle.http1.specs.Read.{Content, trailerSection, afterChunkLine, chunksFrom, content}
 use Rattle.http1_parts.specs.Content.{Contented}
 use Rattle.http1_parts.specs.declared.ChunkRead.{ChunkRead}
 use Rattle.http1_parts.specs.declared.ChunkRead.the-variants.{Next, Last, Refused, More}
@@ -25,13 +25,6 @@ ChunkSays s f cs total x (Last end) = x ≡ run (trailerSection cs) end (drop en
 ChunkSays s f cs total x (Refused n p) = x ≡ refused n p
 ChunkSays s f cs total x More = x ≡ more
 
--- the data of a chunk of n octets, and the chunks behind it
-unfoldable pub dataThen : ℕ → List Piece → ℕ → ℕ → Script Content
-dataThen f cs total n = do
-  d ← word (someOctets (n + 2))
-  c ← tell (chunkData n d)
-  chunksFrom f (cs ++ c ∷ []) (total + n)
-
 -- data of n octets that were read from `start` on
 abbrev pub DataLies : List ℕ → ℕ → ℕ → ChunkRead → Type 0
 DataLies s start n (Next a b) = (a ≡ start) × (b ≡ n) × (start + (n + 2) ≤ length s)
@@ -41,7 +34,7 @@ DataLies s start n More = Unit {0}
 
 -- the promise of a chunk's data that are read, behind any chunks
 pub record DataRead (s : List ℕ) (start n : ℕ) (r : ChunkRead) : Type 0 where
-  pub says : (f : ℕ) (cs : List Piece) (total : ℕ) → ChunkSays s f cs total (run (dataThen f cs total n) start (drop start s)) r
+  pub says : (f : ℕ) (cs : List Piece) (total : ℕ) → ChunkSays s f cs total (run (afterChunkLine (chunksFrom f) cs total n) start (drop start s)) r
   pub lies : DataLies s start n r
 
 -- where a chunk or the end of the last chunk line lies

@@ -3,7 +3,7 @@ use Prim.Native.Nat.{ℕ, _+_, _*_, _≤_}
 use mathlib.Core.Path.{_≡_}
 use mathlib.Core.List.{List, [], _∷_}
 use lib.ListN.{length}
-use Rattle.octets.specs.Limits.{contentMost}
+use Rattle.octets.specs.Limits.{chunksMost, contentMost}
 use Rattle.script.specs.Script.{Answer, accepted, refused, more}
 use Rattle.output.specs.Splice.{splice}
 use Rattle.messages.specs.Names.{keptTrailers}
@@ -14,6 +14,10 @@ use Rattle.messages.specs.declared.Body.the-variants.{Sized, InChunks}
 use Rattle.http1.specs.Read.{Content}
 use Rattle.http1_parts.specs.declared.ContentRead.{ContentRead}
 use Rattle.http1_parts.specs.declared.ContentRead.the-variants.{Done, Refused, More}
+
+-- numbers that the chunks of one message may take, two each
+abbrev pub chunksRoom : ℕ
+chunksRoom = chunksMost * 2
 
 -- a body by length is within the size of content
 abbrev pub SizedWithin : Body → Type 0

@@ -20,6 +20,22 @@ use Rattle.http1_parts.specs.declared.LineRead.{LineRead}
 use Rattle.http1_parts.specs.declared.Section.{Section}
 use Rattle.http1_parts.specs.declared.Section.the-variants.{Done, Refused, More}
 
+-- ---- the lent space: a field takes four numbers
+
+-- numbers that the kept fields of one section may take
+abbrev pub sectionRoom : ℕ
+sectionRoom = linesMost * 4
+
+-- room for one field more behind k of them
+abbrev pub FieldRoom : ℕ → List ℕ → Type 0
+FieldRoom k o = k * 4 + 4 ≤ length o
+
+-- room for a section behind k fields
+abbrev pub SectionRoom : ℕ → List ℕ → Type 0
+SectionRoom k o = k * 4 + sectionRoom ≤ length o
+
+-- ---- lines
+
 -- a line that is no field line, behind so many lines: a 65th is refused before it is judged
 unfoldable pub noField : ℕ → ℕ
 noField lines = cond (leb linesMost lines) tooLarge badSyntax
@@ -27,6 +43,10 @@ noField lines = cond (leb linesMost lines) tooLarge badSyntax
 -- a field line of s by places and lengths: its name has n octets from i on, its value l from v on
 abbrev pub lineAt : List ℕ → ℕ → ℕ → ℕ → ℕ → FieldRead
 lineAt s i n v l = record { name = piece i (take n (drop i s)); value = piece v (take l (drop v s)) }
+
+-- a line's value ends at or before n
+abbrev pub Before : ℕ → FieldRead → Type 0
+Before n f = f .value .place + length (f .value .text) ≤ n
 
 -- what the code keeps of a line: its kind, and how many fields are kept with it
 abbrev pub lineRead : Kind → ℕ → LineRead

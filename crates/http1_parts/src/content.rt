@@ -21,7 +21,8 @@ ghost use Rattle.script.specs.Script.{run};
 ghost use Rattle.messages.specs.declared.Body.the-variants.{InChunks};
 ghost use Rattle.http1.specs.Read.{content};
 ghost use Rattle.ranges.specs.Ranges.{placesEnd};
-ghost use Rattle.http1_parts.specs.Content.{SizedWithin, Contented};
+ghost use Rattle.http1_parts.specs.Section.{sectionRoom};
+ghost use Rattle.http1_parts.specs.Content.{chunksRoom, SizedWithin, Contented};
 ghost use Rattle.http1_parts.specs.Chunk.{DataRead, Chunked, Trailed, SizedRead};
 
 // The trailer section from `from` on, behind `count` chunks of `total` octets.
@@ -33,7 +34,7 @@ fn read_trailers(
     total: usize,
     out: &mut [u32],
 ) -> ContentRead
-    requires { ⌜ (now t ≡ classes) × (from ≤ length (now s)) × (from + trailerMost < placesEnd) × (256 ≤ length (now out)) ⌝ }
+    requires { ⌜ (now t ≡ classes) × (from ≤ length (now s)) × (from + trailerMost < placesEnd) × (sectionRoom ≤ length (now out)) ⌝ }
     ensures { λ r. ⌜ Trailed (now (s .entry)) from count total (now (out .entry)) (now (out .exit)) r ⌝ }
 {
     let h = read_section(t, s, from, Limits::TRAILER, false, 0, out);
@@ -117,13 +118,14 @@ fn next_chunk(t: &[u8; 256], s: &[u8], i: usize, count: usize, total: usize) -> 
                             place: i,
                         };
                     }
-                    if Limits::CONTENT < total + size {
+                    if Limits::fits(total + size, Limits::CONTENT) {
+                        return chunk_data(s, next, size);
+                    } else {
                         return ChunkRead::Refused {
                             number: Refusals::TOO_LARGE,
                             place: i,
                         };
                     }
-                    return chunk_data(s, next, size);
                 }
             }
         }
@@ -131,15 +133,17 @@ fn next_chunk(t: &[u8; 256], s: &[u8], i: usize, count: usize, total: usize) -> 
 }
 
 // Chunks from `from` on, up to the trailers behind the last.
-pub fn read_chunks(
+fn read_chunks(
     t: &[u8; 256],
     s: &[u8],
     from: usize,
     chunks: &mut [u32],
     trailers: &mut [u32],
 ) -> ContentRead
-    requires { ⌜ (now t ≡ classes) × (from ≤ length (now s)) × (from ≤ headMost) × (512 ≤ length (now chunks)) × (256 ≤ length (now trailers)) ⌝ }
-    ensures { λ r. ⌜ Contented (run (content InChunks) from (drop from (now (s .entry)))) (now (chunks .entry)) (now (chunks .exit)) (now (trailers .entry)) (now (trailers .exit)) r ⌝ }
+    requires { ⌜ (now t ≡ classes) × (from ≤ length (now s)) × (from ≤ headMost)
+        × (chunksRoom ≤ length (now chunks)) × (sectionRoom ≤ length (now trailers)) ⌝ }
+    ensures { λ r. ⌜ Contented (run (content InChunks) from (drop from (now (s .entry))))
+        (now (chunks .entry)) (now (chunks .exit)) (now (trailers .entry)) (now (trailers .exit)) r ⌝ }
 {
     let mut i = from;
     let mut count: usize = 0;
@@ -162,7 +166,7 @@ pub fn read_chunks(
 
 // Content of n octets from `from` on: one chunk, or none.
 fn read_sized(s: &[u8], from: usize, n: usize, chunks: &mut [u32]) -> ContentRead
-    requires { ⌜ (from ≤ length (now s)) × (from ≤ headMost) × (n ≤ contentMost) × (512 ≤ length (now chunks)) ⌝ }
+    requires { ⌜ (from ≤ length (now s)) × (from ≤ headMost) × (n ≤ contentMost) × (chunksRoom ≤ length (now chunks)) ⌝ }
     ensures { λ r. ⌜ SizedRead (now (s .entry)) from n (now (chunks .entry)) (now (chunks .exit)) r ⌝ }
 {
     if s.len() - from < n {
@@ -195,8 +199,10 @@ pub fn read_content(
     chunks: &mut [u32],
     trailers: &mut [u32],
 ) -> ContentRead
-    requires { ⌜ (now t ≡ classes) × (from ≤ length (now s)) × (from ≤ headMost) × SizedWithin body × (512 ≤ length (now chunks)) × (256 ≤ length (now trailers)) ⌝ }
-    ensures { λ r. ⌜ Contented (run (content body) from (drop from (now (s .entry)))) (now (chunks .entry)) (now (chunks .exit)) (now (trailers .entry)) (now (trailers .exit)) r ⌝ }
+    requires { ⌜ (now t ≡ classes) × (from ≤ length (now s)) × (from ≤ headMost) × SizedWithin body
+        × (chunksRoom ≤ length (now chunks)) × (sectionRoom ≤ length (now trailers)) ⌝ }
+    ensures { λ r. ⌜ Contented (run (content body) from (drop from (now (s .entry))))
+        (now (chunks .entry)) (now (chunks .exit)) (now (trailers .entry)) (now (trailers .exit)) r ⌝ }
 {
     match body {
         Body::Sized(n) => return read_sized(s, from, n, chunks),

@@ -19,7 +19,7 @@ ghost use Rattle.octets.specs.Table.{classes};
 ghost use Rattle.script.specs.Script.{run};
 ghost use Rattle.http1.specs.Read.{section};
 ghost use Rattle.ranges.specs.Ranges.{placesEnd};
-ghost use Rattle.http1_parts.specs.Section.{noField, lineAt, LineTaken, Sectioned};
+ghost use Rattle.http1_parts.specs.Section.{FieldRoom, SectionRoom, noField, lineAt, LineTaken, Sectioned};
 
 // The field line whose name has `name` octets from i on and whose value has `len` octets from `value` on: stored where it is kept.
 fn take_line(
@@ -32,7 +32,8 @@ fn take_line(
     kept: usize,
     out: &mut [u32],
 ) -> LineRead
-    requires { ⌜ (i + name ≤ length (now s)) × (i + name < placesEnd) × (value + len < placesEnd) × (value + len ≤ length (now s)) × (kept * 4 + 4 ≤ length (now out)) ⌝ }
+    requires { ⌜ (i + name ≤ length (now s)) × (i + name < placesEnd) × (value + len < placesEnd) × (value + len ≤ length (now s))
+        × FieldRoom kept (now out) ⌝ }
     ensures { λ r. ⌜ LineTaken (lineAt (now (s .entry)) i name value len) host kept (now (out .entry)) (now (out .exit)) r ⌝ }
 {
     let n = i + name;
@@ -60,7 +61,7 @@ pub fn read_section(
     base: usize,
     out: &mut [u32],
 ) -> Section
-    requires { ⌜ (now t ≡ classes) × (from ≤ length (now s)) × (from + allowance < placesEnd) × (base * 4 + 256 ≤ length (now out)) ⌝ }
+    requires { ⌜ (now t ≡ classes) × (from ≤ length (now s)) × (from + allowance < placesEnd) × SectionRoom base (now out) ⌝ }
     ensures { λ r. ⌜ Sectioned (run (section allowance) from (drop from (now (s .entry)))) host base (now (out .entry)) (now (out .exit)) r ⌝ }
 {
     let mut i = from;

@@ -20,7 +20,7 @@ use Rattle.messages.specs.declared.Notes.{Notes}
 use Rattle.messages.proofs.Noting.{notes-hosts, notes-framing}
 use Rattle.messages.proofs.Hosting.{host-found, host-wrong}
 use Rattle.messages.proofs.Lengths.{body-read, body-refused}
-use Rattle.http1_reader.specs.Readers.{HeadSays, HeadJudged}
+use Rattle.http1_reader.specs.Readers.{JudgedSays, HeadJudged}
 use Rattle.http1_reader.specs.declared.HeadAnswer.{HeadAnswer}
 use Rattle.http1_reader.specs.declared.HeadAnswer.the-variants as head
 

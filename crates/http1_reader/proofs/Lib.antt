@@ -1,6 +1,5 @@
 pub mod Facts
 pub mod HeadLaws
-pub mod Outcomes
 pub mod Requests
 pub mod RequestHeads
 pub mod ResponseHeads

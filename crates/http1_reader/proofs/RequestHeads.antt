@@ -25,9 +25,10 @@ use Rattle.http1.specs.Lines.{RequestRead}
 use Rattle.http1.specs.Read.{Lines, section, content, afterHead, readRequest}
 use Rattle.sound.specs.Placed.{Each}
 use Rattle.ranges.specs.Ranges.{OutcomeSays, Outcomed}
-use Rattle.http1_reader.specs.Readers.{requestIs, Before, HeadFacts, RestSays, RestRead}
+use Rattle.http1_parts.proofs.Outcomes.{linesWith, SectionDone, behind-done}
+use Rattle.http1_parts.specs.Section.{Before}
+use Rattle.http1_reader.specs.Readers.{requestIs, HeadFacts, RestSays, RestRead}
 use Rattle.http1_reader.proofs.Facts.{SectionFacts, section-facts}
-use Rattle.http1_reader.proofs.Outcomes.{SectionDone, behind-more, behind-refused, behind-done}
 
 -- an answer that equals another promises the same
 pub outcomed-as : {x y : Answer Message} {hs hs′ cs cs′ ts ts′ : List ℕ} {r : Outcome} → x ≡ y → OutcomeSays y hs hs′ cs cs′ ts ts′ r → Outcomed x hs hs′ cs cs′ ts ts′ r
@@ -83,32 +84,35 @@ module _ (s : List ℕ) (m p next : ℕ) (g : next ≤ length s) (k : m + 1 + p 
       ap₂ partAt z l
 
   module _ {hs hs′ : List ℕ} {e l c : ℕ} {n : Notes} (d : SectionDone (run (section (headMost - next)) next (drop next s)) false 0 hs hs′ e l c n) where
-    facts : SectionFacts s next (next + (headMost - next)) (d .place) (d .read)
-    facts = section-facts s next (headMost - next) (d .place) (d .read) g (d .accepts)
+    abbrev pub head-lines : Lines
+    head-lines = linesWith (d .lines) e l
+
+    facts : SectionFacts s next (next + (headMost - next)) (d .place) head-lines
+    facts = section-facts s next (headMost - next) (d .place) head-lines g (d .taken)
 
     place-is : d .place ≡ e
-    place-is = sym (facts .ended .end) ∙ d .end
+    place-is = sym (facts .ended .end)
 
     pub head-within : (e ≤ length s) × (e ≤ headMost)
     head-within = (omega (arith, place-is, facts .within), omega (arith, place-is, facts .ended .left, b))
 
-    pub head-facts : HeadFacts s (requestIs s next m p) (d .read) m p e c n
+    pub head-facts : HeadFacts s (requestIs s next m p) head-lines m p e c n
     head-facts =
         record {
           method = method-is;
           path = path-is;
-          end = d .end;
-          fields = omega (arith, d .count);
-          notes = d .notes;
+          end = refl;
+          fields = omega (arith, d .counted);
+          notes = d .noted;
           lie = facts .lie;
-          before = subst (λ (x : ℕ). Each (Before x) (d .read .lines)) place-is (facts .ended .before);
+          before = subst (λ (x : ℕ). Each (Before x) (d .lines)) place-is (facts .ended .before);
         }
 
     pub head-done : (t : Told) (cs cs′ ts ts′ : List ℕ) (r : Outcome) → RestRead s t m p e c n cs cs′ ts ts′ r
         → Outcomed (run (section (headMost - next) >>= afterHead t (requestIs s next m p)) next (drop next s)) hs hs′ cs cs′ ts ts′ r
     head-done t cs cs′ ts ts′ r w =
         let q = requestIs s next m p in
-        let f = behind-done (headMost - next) (afterHead t q) s next (d .place) (d .read) (d .accepts) in
-        let z = ap (λ (x : ℕ). run (afterHead t q (d .read)) x (drop x s)) place-is in
+        let f = behind-done (headMost - next) (afterHead t q) s next (d .place) head-lines (d .taken) in
+        let z = ap (λ (x : ℕ). run (afterHead t q head-lines) x (drop x s)) place-is in
         outcomed-as (f ∙ z)
-        (with-headers (d .read) (run (afterHead t q (d .read)) e (drop e s)) hs hs′ cs cs′ ts ts′ r (d .stored) (rest-of s t q (d .read) e (head-within .0)) (w .by q (d .read) head-facts))
+        (with-headers head-lines (run (afterHead t q head-lines) e (drop e s)) hs hs′ cs cs′ ts ts′ r (d .stored) (rest-of s t q head-lines e (head-within .0)) (w .by q head-lines head-facts))

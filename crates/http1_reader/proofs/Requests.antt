@@ -23,7 +23,6 @@ use Rattle.messages.specs.Answers.{fieldsNumbers, chunksNumbers, partAt, partOf
 use Rattle.messages.specs.declared.Told.{Told}
 use Rattle.messages.specs.Valid.{isScheme}
 use Rattle.messages.specs.declared.Body.{Body}
-use Rattle.messages.specs.declared.Body.the-variants.{Sized, InChunks}
 use Rattle.messages.specs.declared.Kind.the-variants as kind
 use Rattle.messages.specs.declared.Notes.{Notes}
 use Rattle.messages.specs.declared.Outcome.{Outcome}
@@ -35,12 +34,14 @@ use Rattle.http1.proofs.Views.{request-within}
 use Rattle.sound.specs.Placed.{Each}
 use Rattle.sound.proofs.Each.{each-of}
 use Rattle.sound.proofs.Rules.{HostIs}
-use Rattle.http1_sound.proofs.Rules.{host-is, Fits, Framed, request-framed}
+use Rattle.http1_sound.proofs.Rules.{host-is, request-framed}
 use Rattle.http1_parts.specs.Content.{SizedWithin, ContentSays, Contented}
 use Rattle.http1_parts.specs.declared.ContentRead.{ContentRead}
-use Rattle.http1_reader.specs.Readers.{HeadSays, HeadJudged, RequestJudged, RestRead, requestIs, requestOutcome, Before, HeadFacts, RestSays}
+use Rattle.http1_parts.specs.Section.{Before}
+use Rattle.http1_reader.specs.Readers.{JudgedSays, HeadJudged, RequestJudged, RestRead, requestIs, requestOutcome, HeadFacts, RestSays}
 use Rattle.http1_reader.specs.declared.HeadAnswer.{HeadAnswer}
 use Rattle.http1_reader.specs.declared.HeadAnswer.the-variants as head
+use Rattle.http1_reader.proofs.Facts.{fits-within}
 
 -- ---- the head's rules
 
@@ -57,7 +58,7 @@ no-head e = let z : _≡_ {A = ℕ} 0 1 = cc in absurd (omega arith)
 pub head-good : {j : Judged Piece} {k : Judged Body} {r : HeadAnswer} (a n : ℕ) (b : Body) → HeadJudged j k r → r ≡ head.Good a n b → GoodHead j k a n b
 head-good {j} {k} {r} a n b h e = go j k (h .says)
   where
-    go : (j : Judged Piece) (k : Judged Body) → HeadSays j k r → GoodHead j k a n b
+    go : (j : Judged Piece) (k : Judged Body) → JudgedSays j k r → GoodHead j k a n b
     go (good x) (good y) q =
         let z : head.Good (x .place) (length (x .text)) y ≡ head.Good a n b = sym q ∙ e in
         record { authority = x; found = refl; place = cc; long = cc; body = cc }
@@ -76,7 +77,7 @@ unfolding afterHead _>>=_
 rest-refused t q h s e {r} i p w g =
     go (authorityIn (h .end) (piece 0 []) (h .lines)) (requestBody (h .end) (framingOf (h .lines))) (w .says)
   where
-    go : (j : Judged Piece) (k : Judged Body) → HeadSays j k r
+    go : (j : Judged Piece) (k : Judged Body) → JudgedSays j k r
         → run (tell j >>= λ a. tell k >>= λ b. content b >>= λ c. done (messageWith t q h a c)) e (drop e s) ≡ refused i p
     go (good x) (good y) u = no-head (sym g ∙ u)
     go (good x) (wrong n m) u = let z : head.Refused n m ≡ head.Refused i p = sym u ∙ g in run-stop n m e (drop e s) ∙ cc
@@ -120,11 +121,7 @@ authority-before e fs a n h g =
     omega (arith, l .0, g .place, g .long, z)
 
 pub body-within : (e : ℕ) (fs : List FieldRead) (a n : ℕ) {j : Judged Piece} {b : Body} → GoodHead j (requestBody e (framingOf fs)) a n b → SizedWithin b
-body-within e fs a n {j} {b} g = go b (request-framed e (framingOf fs) b (g .body) .fits)
-  where
-    go : (b : Body) → Fits b → SizedWithin b
-    go (Sized n) h = h
-    go InChunks h = tt
+body-within e fs a n {j} {b} g = fits-within b (request-framed e (framingOf fs) b (g .body) .fits)
 
 -- ---- the request line
 

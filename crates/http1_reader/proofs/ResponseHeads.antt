@@ -27,13 +27,13 @@ use Rattle.messages.proofs.Noting.{notes-framing}
 use Rattle.messages.proofs.Lengths.{body-read, body-refused}
 use Rattle.http1.specs.Lines.{statusLens, statusOf}
 use Rattle.http1.specs.declared.StatusLine.the-variants as status-line
-use Rattle.http1.specs.Read.{Lines, section, afterFinal, heads}
+use Rattle.http1.specs.Read.{Lines, section, afterInformational, afterInformationalLine, afterFinal, afterFinalLine, heads}
 use Rattle.http1_parts.specs.Section.{Sectioned}
 use Rattle.http1_parts.specs.declared.Section.{Section}
 use Rattle.http1_parts.specs.declared.Section.the-variants as section-read
-use Rattle.http1_reader.proofs.Facts.{Ended, SectionFacts, section-facts}
-use Rattle.http1_reader.proofs.Outcomes.{SectionDone, sectioned-more, sectioned-refused, sectioned-done, behind-more, behind-refused, behind-done}
-use Rattle.http1_reader.specs.Responses.{informationalRead, afterInformational, informationalRest, finalRest, HeadStored, HeadSays, Headed}
+use Rattle.http1_parts.proofs.Outcomes.{linesWith, SectionDone, section-more, section-refused, section-done, behind-more, behind-refused, behind-done}
+use Rattle.http1_reader.proofs.Facts.{SectionFacts, section-facts}
+use Rattle.http1_reader.specs.Responses.{HeadStored, HeadSays, Headed}
 use Rattle.http1_reader.specs.declared.HeadRead.{HeadRead}
 use Rattle.http1_reader.specs.declared.HeadRead.the-variants as head
 
@@ -52,35 +52,36 @@ record SectionEnds (s : List ℕ) (next left base : ℕ) (hs hs′ : List ℕ) (
 
 module _ (s : List ℕ) (next left base : ℕ) (hs hs′ : List ℕ) (r : Section) (w : Sectioned (run (section left) next (drop next s)) true base hs hs′ r) where
   module _ (P : List InformationalRead → Type 0) (k : ℕ → List InformationalRead → Lines → Script Message) where
-    pub rest-more : r ≡ section-read.More → Headed P (λ f is. run (section left >>= k f is) next (drop next s)) s base hs hs′ head.More
-    rest-more e = record { by = λ f is z. behind-more left (k f is) s next (sectioned-more w e) }
+    pub headed-more : r ≡ section-read.More → Headed P (λ f is. run (section left >>= k f is) next (drop next s)) s base hs hs′ head.More
+    headed-more e = record { by = λ f is z. behind-more left (k f is) s next (section-more w e) }
 
-    pub rest-refused : (i p : ℕ) → r ≡ section-read.Refused i p → Headed P (λ f is. run (section left >>= k f is) next (drop next s)) s base hs hs′ (head.Refused i p)
-    rest-refused i p e = record { by = λ f is z. behind-refused left (k f is) s next i p (sectioned-refused w i p e) }
+    pub headed-refused : (i p : ℕ) → r ≡ section-read.Refused i p → Headed P (λ f is. run (section left >>= k f is) next (drop next s)) s base hs hs′ (head.Refused i p)
+    headed-refused i p e = record { by = λ f is z. behind-refused left (k f is) s next i p (section-refused w e) }
 
   module _ (within : next ≤ length s) (total : next + left ≡ headMost) (e l c : ℕ) (n : Notes) (q : r ≡ section-read.Done e l c n) where
     section-ends : SectionEnds s next left base hs hs′ e l c n
     section-ends =
-        let d = sectioned-done w e l c n q in
-        let f = section-facts s next left (d .place) (d .read) within (d .accepts) in
-        let z : d .place ≡ e = sym (f .ended .end) ∙ d .end in
+        let d = section-done w q in
+        let h : Lines = linesWith (d .lines) e l in
+        let f = section-facts s next left (d .place) h within (d .taken) in
+        let z : d .place ≡ e = sym (f .ended .end) in
         record {
-          lines = d .read;
-          accepts = d .accepts ∙ ap (λ (i : ℕ). accepted i (d .read)) z;
+          lines = h;
+          accepts = d .taken ∙ ap (λ (i : ℕ). accepted i h) z;
           stored =
               record {
-                end = d .end;
+                end = refl;
                 left = omega (arith, f .ended .left, z, total);
                 within = omega (arith, f .within, z);
                 few = f .few;
-                count = d .count;
+                count = sym (d .counted);
                 stored = d .stored;
               };
-          rest = d .left;
-          noted = d .notes;
+          rest = refl;
+          noted = d .noted;
         }
 
-    pub final-ends : (status : ℕ) → Headed AnyHeads (λ f is. run (finalRest is status left) next (drop next s)) s base hs hs′ (head.Final status e c n)
+    pub final-ends : (status : ℕ) → Headed AnyHeads (λ f is. run (afterFinalLine is status left) next (drop next s)) s base hs hs′ (head.Final status e c n)
     final-ends status =
         let d = section-ends in
         record { by = λ f is z. (d .lines, d .stored, d .noted, behind-done left (afterFinal is status) s next e (d .lines) (d .accepts)) }
@@ -90,25 +91,25 @@ module _ (s : List ℕ) (next left base : ℕ) (hs hs′ : List ℕ) (r : Sectio
       judged d = rw (d .stored .end, framing-noted n (d .lines) (d .noted)) refl
 
       pub informational-states : (i p : ℕ) → bodyAnswer (nothingStated e (n .framing)) ≡ body.Refused i p
-          → Headed FewHeads (λ f is. run (informationalRest f is status left) next (drop next s)) s base hs hs′ (head.Refused i p)
-      unfolding afterInformational _>>=_
+          → Headed FewHeads (λ f is. run (afterInformationalLine (heads f) is status left) next (drop next s)) s base hs hs′ (head.Refused i p)
+      unfolding _>>=_
       informational-states i p g =
           let d = section-ends in
           let z : nothingStated (d .lines .end) (framingOf (d .lines .lines)) ≡ wrong i p = sym (judged d) ∙ body-refused _ i p g in
           record {
             by = λ f is few.
-                behind-done left (afterInformational f is status) s next e (d .lines) (d .accepts) ∙ rw z (run-stop i p e (drop e s));
+                behind-done left (afterInformational (heads f) is status) s next e (d .lines) (d .accepts) ∙ rw z (run-stop i p e (drop e s));
           }
 
       pub informational-ends : (b : Body) → bodyAnswer (nothingStated e (n .framing)) ≡ body.Read b
-          → Headed FewHeads (λ f is. run (informationalRest f is status left) next (drop next s)) s base hs hs′ (head.Informational status e l c)
-      unfolding afterInformational _>>=_
+          → Headed FewHeads (λ f is. run (afterInformationalLine (heads f) is status left) next (drop next s)) s base hs hs′ (head.Informational status e l c)
+      unfolding _>>=_
       informational-ends b g =
           let d = section-ends in
           let z : nothingStated (d .lines .end) (framingOf (d .lines .lines)) ≡ good b = sym (judged d) ∙ body-read _ b g in
           record {
             by = λ f is few.
-                (d .lines, d .stored, d .rest, few, behind-done left (afterInformational f is status) s next e (d .lines) (d .accepts) ∙ rw (z, d .rest) refl);
+                (d .lines, d .stored, d .rest, few, behind-done left (afterInformational (heads f) is status) s next e (d .lines) (d .accepts) ∙ rw (z, d .rest) refl);
           }
 
 -- ---- the status line
@@ -142,11 +143,11 @@ module _ (s : List ℕ) (i left f : ℕ) (is : List InformationalRead) where
       heads-full b g = line-ends _ _ _ _ s i next e ∙ rw (q, b, le-leb _ _ g, run-stop)
 
       heads-informational : isInformational n ≡ true → length is < informationalMost
-          → run (heads (suc f) is left) i (drop i s) ≡ run (informationalRest f is n (left - (next - i))) next (drop next s)
-      unfolding heads statusOf afterInformational _>>=_
+          → run (heads (suc f) is left) i (drop i s) ≡ run (afterInformationalLine (heads f) is n (left - (next - i))) next (drop next s)
+      unfolding heads statusOf _>>=_
       heads-informational b g = line-ends _ _ _ _ s i next e ∙ rw (q, b, lt-leb _ _ g, less-is) refl
 
-      heads-final : isInformational n ≡ false → run (heads (suc f) is left) i (drop i s) ≡ run (finalRest is n (left - (next - i))) next (drop next s)
+      heads-final : isInformational n ≡ false → run (heads (suc f) is left) i (drop i s) ≡ run (afterFinalLine is n (left - (next - i))) next (drop next s)
       unfolding heads statusOf _>>=_
       heads-final b = line-ends _ _ _ _ s i next e ∙ rw (q, b, less-is) refl
 
@@ -170,7 +171,7 @@ module _ (s : List ℕ) (i left count base : ℕ) (hs hs′ : List ℕ) where
 
       module _ (r : HeadRead) where
         pub next-informational : isInformational n ≡ true → count < informationalMost
-            → Headed FewHeads (λ f is. run (informationalRest f is n (left - (next - i))) next (drop next s)) s base hs hs′ r → Headed (SoManyHeads count) (λ f is. run (heads (suc f) is left) i (drop i s)) s base hs hs′ r
+            → Headed FewHeads (λ f is. run (afterInformationalLine (heads f) is n (left - (next - i))) next (drop next s)) s base hs hs′ r → Headed (SoManyHeads count) (λ f is. run (heads (suc f) is left) i (drop i s)) s base hs hs′ r
         next-informational b g h =
             record {
               by = λ f is z.
@@ -178,7 +179,7 @@ module _ (s : List ℕ) (i left count base : ℕ) (hs hs′ : List ℕ) where
                   (sym (heads-informational s i left f is next e within n q b (omega (arith, g, z)))) (h .by f is (omega (arith, g, z)));
             }
 
-        pub next-final : isInformational n ≡ false → Headed AnyHeads (λ f is. run (finalRest is n (left - (next - i))) next (drop next s)) s base hs hs′ r
+        pub next-final : isInformational n ≡ false → Headed AnyHeads (λ f is. run (afterFinalLine is n (left - (next - i))) next (drop next s)) s base hs hs′ r
             → Headed (SoManyHeads count) (λ f is. run (heads (suc f) is left) i (drop i s)) s base hs hs′ r
         next-final b h =
             record {

@@ -16,14 +16,13 @@ use Rattle.messages.specs.Notes.{notesOf, bodyAnswer}
 use Rattle.messages.specs.Rules.{framingOf, responseBody}
 use Rattle.messages.specs.Answers.{fieldsNumbers, chunksNumbers, informationalNumbers, informationalLines, informationalIn, recordOf}
 use Rattle.messages.specs.declared.Body.{Body}
-use Rattle.messages.specs.declared.Body.the-variants.{Sized, InChunks}
 use Rattle.messages.specs.declared.BodyAnswer.the-variants as body
 use Rattle.messages.specs.declared.Notes.{Notes}
 use Rattle.messages.specs.declared.Outcome.{Outcome}
 use Rattle.messages.specs.declared.Outcome.the-variants as outcome
 use Rattle.messages.proofs.Lengths.{body-read, body-refused}
 use Rattle.http1.specs.Read.{Lines, Content, content, afterFinal}
-use Rattle.http1_sound.proofs.Rules.{Fits, response-framed}
+use Rattle.http1_sound.proofs.Rules.{response-framed}
 use Rattle.http1_parts.specs.Content.{SizedWithin, ContentSays, Contented}
 use Rattle.http1_parts.specs.declared.ContentRead.{ContentRead}
 use Rattle.ranges.specs.Ranges.{OutcomeSays, InformationalSays, Responded}
@@ -31,6 +30,7 @@ use Rattle.http1_reader.specs.Readers.{RestSays}
 use Rattle.http1_reader.specs.Responses.{HeadsFacts, HeadsSays, HeadsTaken, responseOutcome, FinalRead}
 use Rattle.http1_reader.specs.declared.HeadsRead.{HeadsRead}
 use Rattle.http1_reader.specs.declared.HeadsRead.the-variants as heads-read
+use Rattle.http1_reader.proofs.Facts.{fits-within}
 use Rattle.http1_reader.proofs.ResponseHeads.{framing-noted}
 
 -- ---- behind the final head
@@ -70,11 +70,7 @@ module _ (s : List ℕ) (status e c k : ℕ) (notes : Notes) where
 
   module _ (b : Body) (g : bodyAnswer (responseBody status e (notes .framing)) ≡ body.Read b) where
     pub final-within : SizedWithin b
-    final-within = go b (response-framed status e (notes .framing) b (body-read _ b g) .framed .fits)
-      where
-        go : (b : Body) → Fits b → SizedWithin b
-        go (Sized n) h = h
-        go InChunks h = tt
+    final-within = fits-within b (response-framed status e (notes .framing) b (body-read _ b g) .framed .fits)
 
     pub final-read : (cs cs′ ts ts′ : List ℕ) (d : ContentRead) (r : Outcome) → Contented (run (content b) e (drop e s)) cs cs′ ts ts′ d
         → r ≡ responseOutcome status c k d → FinalRead s status e c k notes cs cs′ ts ts′ r

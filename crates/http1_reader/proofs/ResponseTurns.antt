@@ -14,9 +14,9 @@ use Rattle.messages.specs.Names.{kept}
 use Rattle.messages.specs.Answers.{fieldsNumbers, informationalNumbers, informationalLines}
 use Rattle.messages.specs.declared.Notes.{Notes}
 use Rattle.messages.proofs.Noting.{kept-few}
-use Rattle.http1.specs.Read.{Lines, heads, readResponse}
+use Rattle.http1.specs.Read.{Lines, informationalRead, heads, readResponse}
 use Rattle.ranges.proofs.HeadsStored.{lines-snoc, fields-more, numbers-more}
-use Rattle.http1_reader.specs.Responses.{informationalRead, HeadStored, HeadSays, Headed, HeadsFacts, HeadsSays, HeadsTaken}
+use Rattle.http1_reader.specs.Responses.{HeadStored, HeadSays, Headed, HeadsFacts, HeadsSays, HeadsTaken}
 use Rattle.http1_reader.specs.declared.HeadRead.{HeadRead}
 use Rattle.http1_reader.specs.declared.HeadRead.the-variants as head
 use Rattle.http1_reader.specs.declared.HeadsRead.{HeadsRead}

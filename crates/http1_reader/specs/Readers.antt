@@ -5,21 +5,23 @@ use mathlib.Core.Path.{_≡_}
 use mathlib.Core.Bool.{Bool, true, false}
 use mathlib.Core.List.{List, [], _∷_, _++_}
 use lib.ListN.{length, take, drop}
-use Rattle.script.specs.Script.{Answer, accepted, refused, more, Script, run}
+use Rattle.octets.specs.Limits.{headMost}
+use Rattle.script.specs.Script.{Answer, accepted, refused, more, run}
 use Rattle.messages.specs.declared.Told.{Told}
-use Rattle.script.specs.Do.{_>>=_, Piece, piece, Judged, good, wrong}
+use Rattle.script.specs.Do.{Piece, piece, Judged, good, wrong}
 use Rattle.output.specs.Splice.{splice}
 use Rattle.messages.specs.Message.{FieldRead, Message}
 use Rattle.messages.specs.Names.{kept, keptTrailers}
 use Rattle.messages.specs.Notes.{notesOf, AllLie}
 use Rattle.messages.specs.Rules.{authorityIn, framingOf, requestBody}
 use Rattle.messages.specs.declared.Notes.{Notes}
-use Rattle.messages.specs.Answers.{fieldsNumbers, chunksNumbers, partAt, partOf, recordOf}
-use Rattle.messages.specs.declared.Part.{Part}
-use Rattle.messages.specs.declared.Record.{Record}
+use Rattle.messages.specs.Answers.{fieldsNumbers, chunksNumbers, partAt, partOf, requestRecord, recordOf}
+use Rattle.messages.specs.declared.Counts.{Counts}
 use Rattle.http1.specs.Lines.{RequestRead}
-use Rattle.http1.specs.Read.{Lines, section, afterHead}
+use Rattle.http1.specs.Read.{Lines, afterHead, afterRequestLine}
 use Rattle.sound.specs.Placed.{Each}
+use Rattle.ranges.specs.Ranges.{Outcomed}
+use Rattle.http1_parts.specs.Section.{Before}
 use Rattle.http1_parts.specs.declared.ContentRead.{ContentRead}
 use Rattle.http1_parts.specs.declared.ContentRead.the-variants as content
 use Rattle.messages.specs.declared.Body.{Body}
@@ -29,14 +31,14 @@ use Rattle.http1_reader.specs.declared.HeadAnswer.{HeadAnswer}
 use Rattle.http1_reader.specs.declared.HeadAnswer.the-variants as head
 
 -- a request's head by its two rules: host first, then length
-abbrev pub HeadSays : Judged Piece → Judged Body → HeadAnswer → Type 0
-HeadSays (good a) (good b) r = r ≡ head.Good (a .place) (length (a .text)) b
-HeadSays (good a) (wrong n p) r = r ≡ head.Refused n p
-HeadSays (wrong n p) j r = r ≡ head.Refused n p
+abbrev pub JudgedSays : Judged Piece → Judged Body → HeadAnswer → Type 0
+JudgedSays (good a) (good b) r = r ≡ head.Good (a .place) (length (a .text)) b
+JudgedSays (good a) (wrong n p) r = r ≡ head.Refused n p
+JudgedSays (wrong n p) j r = r ≡ head.Refused n p
 
 -- the promise of a head that is judged
 pub record HeadJudged (a : Judged Piece) (b : Judged Body) (r : HeadAnswer) : Type 0 where
-  pub says : HeadSays a b r
+  pub says : JudgedSays a b r
 
 -- a request's head that ends at a place, judged by notes: so are all lines in s of which these are the notes
 pub record RequestJudged (s : List ℕ) (end : ℕ) (notes : Notes) (r : HeadAnswer) : Type 0 where
@@ -45,42 +47,24 @@ pub record RequestJudged (s : List ℕ) (end : ℕ) (notes : Notes) (r : HeadAns
 
 -- ---- requests
 
--- the record of a request, by its numbers
-abbrev pub requestRecord : ℕ → ℕ → ℕ → ℕ → ℕ → ℕ → ℕ → ℕ → ℕ → ℕ → Record
-requestRecord scheme method path start len fields n chunks total trailers =
-    record {
-      response = false;
-      scheme = scheme;
-      method = partAt 0 method;
-      authority = partAt start len;
-      path = partAt (method + 1) path;
-      informational = 0;
-      status = 0;
-      headers = fields;
-      chunks = chunks;
-      content = total;
-      trailers = trailers;
-      length = n;
-    }
+-- the counts of a message of length n: kept header fields, chunks and the octets in them, kept trailer fields
+abbrev pub countsWith : ℕ → ℕ → ℕ → ℕ → ℕ → Counts
+countsWith fields n chunks total trailers = record { headers = fields; chunks = chunks; content = total; trailers = trailers; length = n }
 
 -- the outcome of a request whose content was read
 abbrev pub requestOutcome : Told → ℕ → ℕ → ℕ → ℕ → ℕ → ContentRead → Outcome
 requestOutcome t method path start len fields (content.Done n k total m) =
-    outcome.Message (requestRecord (t .scheme) method path start len fields n k total m)
+    outcome.Message (requestRecord (t .scheme) (partAt 0 method) (partAt start len) (partAt (method + 1) path) (countsWith fields n k total m))
 requestOutcome t method path start len fields (content.Refused k p) = outcome.Refusal k p
 requestOutcome t method path start len fields content.More = outcome.More
+
+-- a space, the version and CR LF
+abbrev pub versionLen : ℕ
+versionLen = 11
 
 -- the request line of s that ends, with its CR LF, at the place `next`: a method of m octets and a path of p
 abbrev pub requestIs : List ℕ → ℕ → ℕ → ℕ → RequestRead
 requestIs s next m p = record { method = piece 0 (take m (take (next - 2) s)); path = piece (0 + (m + 1)) (take p (drop (m + 1) (take (next - 2) s))) }
-
--- the field lines of a request's head within what is left of its allowance, and what stands behind them
-abbrev pub fieldsOnward : ℕ → Told → RequestRead → Script Message
-fieldsOnward left t q = section left >>= afterHead t q
-
--- a line's value ends at or before n
-abbrev pub Before : ℕ → FieldRead → Type 0
-Before n f = f .value .place + length (f .value .text) ≤ n
 
 -- a head that was read: its request line q and its lines h, in the numbers that the code keeps of them
 pub record HeadFacts (s : List ℕ) (q : RequestRead) (h : Lines) (m p e k : ℕ) (n : Notes) : Type 0 where
@@ -92,12 +76,21 @@ pub record HeadFacts (s : List ℕ) (q : RequestRead) (h : Lines) (m p e k : ℕ
   pub lie : AllLie s (h .lines)
   pub before : Each (Before e) (h .lines)
 
+-- there is such a head
+abbrev pub HeadKnown : List ℕ → ℕ → ℕ → ℕ → ℕ → Notes → Type 0
+HeadKnown s m p e k n = (q : RequestRead) × (h : Lines) × HeadFacts s q h m p e k n
+
 -- what stands behind the head: an answer, and the ranges of chunks and trailers of an accepted message
 abbrev pub RestSays : Answer Message → List ℕ → List ℕ → List ℕ → List ℕ → Outcome → Type 0
 RestSays (accepted n m) cs cs′ ts ts′ r =
     (r ≡ outcome.Message (recordOf n m)) × (cs′ ≡ splice cs 0 (chunksNumbers (m .chunks))) × (ts′ ≡ splice ts 0 (fieldsNumbers (keptTrailers (m .trailers))))
 RestSays (refused k p) cs cs′ ts ts′ r = r ≡ outcome.Refusal k p
 RestSays more cs cs′ ts ts′ r = r ≡ outcome.More
+
+-- the promise of what is read behind the request line that ends at `next`
+abbrev pub BehindLineRead : Told → List ℕ → ℕ → ℕ → ℕ → List ℕ → List ℕ → List ℕ → List ℕ → List ℕ → List ℕ → Outcome → Type 0
+BehindLineRead t s m p next hs hs′ cs cs′ ts ts′ r =
+    Outcomed (run (afterRequestLine t (requestIs s next m p) (headMost - next)) next (drop next s)) hs hs′ cs cs′ ts ts′ r
 
 -- the promise of what is read behind any head that has these numbers
 pub record RestRead (s : List ℕ) (t : Told) (method path end fields : ℕ) (notes : Notes) (cs cs′ ts ts′ : List ℕ) (r : Outcome) : Type 0 where

@@ -4,52 +4,38 @@ use mathlib.Core.Path.{_≡_}
 use mathlib.Core.Bool.{Bool, true, false}
 use mathlib.Core.List.{List, [], _∷_, _++_}
 use lib.ListN.{length, drop}
-use Rattle.ranges.specs.Ranges.{FewHeads}
+use Rattle.ranges.specs.Ranges.{AnyHeads, FewHeads, SoManyHeads}
 use Rattle.octets.specs.Limits.{headMost, linesMost, informationalMost}
-use Rattle.script.specs.Script.{Answer, accepted, refused, more, Script, run}
-use Rattle.script.specs.Do.{_>>=_, tell}
+use Rattle.script.specs.Script.{Answer, accepted, refused, more, run}
 use Rattle.output.specs.Splice.{splice}
 use Rattle.messages.specs.Message.{InformationalRead, Message}
 use Rattle.messages.specs.Names.{kept}
 use Rattle.messages.specs.Notes.{notesOf}
-use Rattle.messages.specs.Rules.{framingOf, nothingStated}
-use Rattle.messages.specs.Answers.{fieldsNumbers, informationalNumbers, informationalLines, noPart}
+use Rattle.messages.specs.Answers.{fieldsNumbers, informationalNumbers, informationalLines, responseRecord}
 use Rattle.messages.specs.declared.Notes.{Notes}
 use Rattle.messages.specs.declared.Outcome.{Outcome}
 use Rattle.messages.specs.declared.Outcome.the-variants as outcome
-use Rattle.messages.specs.declared.Record.{Record}
-use Rattle.http1.specs.Read.{Lines, section, afterFinal, heads}
+use Rattle.http1.specs.Read.{Lines, informationalRead, afterInformationalLine, afterFinal, afterFinalLine, heads}
+use Rattle.http1_parts.specs.Section.{sectionRoom}
 use Rattle.http1_parts.specs.declared.ContentRead.{ContentRead}
 use Rattle.http1_parts.specs.declared.ContentRead.the-variants as content
-use Rattle.http1_reader.specs.Readers.{RestSays}
+use Rattle.http1_reader.specs.Readers.{countsWith, RestSays}
 use Rattle.http1_reader.specs.declared.HeadRead.{HeadRead}
 use Rattle.http1_reader.specs.declared.HeadRead.the-variants as head
 use Rattle.http1_reader.specs.declared.HeadsRead.{HeadsRead}
 use Rattle.http1_reader.specs.declared.HeadsRead.the-variants as heads-read
 
+-- ---- the lent space
+
+-- numbers that the kept fields of all heads may take
+abbrev pub headsRoom : ℕ
+headsRoom = (informationalMost + 1) * sectionRoom
+
+-- numbers that the informational heads may take: status and number of kept fields of each
+abbrev pub informationalRoom : ℕ
+informationalRoom = informationalMost * 2
+
 -- ---- one head
-
--- an informational head of status n with the lines h
-abbrev pub informationalRead : ℕ → Lines → InformationalRead
-informationalRead n h = record { status = n; lines = h .lines }
-
--- behind the section of an informational head of status n: it states no length, and further heads come
-unfoldable pub afterInformational : ℕ → List InformationalRead → ℕ → Lines → Script Message
-afterInformational f is n h = do
-  u ← tell (nothingStated (h .end) (framingOf (h .lines)))
-  heads f (is ++ informationalRead n h ∷ []) (h .left)
-
--- what stands behind a status line of an informational status n
-abbrev pub informationalRest : ℕ → List InformationalRead → ℕ → ℕ → Script Message
-informationalRest f is n left = do
-  h ← section left
-  afterInformational f is n h
-
--- what stands behind a status line of a final status n
-abbrev pub finalRest : List InformationalRead → ℕ → ℕ → Script Message
-finalRest is n left = do
-  h ← section left
-  afterFinal is n h
 
 -- a head's lines h that end at e: its kept fields are stored behind the `base` fields of hs, and are k with them
 pub record HeadStored (s : List ℕ) (base : ℕ) (hs hs′ : List ℕ) (e k : ℕ) (h : Lines) : Type 0 where
@@ -70,9 +56,20 @@ HeadSays x f is s base hs hs′ (head.Refused i p) = x ≡ refused i p
 HeadSays x f is s base hs hs′ head.More = x ≡ more
 
 -- the same behind any informational heads of which P holds
-pub record Headed (P : List InformationalRead → Type 0) (x : ℕ → List InformationalRead → Answer Message) (s : List ℕ) (base : ℕ) (hs hs′ : List ℕ) (r : HeadRead)
-    : Type 0 where
+pub record Headed (P : List InformationalRead → Type 0) (x : ℕ → List InformationalRead → Answer Message)
+    (s : List ℕ) (base : ℕ) (hs hs′ : List ℕ) (r : HeadRead) : Type 0 where
   pub by : (f : ℕ) (is : List InformationalRead) → P is → HeadSays (x f is) f is s base hs hs′ r
+
+-- the promises: behind the line of an informational status that ends at `next`, behind the line of a final one, and of a head from the place i on
+abbrev pub InformationalHeaded : List ℕ → ℕ → ℕ → ℕ → ℕ → List ℕ → List ℕ → HeadRead → Type 0
+InformationalHeaded s n next left base hs hs′ r =
+    Headed FewHeads (λ f is. run (afterInformationalLine (heads f) is n left) next (drop next s)) s base hs hs′ r
+
+abbrev pub FinalHeaded : List ℕ → ℕ → ℕ → ℕ → ℕ → List ℕ → List ℕ → HeadRead → Type 0
+FinalHeaded s n next left base hs hs′ r = Headed AnyHeads (λ f is. run (afterFinalLine is n left) next (drop next s)) s base hs hs′ r
+
+abbrev pub NextHeaded : List ℕ → ℕ → ℕ → ℕ → ℕ → List ℕ → List ℕ → HeadRead → Type 0
+NextHeaded s i left count base hs hs′ r = Headed (SoManyHeads count) (λ f is. run (heads (suc f) is left) i (drop i s)) s base hs hs′ r
 
 -- ---- all heads
 
@@ -98,27 +95,9 @@ pub record HeadsTaken (x : Answer Message) (s hs hs′ ns ns′ : List ℕ) (r :
 
 -- ---- whole responses
 
--- the record of a response, by its numbers
-abbrev pub responseRecord : ℕ → ℕ → ℕ → ℕ → ℕ → ℕ → ℕ → Record
-responseRecord status count fields n chunks total trailers =
-    record {
-      response = true;
-      scheme = 0;
-      method = noPart;
-      authority = noPart;
-      path = noPart;
-      informational = count;
-      status = status;
-      headers = fields;
-      chunks = chunks;
-      content = total;
-      trailers = trailers;
-      length = n;
-    }
-
 -- the outcome of a response whose content was read
 abbrev pub responseOutcome : ℕ → ℕ → ℕ → ContentRead → Outcome
-responseOutcome status count fields (content.Done n k total m) = outcome.Message (responseRecord status count fields n k total m)
+responseOutcome status count fields (content.Done n k total m) = outcome.Message (responseRecord count status (countsWith fields n k total m))
 responseOutcome status count fields (content.Refused k p) = outcome.Refusal k p
 responseOutcome status count fields content.More = outcome.More
 

@@ -1,5 +1,5 @@
 // The readers of HTTP/1.1: the first request, the first response of a stream.
-pub mod heads;
+mod heads;
 pub mod request;
 pub mod response;
 

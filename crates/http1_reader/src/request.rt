@@ -7,12 +7,13 @@ use http1_parts::ContentRead;
 use http1_parts::Section;
 use http1_parts::content::read_content;
 use http1_parts::lines::read_section;
+use messages::Counts;
 use messages::Notes;
 use messages::Outcome;
 use messages::Part;
 use messages::Reading;
-use messages::Record;
 use messages::Told;
+use messages::answers::request_record;
 use messages::parts::is_scheme;
 use octets::Limits;
 use octets::Refusals;
@@ -22,15 +23,15 @@ use script::Line;
 use script::line_end;
 ghost use mathlib.Core.Path.{_≡_};
 ghost use Prim.Native.Nat.{_+_, _-_, _≤_, _<_};
-ghost use lib.ListN.{length, drop};
+ghost use lib.ListN.{length};
 ghost use Rattle.octets.specs.Table.{classes};
 ghost use Rattle.octets.specs.Limits.{headMost};
-ghost use Rattle.script.specs.Script.{run};
 ghost use Rattle.messages.specs.Answers.{readingOf};
-ghost use Rattle.http1.specs.Lines.{RequestRead};
-ghost use Rattle.http1.specs.Read.{Lines, readRequest};
+ghost use Rattle.http1.specs.Read.{readRequest};
 ghost use Rattle.ranges.specs.Ranges.{placesEnd, Outcomed};
-ghost use Rattle.http1_reader.specs.Readers.{requestIs, fieldsOnward, requestOutcome, HeadFacts, RestRead};
+ghost use Rattle.http1_parts.specs.Content.{chunksRoom};
+ghost use Rattle.http1_parts.specs.Section.{sectionRoom};
+ghost use Rattle.http1_reader.specs.Readers.{versionLen, HeadKnown, requestOutcome, RestRead, BehindLineRead};
 
 // The outcome of a request whose content was read.
 fn request_outcome(
@@ -53,29 +54,29 @@ fn request_outcome(
             chunks,
             total,
             trailers,
-        } => Outcome::Message(Record {
-            response: false,
-            scheme: told.scheme,
-            method: Part {
+        } => {
+            let counts = Counts {
+                headers: fields,
+                chunks,
+                content: total,
+                trailers,
+                length: end,
+            };
+            let method_part = Part {
                 start: 0,
                 len: method as u32,
-            },
-            authority: Part {
+            };
+            let authority = Part {
                 start: start as u32,
                 len: len as u32,
-            },
-            path: Part {
+            };
+            let path_part = Part {
                 start: (method + 1) as u32,
                 len: path as u32,
-            },
-            informational: 0,
-            status: 0,
-            headers: fields,
-            chunks,
-            content: total,
-            trailers,
-            length: end,
-        }),
+            };
+            let record = request_record(told.scheme, method_part, authority, path_part, counts);
+            Outcome::Message(record)
+        }
     }
 }
 
@@ -92,8 +93,10 @@ fn read_rest(
     chunks: &mut [u32],
     trailers: &mut [u32],
 ) -> Outcome
-    requires { ⌜ (now t ≡ classes) × (end ≤ length (now s)) × (end ≤ headMost) × (method + 1 + path ≤ headMost) × (512 ≤ length (now chunks)) × (256 ≤ length (now trailers)) × ((q : RequestRead) × (h : Lines) × HeadFacts (now s) q h method path end fields notes) ⌝ }
-    ensures { λ r. ⌜ RestRead (now (s .entry)) told method path end fields notes (now (chunks .entry)) (now (chunks .exit)) (now (trailers .entry)) (now (trailers .exit)) r ⌝ }
+    requires { ⌜ (now t ≡ classes) × (end ≤ length (now s)) × (end ≤ headMost) × (method + 1 + path ≤ headMost)
+        × (chunksRoom ≤ length (now chunks)) × (sectionRoom ≤ length (now trailers)) × HeadKnown (now s) method path end fields notes ⌝ }
+    ensures { λ r. ⌜ RestRead (now (s .entry)) told method path end fields notes
+        (now (chunks .entry)) (now (chunks .exit)) (now (trailers .entry)) (now (trailers .exit)) r ⌝ }
 {
     let j = judge_request(t, s, end, notes);
     match j {
@@ -117,8 +120,10 @@ fn read_head(
     chunks: &mut [u32],
     trailers: &mut [u32],
 ) -> Outcome
-    requires { ⌜ (now t ≡ classes) × (next ≤ length (now s)) × (method + 1 + path + 11 ≡ next) × (next ≤ headMost) × (256 ≤ length (now headers)) × (512 ≤ length (now chunks)) × (256 ≤ length (now trailers)) ⌝ }
-    ensures { λ r. ⌜ Outcomed (run (fieldsOnward (headMost - next) told (requestIs (now (s .entry)) next method path)) next (drop next (now (s .entry)))) (now (headers .entry)) (now (headers .exit)) (now (chunks .entry)) (now (chunks .exit)) (now (trailers .entry)) (now (trailers .exit)) r ⌝ }
+    requires { ⌜ (now t ≡ classes) × (next ≤ length (now s)) × (method + 1 + path + versionLen ≡ next) × (next ≤ headMost)
+        × (sectionRoom ≤ length (now headers)) × (chunksRoom ≤ length (now chunks)) × (sectionRoom ≤ length (now trailers)) ⌝ }
+    ensures { λ r. ⌜ BehindLineRead told (now (s .entry)) method path next
+        (now (headers .entry)) (now (headers .exit)) (now (chunks .entry)) (now (chunks .exit)) (now (trailers .entry)) (now (trailers .exit)) r ⌝ }
 {
     let h = read_section(t, s, next, Limits::HEAD - next, false, 0, headers);
     match h {
@@ -142,8 +147,9 @@ pub fn request_in(
     chunks: &mut [u32],
     trailers: &mut [u32],
 ) -> Outcome
-    requires { ⌜ (now t ≡ classes) × (256 ≤ length (now headers)) × (512 ≤ length (now chunks)) × (256 ≤ length (now trailers)) ⌝ }
-    ensures { λ r. ⌜ Outcomed (readRequest told (now (s .entry))) (now (headers .entry)) (now (headers .exit)) (now (chunks .entry)) (now (chunks .exit)) (now (trailers .entry)) (now (trailers .exit)) r ⌝ }
+    requires { ⌜ (now t ≡ classes) × (sectionRoom ≤ length (now headers)) × (chunksRoom ≤ length (now chunks)) × (sectionRoom ≤ length (now trailers)) ⌝ }
+    ensures { λ r. ⌜ Outcomed (readRequest told (now (s .entry)))
+        (now (headers .entry)) (now (headers .exit)) (now (chunks .entry)) (now (chunks .exit)) (now (trailers .entry)) (now (trailers .exit)) r ⌝ }
 {
     let scheme = told.scheme;
     if is_scheme(scheme) {

@@ -8,11 +8,11 @@ use http1_parts::Section;
 use http1_parts::content::read_content;
 use http1_parts::lines::read_section;
 use messages::BodyAnswer;
+use messages::Counts;
 use messages::Notes;
 use messages::Outcome;
-use messages::Part;
 use messages::Reading;
-use messages::Record;
+use messages::answers::response_record;
 use messages::parts::is_informational;
 use messages::sections::nothing_stated;
 use messages::sections::response_body;
@@ -24,16 +24,17 @@ use ranges::store;
 use script::Line;
 use script::line_end;
 ghost use mathlib.Core.Path.{_≡_};
-ghost use Prim.Native.Nat.{suc, _+_, _-_, _*_, _≤_, _<_};
-ghost use lib.ListN.{length, drop};
-ghost use Rattle.ranges.specs.Ranges.{AnyHeads, FewHeads, SoManyHeads};
+ghost use Prim.Native.Nat.{_+_, _≤_};
+ghost use lib.ListN.{length};
 ghost use Rattle.octets.specs.Table.{classes};
 ghost use Rattle.octets.specs.Limits.{headMost};
-ghost use Rattle.script.specs.Script.{run};
 ghost use Rattle.messages.specs.Answers.{readingOf};
-ghost use Rattle.http1.specs.Read.{heads, readResponse};
+ghost use Rattle.http1.specs.Read.{readResponse};
 ghost use Rattle.ranges.specs.Ranges.{Responded};
-ghost use Rattle.http1_reader.specs.Responses.{informationalRest, finalRest, Headed, HeadsTaken, responseOutcome, FinalRead};
+ghost use Rattle.http1_parts.specs.Section.{sectionRoom, SectionRoom};
+ghost use Rattle.http1_parts.specs.Content.{chunksRoom};
+ghost use Rattle.http1_reader.specs.Responses.{headsRoom, informationalRoom, InformationalHeaded, FinalHeaded, NextHeaded};
+ghost use Rattle.http1_reader.specs.Responses.{HeadsTaken, responseOutcome, FinalRead};
 
 // The section of an informational head, behind its status line that ends at `next`.
 fn informational_head(
@@ -45,8 +46,8 @@ fn informational_head(
     base: usize,
     headers: &mut [u32],
 ) -> HeadRead
-    requires { ⌜ (now t ≡ classes) × (next ≤ length (now s)) × (next + left ≡ headMost) × (base * 4 + 256 ≤ length (now headers)) ⌝ }
-    ensures { λ r. ⌜ Headed FewHeads (λ f is. run (informationalRest f is status left) next (drop next (now (s .entry)))) (now (s .entry)) base (now (headers .entry)) (now (headers .exit)) r ⌝ }
+    requires { ⌜ (now t ≡ classes) × (next ≤ length (now s)) × (next + left ≡ headMost) × SectionRoom base (now headers) ⌝ }
+    ensures { λ r. ⌜ InformationalHeaded (now (s .entry)) status next left base (now (headers .entry)) (now (headers .exit)) r ⌝ }
 {
     let h = read_section(t, s, next, left, true, base, headers);
     match h {
@@ -83,8 +84,8 @@ fn final_head(
     base: usize,
     headers: &mut [u32],
 ) -> HeadRead
-    requires { ⌜ (now t ≡ classes) × (next ≤ length (now s)) × (next + left ≡ headMost) × (base * 4 + 256 ≤ length (now headers)) ⌝ }
-    ensures { λ r. ⌜ Headed AnyHeads (λ f is. run (finalRest is status left) next (drop next (now (s .entry)))) (now (s .entry)) base (now (headers .entry)) (now (headers .exit)) r ⌝ }
+    requires { ⌜ (now t ≡ classes) × (next ≤ length (now s)) × (next + left ≡ headMost) × SectionRoom base (now headers) ⌝ }
+    ensures { λ r. ⌜ FinalHeaded (now (s .entry)) status next left base (now (headers .entry)) (now (headers .exit)) r ⌝ }
 {
     let h = read_section(t, s, next, left, true, base, headers);
     match h {
@@ -105,7 +106,7 @@ fn final_head(
 }
 
 // The head from i on, behind `count` informational heads: kept fields are stored behind the `base` fields that stand in `headers`.
-pub fn next_head(
+fn next_head(
     t: &[u8; 256],
     s: &[u8],
     i: usize,
@@ -114,8 +115,8 @@ pub fn next_head(
     base: usize,
     headers: &mut [u32],
 ) -> HeadRead
-    requires { ⌜ (now t ≡ classes) × (i ≤ length (now s)) × (i + left ≡ headMost) × (base * 4 + 256 ≤ length (now headers)) ⌝ }
-    ensures { λ r. ⌜ Headed (SoManyHeads count) (λ f is. run (heads (suc f) is left) i (drop i (now (s .entry)))) (now (s .entry)) base (now (headers .entry)) (now (headers .exit)) r ⌝ }
+    requires { ⌜ (now t ≡ classes) × (i ≤ length (now s)) × (i + left ≡ headMost) × SectionRoom base (now headers) ⌝ }
+    ensures { λ r. ⌜ NextHeaded (now (s .entry)) i left count base (now (headers .entry)) (now (headers .exit)) r ⌝ }
 {
     let l = line_end(s, i, left);
     match l {
@@ -154,14 +155,10 @@ pub fn next_head(
 
 // The heads of the first response of s, up to the final one: kept fields are stored in `headers`, those of informational heads first, and status and
 // number of kept fields of each informational head in `informational`.
-pub fn read_heads(
-    t: &[u8; 256],
-    s: &[u8],
-    headers: &mut [u32],
-    informational: &mut [u32],
-) -> HeadsRead
-    requires { ⌜ (now t ≡ classes) × (1280 ≤ length (now headers)) × (8 ≤ length (now informational)) ⌝ }
-    ensures { λ r. ⌜ HeadsTaken (readResponse (now (s .entry))) (now (s .entry)) (now (headers .entry)) (now (headers .exit)) (now (informational .entry)) (now (informational .exit)) r ⌝ }
+fn read_heads(t: &[u8; 256], s: &[u8], headers: &mut [u32], informational: &mut [u32]) -> HeadsRead
+    requires { ⌜ (now t ≡ classes) × (headsRoom ≤ length (now headers)) × (informationalRoom ≤ length (now informational)) ⌝ }
+    ensures { λ r. ⌜ HeadsTaken (readResponse (now (s .entry))) (now (s .entry))
+        (now (headers .entry)) (now (headers .exit)) (now (informational .entry)) (now (informational .exit)) r ⌝ }
 {
     let mut i: usize = 0;
     let mut left = Limits::HEAD;
@@ -212,20 +209,16 @@ fn response_outcome(read: ContentRead, status: u32, heads: usize, fields: usize)
             chunks,
             total,
             trailers,
-        } => Outcome::Message(Record {
-            response: true,
-            scheme: 0,
-            method: Part { start: 0, len: 0 },
-            authority: Part { start: 0, len: 0 },
-            path: Part { start: 0, len: 0 },
-            informational: heads,
-            status,
-            headers: fields,
-            chunks,
-            content: total,
-            trailers,
-            length: end,
-        }),
+        } => {
+            let counts = Counts {
+                headers: fields,
+                chunks,
+                content: total,
+                trailers,
+                length: end,
+            };
+            Outcome::Message(response_record(heads, status, counts))
+        }
     }
 }
 
@@ -241,8 +234,10 @@ fn after_final(
     chunks: &mut [u32],
     trailers: &mut [u32],
 ) -> Outcome
-    requires { ⌜ (now t ≡ classes) × (end ≤ length (now s)) × (end ≤ headMost) × (512 ≤ length (now chunks)) × (256 ≤ length (now trailers)) ⌝ }
-    ensures { λ r. ⌜ FinalRead (now (s .entry)) status end heads fields notes (now (chunks .entry)) (now (chunks .exit)) (now (trailers .entry)) (now (trailers .exit)) r ⌝ }
+    requires { ⌜ (now t ≡ classes) × (end ≤ length (now s)) × (end ≤ headMost)
+        × (chunksRoom ≤ length (now chunks)) × (sectionRoom ≤ length (now trailers)) ⌝ }
+    ensures { λ r. ⌜ FinalRead (now (s .entry)) status end heads fields notes
+        (now (chunks .entry)) (now (chunks .exit)) (now (trailers .entry)) (now (trailers .exit)) r ⌝ }
 {
     let f = notes.framing;
     let b = response_body(status as usize, f, end);
@@ -264,8 +259,11 @@ pub fn response_in(
     chunks: &mut [u32],
     trailers: &mut [u32],
 ) -> Outcome
-    requires { ⌜ (now t ≡ classes) × (1280 ≤ length (now headers)) × (8 ≤ length (now informational)) × (512 ≤ length (now chunks)) × (256 ≤ length (now trailers)) ⌝ }
-    ensures { λ r. ⌜ Responded (readResponse (now (s .entry))) (now (headers .entry)) (now (headers .exit)) (now (informational .entry)) (now (informational .exit)) (now (chunks .entry)) (now (chunks .exit)) (now (trailers .entry)) (now (trailers .exit)) r ⌝ }
+    requires { ⌜ (now t ≡ classes) × (headsRoom ≤ length (now headers)) × (informationalRoom ≤ length (now informational))
+        × (chunksRoom ≤ length (now chunks)) × (sectionRoom ≤ length (now trailers)) ⌝ }
+    ensures { λ r. ⌜ Responded (readResponse (now (s .entry)))
+        (now (headers .entry)) (now (headers .exit)) (now (informational .entry)) (now (informational .exit))
+        (now (chunks .entry)) (now (chunks .exit)) (now (trailers .entry)) (now (trailers .exit)) r ⌝ }
 {
     let h = read_heads(t, s, headers, informational);
     match h {

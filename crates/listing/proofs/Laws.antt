@@ -28,6 +28,7 @@ use Rattle.messages.specs.Told.{plain}
 use Rattle.messages.specs.declared.Told.{Told}
 use Rattle.http1_reader.proofs.Requests.{first-more}
 use Rattle.http1_sound.proofs.Front.{request-within}
+use Rattle.http1_sound.proofs.Refusals.{request-refused}
 use Rattle.numbers.specs.Digits.{digits}
 use Rattle.numbers.proofs.DigitLaws.{digits-length}
 use Rattle.stream.specs.Taking.{Taken, message, waits, stops, next, takeOff}
@@ -39,10 +40,9 @@ use Rattle.output.specs.declared.Written.the-variants.{Done, Refused}
 use Rattle.output.proofs.Laws.{put-then, left-step}
 use Rattle.output.proofs.Serve.{serve-small, serve-done}
 use Rattle.listing.specs.Listing.{row, rows, endLine, title, listingOf}
-use Rattle.listing.specs.Rows.{rowOf, rowAt, rowsAt, rowText, rowSize, endSize}
+use Rattle.listing.specs.Rows.{rowOf, rowAt, rowsAt, rowText, titleSize, rowSize, endSize}
 use Rattle.listing.specs.declared.Row.{Row}
 use Rattle.listing.specs.declared.Row.the-variants as at-row
-use Rattle.listing.proofs.Stops.{request-place}
 
 -- ---- the row at a place
 
@@ -88,7 +88,7 @@ module _ (s : List ℕ) (at : ℕ) {hs hs′ cs cs′ ts ts′ : List ℕ} {o : 
     row-refused = rw is-refused
 
     pub refused-in : at ≤ length s → at + p ≤ length s
-    refused-in g = omega (arith, request-place (plain 0) (drop at s) k p is-refused, length-drop at s)
+    refused-in g = omega (arith, request-refused (plain 0) (drop at s) k p is-refused .inside, length-drop at s)
 
   pub row-more : at < length s → o ≡ outcome.More → at-row.Stop (length s) moreNeeded ≡ rowAt s at
   unfolding rowAt isEmpty
@@ -181,7 +181,7 @@ module _ {o₀ o o₁ : List ℕ} {p₀ p r : ℕ} {bs : List ℕ} where
 
 -- ---- the whole listing
 
-pub title-length : length title ≡ 45
+pub title-length : length title ≡ titleSize
 title-length = refl
 
 pub listing-small : (s : List ℕ) → length s ≤ listingMost → title ++ rowsAt s 1 0 ≡ listingOf s
@@ -202,13 +202,13 @@ served-fits {bs} {o} {o′} {n} h = go (leb (length bs) (length o)) refl (h .ans
     go false e q = let z : _≡_ {A = ℕ} 0 1 = cc in absurd (omega arith)
 
 module _ {o : List ℕ} {bs all : List ℕ} {n : ℕ} (e : title ++ bs ≡ all) where
-  pub titled-small : length bs ≡ n → length o < 45 + n → Served (writes all) o o (Refused noRoom 0)
+  pub titled-small : length bs ≡ n → length o < titleSize + n → Served (writes all) o o (Refused noRoom 0)
   titled-small l h =
-      let k : length (title ++ bs) ≡ 45 + length bs = length-append title bs in
+      let k : length (title ++ bs) ≡ titleSize + length bs = length-append title bs in
       let g : length o < length (title ++ bs) = omega arith in
       subst (λ (x : List ℕ). Served (writes x) o o (Refused noRoom 0)) e (serve-small g)
 
-  pub titled-done : {o₁ o₂ : List ℕ} {r₁ r₂ : ℕ} → 45 + n ≤ length o → Put o 0 title 45 o₁ r₁ → Put o₁ r₁ bs n o₂ r₂ → Served (writes all) o o₂ (Done r₂)
+  pub titled-done : {o₁ o₂ : List ℕ} {r₁ r₂ : ℕ} → titleSize + n ≤ length o → Put o 0 title titleSize o₁ r₁ → Put o₁ r₁ bs n o₂ r₂ → Served (writes all) o o₂ (Done r₂)
   titled-done {o₁} {o₂} {r₁} {r₂} h p q = subst (λ (x : List ℕ). Served (writes x) o o₂ (Done r₂)) e (serve-done h (put-then p q))
 
 pub served-as : {a b o o′ : List ℕ} {r : Written} → a ≡ b → Served (writes a) o o′ r → Served (writes b) o o′ r

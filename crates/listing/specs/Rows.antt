@@ -1,10 +1,11 @@
 -- What the code of the listing promises, in terms of `rows` and `listingOf` (Listing; 01, "Examples": a listing program), and how long the text is that it
 -- puts.
-use Prim.Native.Nat.{ℕ, _+_, _≤_}
+use Prim.Native.Nat.{ℕ, _+_, _*_, _≤_}
 use mathlib.Core.Bool.{cond}
 use mathlib.Core.List.{List, _++_}
 use lib.ListN.{length, drop}
 use Rattle.octets.specs.Text.{isEmpty}
+use Rattle.octets.specs.Limits.{listingMost}
 use Rattle.octets.specs.Refusals.{moreNeeded}
 use Rattle.numbers.specs.Digits.{digits, countOf}
 use Rattle.script.specs.Script.{Answer, accepted, refused, more}
@@ -39,9 +40,17 @@ countsText f c t = column f ++ column c ++ digits 10 t ++ lf
 abbrev pub rowText : ℕ → ℕ → ℕ → ℕ → ℕ → ℕ → List ℕ
 rowText i at n f c t = column i ++ column at ++ column n ++ countsText f c t
 
+-- how long the first line is
+abbrev pub titleSize : ℕ
+titleSize = 45
+
 -- how long a column is, with the space or LF behind it
 abbrev pub columnSize : ℕ → ℕ
 columnSize n = countOf 10 n + 1
+
+-- a number below 2^64 has at most 20 digits
+abbrev pub columnMost : ℕ
+columnMost = 21
 
 -- three columns
 abbrev pub threeSize : ℕ → ℕ → ℕ → ℕ
@@ -51,6 +60,18 @@ threeSize a b c = columnSize a + columnSize b + columnSize c
 abbrev pub rowSize : ℕ → ℕ → ℕ → ℕ → ℕ → ℕ → ℕ
 rowSize i at n f c t = threeSize i at n + threeSize f c t
 
+-- at most
+abbrev pub rowMost : ℕ
+rowMost = 6 * columnMost
+
 -- the last line
 abbrev pub endSize : ℕ → ℕ → ℕ
 endSize place number = 4 + columnSize place + columnSize number
+
+-- at most
+abbrev pub endMost : ℕ
+endMost = 4 + 2 * columnMost
+
+-- all rows with the last line, at most: a message has at least one octet
+abbrev pub rowsMost : ℕ
+rowsMost = listingMost * rowMost + endMost

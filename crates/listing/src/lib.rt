@@ -20,7 +20,8 @@ ghost use Rattle.octets.specs.Refusals.{tooLarge};
 ghost use Rattle.output.specs.Splice.{Put};
 ghost use Rattle.output.specs.Reply.{writes, Served};
 ghost use Rattle.listing.specs.Listing.{column, endLine, title, listingOf};
-ghost use Rattle.listing.specs.Rows.{rowAt, rowsAt, countsText, rowText, columnSize, threeSize, rowSize, endSize};
+ghost use Rattle.listing.specs.Rows.{rowAt, rowsAt, countsText, rowText};
+ghost use Rattle.listing.specs.Rows.{titleSize, columnSize, columnMost, threeSize, rowSize, rowMost, endSize, endMost, rowsMost};
 
 // What stands at a place of the stream: a message with its length and counts, or where and why the listing stops.
 pub enum Row {
@@ -37,7 +38,7 @@ pub enum Row {
 }
 
 // The row at a place of the stream.
-pub fn next_row(t: &[u8; 256], s: &[u8], at: usize) -> Row
+fn next_row(t: &[u8; 256], s: &[u8], at: usize) -> Row
     requires { ⌜ (now t ≡ classes) × (at ≤ length (now s)) ⌝ }
     ensures { λ r. ⌜ r ≡ rowAt (now (s .entry)) at ⌝ }
 {
@@ -78,7 +79,7 @@ pub fn next_row(t: &[u8; 256], s: &[u8], at: usize) -> Row
 
 // The length of a column, with the octet behind it.
 fn column_size(n: usize) -> usize
-    ensures { λ r. ⌜ (r ≡ columnSize n) × (r ≤ 21) ⌝ }
+    ensures { λ r. ⌜ (r ≡ columnSize n) × (r ≤ columnMost) ⌝ }
 {
     digit_count(n, 10) + 1
 }
@@ -91,7 +92,7 @@ fn row_size(
     content: usize,
     trailers: usize,
 ) -> usize
-    ensures { λ r. ⌜ (r ≡ rowSize i at len fields content trailers) × (r ≤ 126) ⌝ }
+    ensures { λ r. ⌜ (r ≡ rowSize i at len fields content trailers) × (r ≤ rowMost) ⌝ }
 {
     let a = column_size(i) + column_size(at) + column_size(len);
     let b = column_size(fields) + column_size(content) + column_size(trailers);
@@ -99,7 +100,7 @@ fn row_size(
 }
 
 fn end_size(place: usize, number: u32) -> usize
-    ensures { λ r. ⌜ (r ≡ endSize place number) × (r ≤ 46) ⌝ }
+    ensures { λ r. ⌜ (r ≡ endSize place number) × (r ≤ endMost) ⌝ }
 {
     4 + column_size(place) + column_size(number as usize)
 }
@@ -107,7 +108,7 @@ fn end_size(place: usize, number: u32) -> usize
 // The length of all rows of a stream, with the last line.
 fn rows_size(t: &[u8; 256], s: &[u8]) -> usize
     requires { ⌜ (now t ≡ classes) × (length (now s) ≤ listingMost) ⌝ }
-    ensures { λ r. ⌜ (r ≡ length (rowsAt (now (s .entry)) 1 0)) × (r ≤ 8257582) ⌝ }
+    ensures { λ r. ⌜ (r ≡ length (rowsAt (now (s .entry)) 1 0)) × (r ≤ rowsMost) ⌝ }
 {
     let mut i = 1;
     let mut at = 0;
@@ -205,8 +206,8 @@ fn put_rows(t: &[u8; 256], s: &[u8], out: &mut [u8], start: usize) -> usize
 }
 
 fn put_title(out: &mut [u8]) -> usize
-    requires { ⌜ 45 ≤ length (now out) ⌝ }
-    ensures { λ r. ⌜ Put (now (out .entry)) 0 title 45 (now (out .exit)) r ⌝ }
+    requires { ⌜ titleSize ≤ length (now out) ⌝ }
+    ensures { λ r. ⌜ Put (now (out .entry)) 0 title titleSize (now (out .exit)) r ⌝ }
 {
     put_text(out, 0, b"message start length fields content trailers\n")
 }
@@ -249,7 +250,7 @@ fn put_large(out: &mut [u8]) -> Written
 pub fn listing(s: &[u8], out: &mut [u8]) -> Written
     ensures { λ r. ⌜ Served (writes (listingOf (now (s .entry)))) (now (out .entry)) (now (out .exit)) r ⌝ }
 {
-    if s.len() <= Limits::LISTING {
+    if Limits::fits(s.len(), Limits::LISTING) {
         return put_stream(s, out);
     }
     put_large(out)

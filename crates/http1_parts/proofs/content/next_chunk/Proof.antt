@@ -2,8 +2,9 @@ use borrow.Author.Needs.{needs}
 use native.Mathlib.Omega.{arith}
 use Prim.Native.Nat.{_+_, _-_, _≤_}
 use mathlib.Core.Path.{_≡_, sym, _∙_}
+use borrow.Author.Tests.{leb-true, leb-false}
 use lib.ListN.{length, take, drop}
-use Rattle.octets.specs.Limits.{chunkLineMost}
+use Rattle.octets.specs.Limits.{chunkLineMost, contentMost}
 use Rattle.script.specs.Script.{lineOf}
 use Rattle.script.specs.declared.Line.the-variants.{Ends}
 use Rattle.script.proofs.Places.{line-within}
@@ -74,17 +75,20 @@ returns-5 c = chunk-last (c .before .before .before .before .before .before .bef
 returns-6 : tie.Need-returns-6
 returns-6 c = chunk-many (c .before .before .before .before .before .before .before .before .before .before .before .before .args .s .now) (c .before .before .before .before .before .before .before .before .before .before .before .before .args .i) _ _ _ (ends-at (c .before .before .before .before .before .before .before .before)) (c .before .before .before .before .before .before .before .before .before .before .before .before .pre .1) _ (sym (c .before .before .before .before .before .chunk-line .ensures (c .before .before .before .before .before .before .before .before .before .before .before .before .pre .0)) ∙ c .before .before .before .c .given .1) (c .before .if1 .left) (c .if2 .taken)
 
-add-if3 : tie.Need-add-if3
-add-if3 c = omega (arith, chunk-within _ _ (sym (c .before .before .before .before .before .chunk-line .ensures (c .before .before .before .before .before .before .before .before .before .before .before .before .pre .0)) ∙ c .before .before .before .c .given .1))
+add-fits : tie.Need-add-fits
+add-fits c = omega (arith, chunk-within _ _ (sym (c .before .before .before .before .before .chunk-line .ensures (c .before .before .before .before .before .before .before .before .before .before .before .before .pre .0)) ∙ c .before .before .before .c .given .1))
 
-returns-7 : tie.Need-returns-7
-returns-7 c = chunk-large (c .before .before .before .before .before .before .before .before .before .before .before .before .before .args .s .now) (c .before .before .before .before .before .before .before .before .before .before .before .before .before .args .i) _ _ _ (ends-at (c .before .before .before .before .before .before .before .before .before)) (c .before .before .before .before .before .before .before .before .before .before .before .before .before .pre .1) _ (sym (c .before .before .before .before .before .before .chunk-line .ensures (c .before .before .before .before .before .before .before .before .before .before .before .before .before .pre .0)) ∙ c .before .before .before .before .c .given .1) (c .before .before .if1 .left) (c .before .if2 .left) (c .if3 .taken)
+fits-requires : tie.Need-fits-requires
+fits-requires c κs = search needs
 
 chunk-data-requires : tie.Need-chunk-data-requires
-chunk-data-requires c κs = (two (c .before .before .before .before .before .before .before .before .before) .1, omega (arith, c .if3 .left))
+chunk-data-requires c κs = (two (c .before .before .before .before .before .before .before .before .before .before) .1, omega (arith, leb-true (c .before .before .before .before .before .before .before .before .before .before .before .before .before .before .args .total + c .before .before .before .before .before .c .given .0 .0) contentMost (sym (c .before .fits2 .ensures) ∙ c .if3 .taken)))
+
+returns-7 : tie.Need-returns-7
+returns-7 c = chunk-data (c .before .before .before .before .before .before .before .before .before .before .before .before .before .before .before .args .s .now) (c .before .before .before .before .before .before .before .before .before .before .before .before .before .before .before .args .i) _ _ _ (ends-at (c .before .before .before .before .before .before .before .before .before .before .before)) (c .before .before .before .before .before .before .before .before .before .before .before .before .before .before .before .pre .1) _ (sym (c .before .before .before .before .before .before .before .before .chunk-line .ensures (c .before .before .before .before .before .before .before .before .before .before .before .before .before .before .before .pre .0)) ∙ c .before .before .before .before .before .before .c .given .1) (c .before .before .before .before .if1 .left) (c .before .before .before .if2 .left) (leb-true _ _ (sym (c .before .before .fits2 .ensures) ∙ c .before .if3 .taken)) (c .chunk-data .ensures)
 
 returns-8 : tie.Need-returns-8
-returns-8 c = chunk-data (c .before .before .before .before .before .before .before .before .before .before .before .before .before .before .args .s .now) (c .before .before .before .before .before .before .before .before .before .before .before .before .before .before .args .i) _ _ _ (ends-at (c .before .before .before .before .before .before .before .before .before .before)) (c .before .before .before .before .before .before .before .before .before .before .before .before .before .before .pre .1) _ (sym (c .before .before .before .before .before .before .before .chunk-line .ensures (c .before .before .before .before .before .before .before .before .before .before .before .before .before .before .pre .0)) ∙ c .before .before .before .before .before .c .given .1) (c .before .before .before .if1 .left) (c .before .before .if2 .left) (c .before .if3 .left) (c .chunk-data .ensures)
+returns-8 c = chunk-large (c .before .before .before .before .before .before .before .before .before .before .before .before .before .before .args .s .now) (c .before .before .before .before .before .before .before .before .before .before .before .before .before .before .args .i) _ _ _ (ends-at (c .before .before .before .before .before .before .before .before .before .before)) (c .before .before .before .before .before .before .before .before .before .before .before .before .before .before .pre .1) _ (sym (c .before .before .before .before .before .before .before .chunk-line .ensures (c .before .before .before .before .before .before .before .before .before .before .before .before .before .before .pre .0)) ∙ c .before .before .before .before .before .c .given .1) (c .before .before .before .if1 .left) (c .before .before .if2 .left) (leb-false _ _ (sym (c .before .fits2 .ensures) ∙ c .if3 .left))
 
 pub next-chunk-spec : {M : Type 1} → statement M
 next-chunk-spec =
@@ -108,7 +112,8 @@ next-chunk-spec =
     enum-known-c
     returns-5
     returns-6
-    add-if3
-    returns-7
+    add-fits
+    fits-requires
     chunk-data-requires
+    returns-7
     returns-8)
