@@ -1,11 +1,11 @@
 -- The reader of Binary HTTP in 01's order of judgement (01, "Binary HTTP as we take it", "Sizes", "Numbers a call answers with"; RFC 9292, section 3).
 use Prim.Native.Nat.{ℕ, zero, suc, _+_}
-use mathlib.Core.Bool.{Bool, true, false, cond, _||_}
+use mathlib.Core.Bool.{Bool, true, false, cond}
 use mathlib.Core.List.{List, [], _∷_, _++_}
 use lib.Dec.{ltb, leb, eqb}
 use lib.ListN.{length}
 use Rattle.octets.specs.Ascii.{ascii}
-use Rattle.octets.specs.Text.{sameText, isEmpty}
+use Rattle.octets.specs.Text.{sameText}
 use Rattle.octets.specs.Limits.{methodMost, authorityMost, pathMost, linesMost, chunksMost, contentMost, binaryMost, informationalMost}
 use Rattle.octets.specs.Refusals.{badSyntax, notSupported, badLength, tooLarge, cutOff, badIndicator, badSection, badPadding}
 use Rattle.script.specs.Script.{Answer, accepted, refused}
@@ -150,10 +150,14 @@ openLines (suc f) fs = do
         h ← afterNameLength false p a
         openLines f (fs ++ h ∷ [])))
 
+-- an indeterminate section
+abbrev pub openSection : Reader (List FieldRead)
+openSection = openLines (suc linesMost) []
+
 -- a section and the place behind it
 unfoldable pub section : Bool → Reader Section
 section known = do
-  fs ← cond known knownSection (openLines (suc linesMost) [])
+  fs ← cond known knownSection openSection
   e ← here
   give (record { lines = fs; end = e })
 
@@ -182,28 +186,34 @@ openChunks (suc f) cs total = do
         c ← string n cutOff p
         openChunks f (cs ++ c ∷ []) (total + n))))
 
+-- content of indeterminate length
+abbrev pub openContent : Reader (List Piece)
+openContent = openChunks (suc chunksMost) [] 0
+
 -- the message may end before its content: then there is none
 unfoldable pub content : Bool → Reader (List Piece)
 content known = do
   e ← ended
-  cond e (give []) (cond known knownContent (openChunks (suc chunksMost) [] 0))
+  cond e (give []) (cond known knownContent openContent)
 
--- what is read of the content agrees with the length stated, and with the status; judged at the place behind the content
+-- whether n octets of content agree with the length stated, and with a message that may have content or not
+unfoldable pub contentAgrees : Framing → Bool → ℕ → Bool
+contentAgrees f body n = cond (agrees f n) (cond body true (eqb n 0)) false
+
+-- judged at the place behind the content
 unfoldable pub contentRule : Bool → Framing → ℕ → List Piece → Judged (List Piece)
-contentRule body f end cs =
-    cond (agrees f (length (contentOf cs))) (cond (body || isEmpty (contentOf cs)) (good cs) (wrong badLength end)) (wrong badLength end)
+contentRule body f end cs = cond (contentAgrees f body (length (contentOf cs))) (good cs) (wrong badLength end)
 
 -- ---- trailers and padding
 
--- whether there is no line
-abbrev pub noLines : List FieldRead → Bool
-noLines [] = true
-noLines (f ∷ fs) = false
+-- whether n kept trailers, which have good names or not, agree with a message that may have content or not: 204 and 304 keep none
+unfoldable pub trailersAgree : Bool → Bool → ℕ → Bool
+trailersAgree names body n = cond names (cond body true (eqb n 0)) false
 
--- no refused name, and none kept in 204 and 304; judged at the place behind the section
+-- judged at the place behind the section
 unfoldable pub trailerRule : Bool → Section → Judged (List FieldRead)
 trailerRule body h =
-    cond (areTrailers (h .lines)) (cond (body || noLines (keptTrailers (h .lines))) (good (h .lines)) (wrong badLength (h .end))) (wrong badLength (h .end))
+    cond (trailersAgree (areTrailers (h .lines)) body (length (keptTrailers (h .lines)))) (good (h .lines)) (wrong badLength (h .end))
 
 -- the message may end before its trailers: then there are none
 unfoldable pub trailers : Bool → Bool → Reader (List FieldRead)

@@ -1,22 +1,20 @@
 -- One chunk, by what its length and its octets are.
-use Prim.Native.Nat.{ℕ, suc, _+_, _-_, _<_, _≤_}
-use mathlib.Core.Path.{_≡_, refl, sym, ap, _∙_}
-use mathlib.Core.List.{List, [], _∷_, _++_}
-use mathlib.Core.Bool.{true, false, cond}
+use Prim.Native.Nat.{ℕ, _+_, _-_, _<_, _≤_}
+use mathlib.Core.Path.{_≡_}
+use mathlib.Core.List.{List}
+use mathlib.Core.Bool.{true, false}
 use native.Mathlib.Omega.{arith}
 use borrow.Author.Tests.{eq-eqb, ne-eqb, le-leb, lt-leb, lt-ltb, le-ltb, leb-true, leb-false}
 use lib.Dec.{leb}
-use lib.ListN.{length, take, drop}
+use lib.ListN.{length, drop}
 use Rattle.octets.specs.Limits.{chunksMost, contentMost}
 use Rattle.octets.specs.Refusals.{cutOff, tooLarge}
 use Rattle.numbers.specs.Integer.{readInt}
 use Rattle.numbers.specs.declared.Integer.the-variants.{Value, Cut}
 use Rattle.numbers.proofs.IntegerLaws.{int-within}
-use Rattle.script.specs.Do.{Piece, piece}
-use Rattle.binary.specs.Reader.{Got, got, no, _>>=_}
+use Rattle.binary.specs.Reader.{_>>=_}
 use Rattle.binary.specs.Read.{openChunks}
-use Rattle.binary_parts.specs.Content.{ChunkSays, ChunkLies, Chunked}
-use Rattle.binary_parts.specs.declared.ChunkRead.{ChunkRead}
+use Rattle.binary_parts.specs.Content.{Chunked}
 use Rattle.binary_parts.specs.declared.ChunkRead.the-variants as chunk-is
 use Rattle.binary_parts.proofs.Places.{integer-cut, integer-got, octets-cut, octets-got}
 

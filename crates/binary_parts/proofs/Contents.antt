@@ -1,28 +1,23 @@
 -- Content that was read: chunks one behind the other, content of known length.
 use Prim.Native.Nat.{ℕ, suc, _+_, _-_, _*_, _<_, _≤_}
-use mathlib.Core.Path.{_≡_, refl, sym, ap, _∙_, subst}
+use mathlib.Core.Path.{_≡_, refl, sym, _∙_, subst}
 use mathlib.Core.List.{List, [], _∷_, _++_}
-use mathlib.Core.Bool.{Bool, true, false, cond, _||_}
+use mathlib.Core.Bool.{Bool, true, false}
 use native.Mathlib.Omega.{arith}
-use borrow.Author.Tests.{eq-eqb, ne-eqb, eqb-true, lt-leb}
-use lib.Dec.{eqb}
+use borrow.Author.Tests.{eq-eqb, ne-eqb}
 use lib.ListN.{length, take, drop, length-drop}
 use Rattle.octets.specs.Limits.{chunksMost, contentMost}
-use Rattle.octets.specs.Refusals.{badLength}
 use Rattle.octets.specs.Text.{isEmpty}
-use Rattle.script.specs.Do.{Piece, piece, Judged, good, wrong}
+use Rattle.script.specs.Do.{Piece, piece}
 use Rattle.output.specs.Splice.{splice}
 use Rattle.ranges.proofs.Stored.{chunk-next}
-use Rattle.output.proofs.Laws.{splice-append}
 use Rattle.messages.specs.Meaning.{contentOf}
 use Rattle.messages.specs.Answers.{chunksNumbers}
-use Rattle.messages.specs.Rules.{agrees}
-use Rattle.messages.specs.declared.Framing.{Framing}
 use Rattle.sound.proofs.Each.{content-snoc}
 use Rattle.binary.specs.Reader.{Got, got, no, _>>=_}
-use Rattle.binary.specs.Read.{partWithin, openChunks, knownContent, content, contentRule}
+use Rattle.binary.specs.Read.{partWithin, openChunks, knownContent, content, openContent}
 use Rattle.binary_parts.specs.Control.{Parted}
-use Rattle.binary_parts.specs.Content.{ChunkSays, ChunkLies, Chunked, openContent, ContentSays, Contented, contentAgrees}
+use Rattle.binary_parts.specs.Content.{ChunkSays, ChunkLies, Chunked, ContentSays, Contented}
 use Rattle.binary_parts.specs.declared.PartRead.{PartRead}
 use Rattle.binary_parts.specs.declared.PartRead.the-variants as part-is
 use Rattle.binary_parts.specs.declared.ChunkRead.{ChunkRead}
@@ -119,18 +114,6 @@ module _ (s : List ℕ) (from : ℕ) (known : Bool) {o o′ : List ℕ} where
     pub content-open : known ≡ false → Contented s (openContent from (drop from s)) o o′ r → Contented s (content known from (drop from s)) o o′ r
     unfolding content _>>=_
     content-open k q = contented-as (rw (some-left s from h, k)) q
-
--- the rule of the content, by what the code asks
-pub rule-agrees : (body : Bool) (f : Framing) (end : ℕ) (cs : List Piece) {n : ℕ} → length (contentOf cs) ≡ n
-    → contentRule body f end cs ≡ cond (contentAgrees f body n) (good cs) (wrong badLength end)
-unfolding contentRule contentAgrees isEmpty
-rule-agrees body f end cs {n} e = rw e (on (agrees f n) body (eqb n 0))
-  where
-    on : (a b c : Bool)
-        → cond a (cond (b || c) (good cs) (wrong badLength end)) (wrong badLength end) ≡ cond (cond a (cond b true c) false) (good cs) (wrong badLength end)
-    on true true c = refl
-    on true false c = refl
-    on false b c = refl
 
 -- ---- what the caller learns
 

@@ -1,9 +1,9 @@
 -- The control data of a request, part by part.
 use Prim.Native.Nat.{ℕ, _+_, _<_, _≤_}
-use mathlib.Core.Path.{_≡_, refl, sym, ap, _∙_, subst}
+use mathlib.Core.Path.{_≡_, refl, sym, ap, subst}
 use mathlib.Core.List.{List}
 use native.Mathlib.Omega.{arith}
-use lib.ListN.{length, take, drop}
+use lib.ListN.{length, drop}
 use Rattle.octets.specs.Limits.{methodMost, authorityMost, pathMost}
 use Rattle.script.specs.Do.{Piece, piece}
 use Rattle.messages.specs.Control.{methodVerdict, authorityVerdict, pathVerdict}

@@ -2,14 +2,13 @@
 use Prim.Native.Nat.{ℕ, _+_, _-_, _<_, _≤_}
 use mathlib.Core.Path.{_≡_, refl, sym, ap, _∙_, subst}
 use mathlib.Core.List.{List}
-use mathlib.Core.Bool.{true, false, cond}
+use mathlib.Core.Bool.{true, false}
 use native.Mathlib.Omega.{arith}
 use borrow.Author.Tests.{ne-eqb}
 use lib.ListN.{length, take, drop}
 use Rattle.octets.specs.Ascii.{ascii}
 use Rattle.octets.specs.Text.{sameText}
 use Rattle.octets.specs.Refusals.{notSupported}
-use Rattle.script.specs.Do.{Piece, piece, good, wrong}
 use Rattle.binary.specs.Reader.{Got, got, no, _>>=_}
 use Rattle.binary.specs.Read.{part, partWithin, ruledPart, schemeOf, schemePart}
 use Rattle.binary_parts.specs.Control.{Parted, SchemeSays, Schemed}
@@ -17,7 +16,7 @@ use Rattle.binary_parts.specs.declared.PartRead.{PartRead}
 use Rattle.binary_parts.specs.declared.PartRead.the-variants.{Is, Refused}
 use Rattle.binary_parts.specs.declared.SchemeRead.{SchemeRead}
 use Rattle.binary_parts.specs.declared.SchemeRead.the-variants as scheme-is
-use Rattle.binary_parts.proofs.Places.{parted-as, parted-no, parted-got, part-no, part-got}
+use Rattle.binary_parts.proofs.Places.{parted-no, parted-got, part-no, part-got}
 
 -- the part that code takes out of s
 pub taken-part : (s : List ℕ) (a n : ℕ) → take (a + n - a) (drop a s) ≡ take n (drop a s)

@@ -1,8 +1,8 @@
 -- Readers of Binary HTTP at a place of the input, by what stands there; and parts, by their outcome.
 use Prim.Native.Nat.{ℕ, _+_, _-_, _<_, _≤_}
-use mathlib.Core.Path.{_≡_, refl, sym, ap, ap₂, _∙_, subst}
+use mathlib.Core.Path.{_≡_, refl, sym, ap₂, _∙_, subst}
 use mathlib.Core.List.{List}
-use mathlib.Core.Bool.{true, false, cond}
+use mathlib.Core.Bool.{true, false}
 use native.Mathlib.Omega.{arith}
 use borrow.Author.Tests.{lt-ltb, le-ltb}
 use lib.Dec.{leb}
@@ -10,13 +10,12 @@ use lib.ListN.{length, take, drop, length-drop}
 use lib.Seq.{length-take-le, drop-drop}
 use Rattle.octets.specs.Refusals.{cutOff, tooLarge}
 use Rattle.numbers.specs.Integer.{readInt}
-use Rattle.numbers.specs.declared.Integer.{Integer}
 use Rattle.numbers.specs.declared.Integer.the-variants.{Value, Cut}
 use Rattle.numbers.proofs.IntegerLaws.{int-within}
 use Rattle.script.specs.Do.{Piece, piece}
-use Rattle.binary.specs.Reader.{Got, got, no, Reader, onGot, _>>=_, give, refuse, here, onInteger, integer, string}
+use Rattle.binary.specs.Reader.{Got, got, no, _>>=_, integer, string}
 use Rattle.binary.specs.Read.{part, partWithin}
-use Rattle.binary_parts.specs.Control.{StandsIn, GoesOn, PartSays, Parted}
+use Rattle.binary_parts.specs.Control.{StandsIn, PartSays, Parted}
 use Rattle.binary_parts.specs.declared.PartRead.{PartRead}
 use Rattle.binary_parts.specs.declared.PartRead.the-variants.{Is, Refused}
 

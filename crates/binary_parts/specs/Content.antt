@@ -2,9 +2,7 @@
 -- it", "Sizes").
 use Prim.Native.Nat.{ℕ, suc, _+_, _≤_, _<_}
 use mathlib.Core.Path.{_≡_}
-use mathlib.Core.Bool.{Bool, true, false, cond}
 use mathlib.Core.List.{List, [], _∷_, _++_}
-use lib.Dec.{eqb}
 use lib.ListN.{length, take, drop}
 use Rattle.octets.specs.Limits.{chunksMost, contentMost}
 use Rattle.octets.specs.Refusals.{badPadding}
@@ -12,9 +10,7 @@ use Rattle.script.specs.Do.{Piece, piece}
 use Rattle.output.specs.Splice.{splice}
 use Rattle.messages.specs.Meaning.{contentOf}
 use Rattle.messages.specs.Answers.{chunksNumbers}
-use Rattle.messages.specs.Rules.{agrees}
-use Rattle.messages.specs.declared.Framing.{Framing}
-use Rattle.binary.specs.Reader.{Got, got, no, Reader}
+use Rattle.binary.specs.Reader.{Got, got, no}
 use Rattle.binary.specs.Read.{openChunks}
 use Rattle.binary_parts.specs.Control.{GoesOn}
 use Rattle.binary_parts.specs.declared.ChunkRead.{ChunkRead}
@@ -44,10 +40,6 @@ pub record Chunked (s : List ℕ) (at count total : ℕ) (r : ChunkRead) : Type 
   pub says : (f : ℕ) (cs : List Piece) → length cs ≡ count → ChunkSays s f cs total (openChunks (suc f) cs total at (drop at s)) r
   pub lies : ChunkLies s count total r
 
--- chunks up to a length of zero, from the first
-abbrev pub openContent : Reader (List Piece)
-openContent = openChunks (suc chunksMost) [] 0
-
 -- content that was read from s into the lent ranges o: number and octets of its chunks, behind which the reading goes on
 abbrev pub ContentSays : List ℕ → Got (List Piece) → List ℕ → List ℕ → ContentRead → Type 0
 ContentSays s (got cs e l) o o′ r =
@@ -57,10 +49,6 @@ ContentSays s (no n p) o o′ r = r ≡ content-is.Refused n p
 -- the promise of content that is read
 pub record Contented (s : List ℕ) (x : Got (List Piece)) (o o′ : List ℕ) (r : ContentRead) : Type 0 where
   pub says : ContentSays s x o o′ r
-
--- whether so much content agrees with the length stated, and with a message that may have content or not
-unfoldable pub contentAgrees : Framing → Bool → ℕ → Bool
-contentAgrees f body n = cond (agrees f n) (cond body true (eqb n 0)) false
 
 -- ---- padding
 

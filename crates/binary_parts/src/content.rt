@@ -16,9 +16,9 @@ ghost use Prim.Native.Nat.{_≤_, _<_};
 ghost use lib.ListN.{length, drop};
 ghost use Rattle.octets.specs.Limits.{chunksMost, contentMost};
 ghost use Rattle.ranges.specs.Ranges.{placesEnd};
-ghost use Rattle.binary.specs.Read.{knownContent, content, padding};
+ghost use Rattle.binary.specs.Read.{knownContent, openContent, content, contentAgrees, padding};
 ghost use Rattle.messages.specs.Room.{chunksRoom};
-ghost use Rattle.binary_parts.specs.Content.{Chunked, openContent, Contented, contentAgrees, Padded};
+ghost use Rattle.binary_parts.specs.Content.{Chunked, Contented, Padded};
 
 // The zero octets from `from` on, to the end of the input.
 pub fn check_padding(s: &[u8], from: usize) -> Padding

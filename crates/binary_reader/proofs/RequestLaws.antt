@@ -19,7 +19,7 @@ use Rattle.binary.specs.Reader.{Got, got, no, Reader, _>>=_, tell}
 use Rattle.binary.specs.Read.{RequestControl, requestControl, section, afterHeaders, afterHead, afterControl, requestMessage}
 use Rattle.sound.specs.Placed.{Each}
 use Rattle.sound.proofs.Parts.{LineAt}
-use Rattle.binary_parts.specs.Control.{pieceOf, Inside, controlOf}
+use Rattle.binary_parts.specs.Control.{pieceOf, controlOf}
 use Rattle.binary_parts.specs.declared.Span.{Span}
 use Rattle.binary_parts.proofs.Places.{part-length}
 use Rattle.binary_reader.specs.Rest.{RestSays, Rested}

@@ -1,6 +1,6 @@
 -- What stands behind a header section, stage by stage, as the code reads it.
 use Prim.Native.Nat.{ℕ}
-use mathlib.Core.Path.{_≡_, refl, sym, _∙_, subst}
+use mathlib.Core.Path.{_≡_, refl, sym, subst}
 use mathlib.Core.Bool.{Bool, true, false, cond}
 use mathlib.Core.List.{List}
 use lib.ListN.{length, drop}
@@ -9,13 +9,13 @@ use Rattle.script.specs.Do.{Piece, good, wrong}
 use Rattle.messages.specs.Message.{FieldRead, Section, Start, Message, plainMessage}
 use Rattle.messages.specs.declared.Framing.{Framing}
 use Rattle.binary.specs.Reader.{Got, got, no, _>>=_}
-use Rattle.binary.specs.Read.{content, contentRule, trailers, padding, afterContent, afterHeaders}
-use Rattle.binary_parts.specs.Content.{Contented, contentAgrees, Padded}
+use Rattle.binary.specs.Read.{content, contentAgrees, contentRule, trailers, padding, afterContent, afterHeaders}
+use Rattle.binary_parts.specs.Content.{Contented, Padded}
 use Rattle.binary_parts.specs.declared.ContentRead.{ContentRead}
 use Rattle.binary_parts.specs.declared.ContentRead.the-variants as content-is
 use Rattle.binary_parts.specs.declared.Padding.{Padding}
 use Rattle.binary_parts.specs.declared.Padding.the-variants as padding-is
-use Rattle.binary_parts.proofs.Contents.{rule-agrees, content-no, content-done}
+use Rattle.binary_parts.proofs.Contents.{content-no, content-done}
 use Rattle.binary_parts.proofs.PaddingLaws.{padding-bad, padding-clean}
 use Rattle.binary_reader.specs.Rest.{Trailed, RestIs, Behind, Rested}
 use Rattle.binary_reader.specs.declared.TrailersRead.{TrailersRead}
@@ -81,7 +81,8 @@ module _ (s : List ℕ) (from : ℕ) (known body : Bool) (f : Framing) {cs cs′
 
   module _ {end count total : ℕ} (e : r ≡ content-is.Done end count total) {b : Bool} (a : b ≡ contentAgrees f body total) where
     judged : {t : Bool} → b ≡ t → contentRule body f end (content-done h e .chunks) ≡ cond t (good (content-done h e .chunks)) (wrong badLength end)
-    judged g = rule-agrees body f end (content-done h e .chunks) (content-done h e .sum) ∙ rw (← a, g)
+    unfolding contentRule
+    judged g = rw (content-done h e .sum, ← a, g)
 
     pub rested-bad : {ts ts′ : List ℕ} → b ≡ false → Rested s from known body f cs cs′ ts ts′ (Refused badLength end)
     unfolding afterHeaders _>>=_

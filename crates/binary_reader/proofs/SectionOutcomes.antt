@@ -1,11 +1,10 @@
 -- What a caller learns from a section that was read, and what goes on behind it.
 use Prim.Native.Nat.{ℕ, _+_, _*_, _≤_}
-use mathlib.Core.Path.{_≡_, refl, sym, ap, _∙_, subst}
+use mathlib.Core.Path.{_≡_, refl, sym, _∙_, subst}
 use mathlib.Core.List.{List}
 use mathlib.Core.Bool.{Bool, false}
 use native.Mathlib.Omega.{arith}
 use lib.ListN.{length, drop, length-drop}
-use Rattle.octets.specs.Limits.{linesMost}
 use Rattle.script.proofs.Places.{lies-all, lies-rest}
 use Rattle.output.specs.Splice.{splice}
 use Rattle.messages.specs.Message.{Section}

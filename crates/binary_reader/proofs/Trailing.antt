@@ -1,11 +1,10 @@
 -- Trailers that were read, by their rule.
 use Prim.Native.Nat.{ℕ, _-_, _<_, _≤_}
 use mathlib.Core.Path.{_≡_, refl, sym, ap, _∙_, subst}
-use mathlib.Core.Bool.{Bool, true, false, cond, _||_}
-use mathlib.Core.List.{List, [], _∷_}
+use mathlib.Core.Bool.{Bool, true, false, cond}
+use mathlib.Core.List.{List, []}
 use native.Mathlib.Omega.{arith}
 use borrow.Author.Tests.{eq-eqb, ne-eqb}
-use lib.Dec.{eqb}
 use lib.ListN.{length, drop, length-drop}
 use Rattle.octets.specs.Refusals.{badLength}
 use Rattle.octets.specs.Text.{isEmpty}
@@ -17,11 +16,11 @@ use Rattle.messages.specs.Answers.{fieldsNumbers}
 use Rattle.messages.specs.declared.Notes.{Notes}
 use Rattle.messages.proofs.Noting.{trailers-noted}
 use Rattle.binary.specs.Reader.{Got, got, no, _>>=_, tell}
-use Rattle.binary.specs.Read.{section, noLines, trailerRule, trailers}
+use Rattle.binary.specs.Read.{section, trailersAgree, trailerRule, trailers}
 use Rattle.binary_parts.specs.Section.{Sectioned}
 use Rattle.binary_parts.specs.declared.Section as answer
 use Rattle.binary_parts.specs.declared.Section.the-variants as section-is
-use Rattle.binary_reader.specs.Rest.{trailersAgree, TrailersSays, Trailed}
+use Rattle.binary_reader.specs.Rest.{TrailersSays, Trailed}
 use Rattle.binary_reader.specs.declared.TrailersRead.{TrailersRead}
 use Rattle.binary_reader.specs.declared.TrailersRead.the-variants.{Done, Refused}
 use Rattle.binary_reader.proofs.SectionOutcomes.{section-no, section-done}
@@ -31,24 +30,6 @@ trailed-as {s} {o = o} {o′ = o′} {r = r} e h = record { says = subst (λ (z 
 
 trailed-no : {s : List ℕ} {x : Got (List FieldRead)} {n p : ℕ} {o o′ : List ℕ} → x ≡ no n p → Trailed s x o o′ (Refused n p)
 trailed-no {n = n} {p = p} e = trailed-as {y = no n p} e refl
-
--- no line is kept where their number is zero
-none-kept : (fs : List FieldRead) → noLines fs ≡ eqb (length fs) 0
-none-kept [] = refl
-none-kept (f ∷ fs) = sym (ne-eqb (length (f ∷ fs)) 0 (λ z. omega (arith, z)))
-
--- the rule of a trailer section, by what the code asks
-rule-agrees : (body : Bool) (h : Section) {names : Bool} {n : ℕ} → areTrailers (h .lines) ≡ names → length (keptTrailers (h .lines)) ≡ n
-    → trailerRule body h ≡ cond (trailersAgree names body n) (good (h .lines)) (wrong badLength (h .end))
-unfolding trailerRule trailersAgree
-rule-agrees body h {names} {n} e f = rw (none-kept (keptTrailers (h .lines)), e, f) (on names body (eqb n 0))
-  where
-    on : (a b c : Bool)
-        → cond a (cond (b || c) (good (h .lines)) (wrong badLength (h .end))) (wrong badLength (h .end))
-        ≡ cond (cond a (cond b true c) false) (good (h .lines)) (wrong badLength (h .end))
-    on true true c = refl
-    on true false c = refl
-    on false b c = refl
 
 some-left : (s : List ℕ) (from : ℕ) → from < length s → isEmpty (drop from s) ≡ false
 unfolding isEmpty
@@ -78,11 +59,11 @@ module _ (s : List ℕ) (from : ℕ) (known body : Bool) {o o′ : List ℕ} whe
       judged : {b : Bool} → t ≡ b
           → trailerRule body (section-done s known from w within e .read)
           ≡ cond b (good (section-done s known from w within e .read .lines)) (wrong badLength end)
-      unfolding keptTrailers
+      unfolding trailerRule keptTrailers
       judged {b} g = let d = section-done s known from w within e in
           let c : length (kept false (d .read .lines)) ≡ count = omega (arith, d .count) in
-          rule-agrees body (d .read) (trailers-noted false (d .read .lines) ∙ ap (λ (n : Notes). n .trailers) (sym (d .noted))) c
-          ∙ rw (← q, g, d .end)
+          let n : areTrailers (d .read .lines) ≡ notes .trailers = trailers-noted false (d .read .lines) ∙ ap (λ (n : Notes). n .trailers) (sym (d .noted)) in
+          rw (n, c, ← q, g, d .end)
 
       pub trailers-good : t ≡ true → Trailed s (trailers known body from (drop from s)) o o′ (Done end count)
       unfolding keptTrailers

@@ -2,9 +2,8 @@
 -- it": content, trailers, padding).
 use Prim.Native.Nat.{ℕ}
 use mathlib.Core.Path.{_≡_}
-use mathlib.Core.Bool.{Bool, true, false, cond}
+use mathlib.Core.Bool.{Bool}
 use mathlib.Core.List.{List}
-use lib.Dec.{eqb}
 use lib.ListN.{length, drop}
 use Rattle.script.specs.Do.{Piece}
 use Rattle.output.specs.Splice.{splice}
@@ -23,10 +22,6 @@ use Rattle.binary_reader.specs.declared.RestRead.{RestRead}
 use Rattle.binary_reader.specs.declared.RestRead.the-variants as rest-is
 
 -- ---- trailers
-
--- whether a section whose names trailers may have, or not, and of which so many lines are kept, agrees with a message that may have content or not
-unfoldable pub trailersAgree : Bool → Bool → ℕ → Bool
-trailersAgree names body n = cond names (cond body true (eqb n 0)) false
 
 -- trailers that were read from s into the lent ranges o: the number of kept lines, behind which the reading goes on
 abbrev pub TrailersSays : List ℕ → Got (List FieldRead) → List ℕ → List ℕ → TrailersRead → Type 0

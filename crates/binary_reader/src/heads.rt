@@ -61,7 +61,8 @@ fn after_final_status(
     base: usize,
     headers: &mut [u32],
 ) -> HeadRead
-    requires { ⌜ (now t ≡ classes) × (next ≤ length (now s)) × (length (now s) < placesEnd) × (base * 4 + sectionRoom ≤ length (now headers)) × FinalStatus status ⌝ }
+    requires { ⌜ (now t ≡ classes) × (next ≤ length (now s)) × (length (now s) < placesEnd) × (base * 4 + sectionRoom ≤ length (now headers))
+        × FinalStatus status ⌝ }
     ensures { λ r. ⌜ Headed AnyHeads (λ f is. afterFinalStatus known is status next (drop next (now (s .entry))))
         known (now (s .entry)) base (now (headers .entry)) (now (headers .exit)) r ⌝ }
 {

@@ -17,9 +17,9 @@ ghost use Prim.Native.Nat.{_≤_, _<_};
 ghost use lib.ListN.{length, drop};
 ghost use Rattle.octets.specs.Table.{classes};
 ghost use Rattle.ranges.specs.Ranges.{placesEnd};
-ghost use Rattle.binary.specs.Read.{trailers};
+ghost use Rattle.binary.specs.Read.{trailersAgree, trailers};
 ghost use Rattle.messages.specs.Room.{sectionRoom, chunksRoom};
-ghost use Rattle.binary_reader.specs.Rest.{trailersAgree, Trailed, Behind, Rested};
+ghost use Rattle.binary_reader.specs.Rest.{Trailed, Behind, Rested};
 
 // Whether a trailer section with `kept` kept lines may stand in a message that may have content or not.
 fn trailers_agree(notes: Notes, body: bool, kept: usize) -> bool

@@ -3,6 +3,9 @@ use mathlib.Core.Path.{_≡_, refl, _∙_}
 use mathlib.Core.Bool.{Bool, true, false}
 use mathlib.Core.List.{List, [], _∷_, _++_, map}
 use Prim.Native.Nat.{ℕ, _+_}
+use native.Mathlib.Omega.{arith}
+use borrow.Author.Tests.{ne-eqb}
+use lib.Dec.{eqb}
 use lib.ListN.{length}
 use Rattle.messages.specs.Names.{linesOf, kept, areTrailers}
 use Rattle.messages.specs.declared.Kind.the-variants as kind
@@ -12,7 +15,6 @@ use Rattle.messages.specs.Meaning.{Field, fieldMeans, Informational, informatio
 use Rattle.messages.specs.Valid.{validFields, validHeads, noFields}
 use Rattle.messages.proofs.Valid.{section-fields, head-ok}
 use Rattle.messages.proofs.ValidLines as laws
-use Rattle.binary.specs.Read.{noLines}
 use Rattle.binary_writer.specs.Write.{fieldBytes, sectionBytes}
 use Rattle.numbers.specs.Integer.{intBytes}
 use Rattle.binary_round_trip.specs.RoundTrip.{linesAt, headsAt}
@@ -41,10 +43,10 @@ no-hosts fs at v = laws.no-hosts (linesAt at fs) (lines-valid false fs at v)
 pub are-trailers : (fs : List Field) (at : ℕ) → validFields false fs ≡ true → areTrailers (linesAt at fs) ≡ true
 are-trailers fs at v = laws.are-trailers (linesAt at fs) (lines-valid false fs at v)
 
-pub as-many : (fs : List Field) (at : ℕ) → noLines (linesAt at fs) ≡ noFields fs
+pub as-many : (fs : List Field) (at : ℕ) → eqb (length (linesAt at fs)) 0 ≡ noFields fs
 unfolding linesAt
 as-many [] at = refl
-as-many (f ∷ fs) at = refl
+as-many (f ∷ fs) at = ne-eqb (length (linesAt at (f ∷ fs))) 0 (λ z. omega (arith, z))
 
 pub heads-back : (hs : List Informational) (at : ℕ) → validHeads hs ≡ true → map informationalMeans (headsAt at hs) ≡ hs
 unfolding headsAt informationalMeans

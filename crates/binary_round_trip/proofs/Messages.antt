@@ -1,11 +1,11 @@
 -- Content, trailers and whole messages are read back.
 use mathlib.Core.Path.{_≡_, refl, sym, ap, ap₂, _∙_}
-use mathlib.Core.Bool.{Bool, true, false, not, _||_}
+use mathlib.Core.Bool.{Bool, true, false, cond, not, _||_}
 use mathlib.Core.List.{List, [], _∷_, _++_, append-assoc, append-nil}
 use Prim.Native.Nat.{ℕ, zero, suc, _+_, _≤_, _<_}
 use native.Mathlib.Omega.{arith}
 use borrow.Author.Tests.{lt-leb, ne-eqb}
-use lib.Dec.{leb, lit<}
+use lib.Dec.{leb, eqb, lit<}
 use lib.ListN.{length, length-append}
 use Rattle.octets.specs.Text.{isEmpty}
 use Rattle.octets.specs.Limits.{contentMost, binaryMost, informationalMost}
@@ -26,7 +26,7 @@ use Rattle.messages.proofs.Verdicts.{status-rule}
 use Rattle.messages.proofs.Valid.{section-fields, head-ok, request-ok}
 use Rattle.messages.proofs.ValidLines.{content-back}
 use Rattle.binary.specs.Reader.{rule, integer}
-use Rattle.binary.specs.Read.{knownContent, content, contentRule, trailerRule, trailers, padding, afterContent, afterHeaders, afterHead, afterControl}
+use Rattle.binary.specs.Read.{knownContent, content, contentAgrees, contentRule, trailersAgree, trailerRule, trailers, padding, afterContent, afterHeaders, afterHead, afterControl}
 use Rattle.binary.specs.Read.{requestMessage, afterFinal, afterFinalStatus, afterInformational, afterInformationalStatus, heads}
 use Rattle.binary_writer.specs.Write.{counted, fieldsBytes, sectionBytes, schemeBytes, informationalBytes}
 use Rattle.binary_round_trip.specs.RoundTrip.{countedAt, linesAt, sectionAt, headAt, headsAt, placedFrom}
@@ -72,15 +72,19 @@ unfolding validBody
 bodied true c ts v = (refl, refl)
 bodied false c ts v = and-split (isEmpty c) (noFields ts) v
 
+agreed : (body c : Bool) → (body || c) ≡ true → cond body true c ≡ true
+agreed true c h = refl
+agreed false c h = h
+
 content-good : (body : Bool) (end p : ℕ) (c : List ℕ) → (body || isEmpty c) ≡ true
     → contentRule body Unstated end (nonEmpty (piece p c)) ≡ good (nonEmpty (piece p c))
-unfolding contentRule
-content-good body end p c h = rw (content-back p c, h)
+unfolding contentRule contentAgrees isEmpty
+content-good body end p c h = rw (content-back p c, agreed body (eqb (length c) 0) h)
 
 trailers-good : (body : Bool) (end at : ℕ) (ts : List Field) → validFields false ts ≡ true → (body || noFields ts) ≡ true
     → trailerRule body (record { lines = sectionAt at ts; end = end }) ≡ good (sectionAt at ts)
-unfolding trailerRule keptTrailers
-trailers-good body end at ts v h = rw (are-trailers ts _ v, kept-all false ts _ v, as-many ts _, h)
+unfolding trailerRule trailersAgree keptTrailers
+trailers-good body end at ts v h = rw (are-trailers ts _ v, kept-all false ts _ v, as-many ts _, agreed body (noFields ts) h)
 
 reads-trailers : (body : Bool) (ts : List Field) (at : ℕ) (rest : List ℕ) → validSection false ts ≡ true → length (sectionBytes ts) ≤ binaryMost
     → (body || noFields ts) ≡ true → Reads (trailers true body) at (sectionBytes ts) rest (sectionAt at ts)

@@ -1,10 +1,10 @@
 -- What content, trailers and padding give wherever they stand.
 use Prim.Native.Nat.{ℕ, zero, suc, _+_}
-use mathlib.Core.Path.{_≡_, refl, subst}
+use mathlib.Core.Path.{_≡_, refl, sym, subst}
 use mathlib.Core.Bool.{Bool, true, false, cond, _||_}
 use mathlib.Core.List.{List, [], _∷_, _++_, map}
 use native.Mathlib.Omega.{arith}
-use borrow.Author.Tests.{eqb-false, leb-false, ltb-false}
+use borrow.Author.Tests.{ne-eqb, eqb-false, leb-false, ltb-false}
 use lib.Dec.{ltb, leb, eqb}
 use lib.ListN.{length}
 use Rattle.octets.specs.Limits.{chunksMost, contentMost}
@@ -19,7 +19,7 @@ use Rattle.messages.specs.Meaning.{fieldMeans, contentOf}
 use Rattle.messages.specs.Valid.{noFields, validBody}
 use Rattle.messages.specs.declared.Framing.{Framing}
 use Rattle.binary.specs.Reader.{no}
-use Rattle.binary.specs.Read.{knownContent, openChunks, content, contentRule, noLines, trailerRule, trailers, padding, afterContent, afterHeaders}
+use Rattle.binary.specs.Read.{knownContent, openChunks, content, contentAgrees, contentRule, trailersAgree, trailerRule, trailers, padding, afterContent, afterHeaders}
 use Rattle.sound.proofs.Each.{content-snoc}
 use Rattle.sound.proofs.Parts.{ChunksAt, chunks-none, chunks-snoc, chunks-one}
 use Rattle.binary_sound.proofs.Judgement.{Stands, stands-on, Gets, Every, stops-give, every-refuse, every-here, stops-ended, every-tell, stops-if, every-integer, every-octets, stops-bind, stops-then}
@@ -28,28 +28,34 @@ use Rattle.binary_sound.proofs.Lines.{no-wrong, LinesAt, lines-none, ev
 
 -- ---- the rules
 
+-- an agreement is two tests
+both : (a body c : Bool) → cond a (cond body true c) false ≡ true → (a ≡ true) × ((body || c) ≡ true)
+both true true c e = (refl, refl)
+both true false c e = (refl, e)
+both false body c e = (e, cc)
+
 -- a message that may have no content has none, and its head's length is the content's
 pub record Filled (body : Bool) (f : Framing) (cs : List Piece) : Type 0 where
   pub agreed : agrees f (length (contentOf cs)) ≡ true
   pub empty : (body || isEmpty (contentOf cs)) ≡ true
 
 content-is : (body : Bool) (f : Framing) (end : ℕ) (cs c : List Piece) → contentRule body f end cs ≡ good c → (cs ≡ c) × Filled body f cs
-unfolding contentRule
+unfolding contentRule contentAgrees isEmpty
 content-is body f end cs c e =
-    let a = into no-wrong (agrees f (length (contentOf cs))) _ e in
-    let b = into no-wrong (body || isEmpty (contentOf cs)) _ (a .1) in
-    (cc, record { agreed = a .0; empty = b .0 })
+    let a = into no-wrong (contentAgrees f body (length (contentOf cs))) _ e in
+    let b = both (agrees f (length (contentOf cs))) body (eqb (length (contentOf cs)) 0) (a .0) in
+    (cc, record { agreed = b .0; empty = b .1 })
 
 pub record GoodTrailers (body : Bool) (ts : List FieldRead) : Type 0 where
   pub names : areTrailers ts ≡ true
-  pub none : (body || noLines (keptTrailers ts)) ≡ true
+  pub none : (body || eqb (length (keptTrailers ts)) 0) ≡ true
 
 trailers-are : (body : Bool) (h : Section) (ts : List FieldRead) → trailerRule body h ≡ good ts → (h .lines ≡ ts) × GoodTrailers body (h .lines)
-unfolding trailerRule
+unfolding trailerRule trailersAgree
 trailers-are body h ts e =
-    let a = into no-wrong (areTrailers (h .lines)) _ e in
-    let b = into no-wrong (body || noLines (keptTrailers (h .lines))) _ (a .1) in
-    (cc, record { names = a .0; none = b .0 })
+    let a = into no-wrong (trailersAgree (areTrailers (h .lines)) body (length (keptTrailers (h .lines)))) _ e in
+    let b = both (areTrailers (h .lines)) body (eqb (length (keptTrailers (h .lines))) 0) (a .0) in
+    (cc, record { names = b .0; none = b .1 })
 
 or-true : (b : Bool) → (b || true) ≡ true
 or-true true = refl
@@ -60,11 +66,11 @@ unfolding areTrailers keptTrailers kept
 named-none body = record { names = refl; none = or-true body }
 
 -- what the rules say is what a valid meaning has
-as-many : (ts : List FieldRead) → noFields (map fieldMeans ts) ≡ noLines ts
+as-many : (ts : List FieldRead) → noFields (map fieldMeans ts) ≡ eqb (length ts) 0
 as-many [] = refl
-as-many (t ∷ ts) = refl
+as-many (t ∷ ts) = sym (ne-eqb (length (t ∷ ts)) 0 (λ z. omega (arith, z)))
 
-pub body-valid : (body : Bool) (cs : List Piece) (ts : List FieldRead) → (body || isEmpty (contentOf cs)) ≡ true → (body || noLines (keptTrailers ts)) ≡ true
+pub body-valid : (body : Bool) (cs : List Piece) (ts : List FieldRead) → (body || isEmpty (contentOf cs)) ≡ true → (body || eqb (length (keptTrailers ts)) 0) ≡ true
     → validBody body (contentOf cs) (map fieldMeans (keptTrailers ts)) ≡ true
 unfolding validBody
 body-valid true cs ts h g = refl

@@ -1,7 +1,7 @@
 -- What the reader of Binary HTTP refuses with, and where.
 use Prim.Native.Nat.{ℕ, zero, suc, _+_, _≤_}
 use mathlib.Core.Path.{_≡_, refl}
-use mathlib.Core.Bool.{Bool, true, false, cond, _||_}
+use mathlib.Core.Bool.{Bool, true, false, cond}
 use mathlib.Core.List.{List, [], _∷_, _++_}
 use native.Mathlib.Omega.{arith}
 use lib.Dec.{ltb, leb, eqb, lit≤}
@@ -9,7 +9,7 @@ use lib.ListN.{length}
 use Rattle.octets.specs.Ascii.{ascii}
 use Rattle.octets.specs.Limits.{methodMost, authorityMost, pathMost, linesMost, chunksMost, contentMost, binaryMost, informationalMost}
 use Rattle.octets.specs.Refusals.{badSyntax, notSupported, badLength, tooLarge, cutOff, badSection, badPadding}
-use Rattle.octets.specs.Text.{sameText, isEmpty}
+use Rattle.octets.specs.Text.{sameText}
 use Rattle.octets.proofs.Kit.{either}
 use Rattle.script.specs.Script.{refused, Settled}
 use Rattle.script.specs.Do.{Piece, piece, good, wrong}
@@ -18,12 +18,12 @@ use Rattle.messages.specs.Message.{FieldRead, Section, InformationalRead, Start
 use Rattle.messages.specs.Control.{methodVerdict, pathVerdict, authorityVerdict, statusVerdict, isInformational, isBodyless, isLowerName, isTrimmedValue}
 use Rattle.messages.specs.Meaning.{contentOf}
 use Rattle.messages.specs.Names.{areTrailers, keptTrailers}
-use Rattle.messages.specs.Rules.{authorityIn, binaryFramingOf, nothingStated, mayState, agrees}
+use Rattle.messages.specs.Rules.{authorityIn, binaryFramingOf, nothingStated, mayState}
 use Rattle.messages.specs.declared.Framing.{Framing}
 use Rattle.messages.specs.declared.Framing.the-variants.{Unstated}
 use Rattle.binary.specs.Reader.{Got, got, no, Reader}
 use Rattle.binary.specs.Read.{part, partWithin, ruledPart, schemeOf, schemePart, afterScheme, requestControl, judgedLine, cutNumber, cutPlace, afterNameLength, knownLine, knownLines, onBody, bodyLines, knownSection, openLines, section}
-use Rattle.binary.specs.Read.{knownContent, openChunks, content, contentRule, noLines, trailerRule, trailers, padding, afterContent, afterHeaders}
+use Rattle.binary.specs.Read.{knownContent, openChunks, content, contentAgrees, contentRule, trailersAgree, trailerRule, trailers, padding, afterContent, afterHeaders}
 use Rattle.binary.specs.Read.{afterHead, afterControl, requestMessage, afterFinal, afterFinalStatus, afterInformational, afterInformationalStatus, heads}
 use Rattle.binary.specs.Read.{afterIndicator, message, messageAnswer, readBinary}
 use Rattle.sound.specs.Placed.{Lying}
@@ -85,16 +85,13 @@ module _ (s : List ℕ) (p : ℕ) (i : p ≤ length s) where
   content-judged : (body : Bool) (f : Framing) (cs : List Piece) → Refuses binaryLast s (contentRule body f p cs)
   unfolding contentRule
   content-judged body f cs =
-      either (Refuses binaryLast s) (agrees f (length (contentOf cs))) _ (wrong badLength p)
-      (λ a. either (Refuses binaryLast s) (body || isEmpty (contentOf cs)) _ (wrong badLength p) (λ b. tt) (λ b. bad-length i))
-      (λ a. bad-length i)
+      either (Refuses binaryLast s) (contentAgrees f body (length (contentOf cs))) (good cs) (wrong badLength p) (λ a. tt) (λ a. bad-length i)
 
 trailer-judged : (s : List ℕ) (body : Bool) (h : Section) → h .end ≤ length s → Refuses binaryLast s (trailerRule body h)
 unfolding trailerRule
 trailer-judged s body h i =
-    either (Refuses binaryLast s) (areTrailers (h .lines)) _ (wrong badLength (h .end))
-    (λ a. either (Refuses binaryLast s) (body || noLines (keptTrailers (h .lines))) _ (wrong badLength (h .end)) (λ b. tt) (λ b. bad-length i))
-    (λ a. bad-length i)
+    either (Refuses binaryLast s) (trailersAgree (areTrailers (h .lines)) body (length (keptTrailers (h .lines)))) (good (h .lines)) (wrong badLength (h .end))
+    (λ a. tt) (λ a. bad-length i)
 
 -- ---- parts and control data
 

@@ -15,10 +15,6 @@ use Rattle.http1.specs.Read.{Content}
 use Rattle.http1_parts.specs.declared.ContentRead.{ContentRead}
 use Rattle.http1_parts.specs.declared.ContentRead.the-variants.{Done, Refused, More}
 
--- numbers that the chunks of one message may take, two each
-abbrev pub chunksRoom : ℕ
-chunksRoom = chunksMost * 2
-
 -- a body by length is within the size of content
 abbrev pub SizedWithin : Body → Type 0
 SizedWithin (Sized n) = n ≤ contentMost

@@ -11,6 +11,7 @@ use Rattle.script.specs.Script.{Answer, accepted, refused, more}
 use Rattle.script.specs.Do.{piece}
 use Rattle.output.specs.Splice.{splice}
 use Rattle.messages.specs.Message.{FieldRead}
+use Rattle.messages.specs.Room.{sectionRoom}
 use Rattle.messages.specs.Names.{lineKind, kept}
 use Rattle.messages.specs.Notes.{notesOf}
 use Rattle.messages.specs.Answers.{fieldsNumbers}
@@ -21,10 +22,6 @@ use Rattle.http1_parts.specs.declared.Section.{Section}
 use Rattle.http1_parts.specs.declared.Section.the-variants.{Done, Refused, More}
 
 -- ---- the lent space: a field takes four numbers
-
--- numbers that the kept fields of one section may take
-abbrev pub sectionRoom : ℕ
-sectionRoom = linesMost * 4
 
 -- room for one field more behind k of them
 abbrev pub FieldRoom : ℕ → List ℕ → Type 0

@@ -19,10 +19,10 @@ ghost use Rattle.octets.specs.Table.{classes};
 ghost use Rattle.octets.specs.Limits.{headMost, trailerMost, chunksMost, contentMost};
 ghost use Rattle.script.specs.Script.{run};
 ghost use Rattle.messages.specs.declared.Body.the-variants.{InChunks};
+ghost use Rattle.messages.specs.Room.{sectionRoom, chunksRoom};
 ghost use Rattle.http1.specs.Read.{content};
 ghost use Rattle.ranges.specs.Ranges.{placesEnd};
-ghost use Rattle.http1_parts.specs.Section.{sectionRoom};
-ghost use Rattle.http1_parts.specs.Content.{chunksRoom, SizedWithin, Contented};
+ghost use Rattle.http1_parts.specs.Content.{SizedWithin, Contented};
 ghost use Rattle.http1_parts.specs.Chunk.{DataRead, Chunked, Trailed, SizedRead};
 
 // The trailer section from `from` on, behind `count` chunks of `total` octets.

@@ -9,6 +9,7 @@ use Rattle.octets.specs.Limits.{headMost, linesMost, informationalMost}
 use Rattle.script.specs.Script.{Answer, accepted, refused, more, run}
 use Rattle.output.specs.Splice.{splice}
 use Rattle.messages.specs.Message.{InformationalRead, Message}
+use Rattle.messages.specs.Room.{sectionRoom}
 use Rattle.messages.specs.Names.{kept}
 use Rattle.messages.specs.Notes.{notesOf}
 use Rattle.messages.specs.Answers.{fieldsNumbers, informationalNumbers, informationalLines, responseRecord}
@@ -16,7 +17,6 @@ use Rattle.messages.specs.declared.Notes.{Notes}
 use Rattle.messages.specs.declared.Outcome.{Outcome}
 use Rattle.messages.specs.declared.Outcome.the-variants as outcome
 use Rattle.http1.specs.Read.{Lines, informationalRead, afterInformationalLine, afterFinal, afterFinalLine, heads}
-use Rattle.http1_parts.specs.Section.{sectionRoom}
 use Rattle.http1_parts.specs.declared.ContentRead.{ContentRead}
 use Rattle.http1_parts.specs.declared.ContentRead.the-variants as content
 use Rattle.http1_reader.specs.Readers.{countsWith, RestSays}
@@ -26,14 +26,6 @@ use Rattle.http1_reader.specs.declared.HeadsRead.{HeadsRead}
 use Rattle.http1_reader.specs.declared.HeadsRead.the-variants as heads-read
 
 -- ---- the lent space
-
--- numbers that the kept fields of all heads may take
-abbrev pub headsRoom : ℕ
-headsRoom = (informationalMost + 1) * sectionRoom
-
--- numbers that the informational heads may take: status and number of kept fields of each
-abbrev pub informationalRoom : ℕ
-informationalRoom = informationalMost * 2
 
 -- ---- one head
 

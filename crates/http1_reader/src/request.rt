@@ -27,10 +27,9 @@ ghost use lib.ListN.{length};
 ghost use Rattle.octets.specs.Table.{classes};
 ghost use Rattle.octets.specs.Limits.{headMost};
 ghost use Rattle.messages.specs.Answers.{readingOf};
+ghost use Rattle.messages.specs.Room.{sectionRoom, chunksRoom};
 ghost use Rattle.http1.specs.Read.{readRequest};
 ghost use Rattle.ranges.specs.Ranges.{placesEnd, Outcomed};
-ghost use Rattle.http1_parts.specs.Content.{chunksRoom};
-ghost use Rattle.http1_parts.specs.Section.{sectionRoom};
 ghost use Rattle.http1_reader.specs.Readers.{versionLen, HeadKnown, requestOutcome, RestRead, BehindLineRead};
 
 // The outcome of a request whose content was read.

@@ -29,11 +29,11 @@ ghost use lib.ListN.{length};
 ghost use Rattle.octets.specs.Table.{classes};
 ghost use Rattle.octets.specs.Limits.{headMost};
 ghost use Rattle.messages.specs.Answers.{readingOf};
+ghost use Rattle.messages.specs.Room.{sectionRoom, headsRoom, informationalRoom, chunksRoom};
 ghost use Rattle.http1.specs.Read.{readResponse};
 ghost use Rattle.ranges.specs.Ranges.{Responded};
-ghost use Rattle.http1_parts.specs.Section.{sectionRoom, SectionRoom};
-ghost use Rattle.http1_parts.specs.Content.{chunksRoom};
-ghost use Rattle.http1_reader.specs.Responses.{headsRoom, informationalRoom, InformationalHeaded, FinalHeaded, NextHeaded};
+ghost use Rattle.http1_parts.specs.Section.{SectionRoom};
+ghost use Rattle.http1_reader.specs.Responses.{InformationalHeaded, FinalHeaded, NextHeaded};
 ghost use Rattle.http1_reader.specs.Responses.{HeadsTaken, responseOutcome, FinalRead};
 
 // The section of an informational head, behind its status line that ends at `next`.

@@ -1,6 +1,6 @@
 use native.Mathlib.Omega.{arith}
 use Rattle.messages.proofs.Picks.{picks}
-use Rattle.binary_parts.specs.Content.{contentAgrees}
+use Rattle.binary.specs.Read.{contentAgrees}
 use borrow.Author.Needs.{needs}
 use Rattle.binary_parts.proofs.content.content_agrees.Statement.{statement}
 use Rattle.binary_parts.proofs.content.content_agrees.Tie as tie

@@ -9,8 +9,7 @@ use Rattle.output.specs.Splice.{splice}
 use Rattle.output.proofs.Laws.{splice-length}
 use Rattle.messages.specs.Meaning.{contentOf}
 use Rattle.messages.specs.Answers.{chunksNumbers}
-use Rattle.binary.specs.Read.{openChunks}
-use Rattle.binary_parts.specs.Content.{openContent}
+use Rattle.binary.specs.Read.{openChunks, openContent}
 use Rattle.binary_parts.proofs.Contents.{contented-no, contented-got, chunk-bounds, last-bounds, refused-said, last-said, next-said, content-next, chunk-stored}
 use Rattle.binary_parts.proofs.content.open_content.Statement.{statement}
 use Rattle.binary_parts.proofs.content.open_content.Tie as tie

@@ -1,6 +1,6 @@
 use native.Mathlib.Omega.{arith}
 use Rattle.messages.proofs.Picks.{picks}
-use Rattle.binary_reader.specs.Rest.{trailersAgree}
+use Rattle.binary.specs.Read.{trailersAgree}
 use borrow.Author.Needs.{needs}
 use Rattle.binary_reader.proofs.rest.trailers_agree.Statement.{statement}
 use Rattle.binary_reader.proofs.rest.trailers_agree.Tie as tie
