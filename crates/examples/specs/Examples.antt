@@ -13,6 +13,7 @@ use Rattle.numbers.specs.Integer.{readInt}
 use Rattle.numbers.specs.declared.Integer.the-variants.{Value, Cut}
 use Rattle.script.specs.Script.{Answer}
 use Rattle.messages.specs.declared.Told.{Told}
+use Rattle.messages.specs.Told.{plain}
 use Rattle.messages.specs.Message.{Message}
 use Rattle.messages.specs.Answers.{readingOf, numberOf, placeOf}
 use Rattle.messages.specs.declared.Record.{Record}
@@ -61,7 +62,7 @@ pub data Example : Type 0 where
 
 -- a call told http
 abbrev pub http : Told
-http = record { scheme = 0 }
+http = plain 0
 
 -- number and place of an answer on an input
 abbrev pub Answers : List ℕ → Answer Message → ℕ → ℕ → Type 0
