@@ -14,6 +14,7 @@ use Rattle.numbers.specs.declared.Integer.the-variants.{Value, Cut}
 use Rattle.script.specs.Script.{Answer}
 use Rattle.messages.specs.Told.{plain}
 use Rattle.messages.specs.declared.Told.{Told}
+use Rattle.messages.specs.Told.{plain}
 use Rattle.messages.specs.Message.{Message}
 use Rattle.messages.specs.Answers.{readingOf, numberOf, placeOf}
 use Rattle.messages.specs.declared.Record.{Record}
