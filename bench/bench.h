@@ -13,7 +13,7 @@ struct message {
     size_t len;
     size_t head;    /* octets in front of the content; in HTTP/1.1 the head or heads, empty lines included */
     size_t lines;   /* field lines of the (final) head */
-    size_t kept;    /* those of them that travel (ours names only these) */
+    size_t kept;    /* those of them that are kept (ours names only these) */
     size_t content; /* octets of content */
     bool chunked;
     size_t put_at; /* where a turning puts the content in its output; set by turn.c */
@@ -56,7 +56,7 @@ call http_parser_read_request, pico_read_head, pico_read_chunked, copy_body;
 /* unchecked.c */
 call unchecked_request_to_binary, unchecked_response_to_binary, unchecked_binary_to_binary, unchecked_binary_to_http1;
 
-/* ------------------------------------------------------------------------------------------------ clock.c, table.c */
+/* ------------------------------------------------------------------------------------------------ clock.c, count.c, table.c */
 
 enum { COLUMNS_MOST = 4, ROUNDS = 41 };
 
@@ -74,6 +74,10 @@ struct row {
 
 /* Times every call of the rows. */
 void take_times(struct row *rows, size_t row_count);
+
+/* count.c: whether the program is to count, and a count of every call of the rows, for callgrind. */
+bool is_count(int argc, char **argv);
+void take_counts(const struct column *columns, const struct row *rows, size_t row_count);
 
 /* Prints what the columns are, the times, and what the first column takes of each other one's. */
 void print_table(const struct column *columns, size_t column_count, const struct row *rows, size_t row_count);

@@ -44,11 +44,15 @@ static void check_row(const struct row *row)
     }
 }
 
-int main(void)
+int main(int argc, char **argv)
 {
     make_messages();
     for (int r = 0; r < ROWS; r++)
         check_row(&rows[r]);
+    if (is_count(argc, argv)) {
+        take_counts(columns, rows, ROWS);
+        return 0;
+    }
     take_times(rows, ROWS);
     print_table(columns, COLUMNS, rows, ROWS);
     return 0;

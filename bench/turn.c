@@ -143,7 +143,7 @@ static void check_written(const char *name, call *turn, const struct message *me
         fail(name, "other octets than the paper has");
 }
 
-int main(void)
+int main(int argc, char **argv)
 {
     make_messages();
     make_binary_messages();
@@ -156,6 +156,10 @@ int main(void)
     check_written("P5", ours_request_to_binary, &example, &example_binary);
     check_written("P5 anew", ours_binary_to_binary, &example_binary, &example_binary);
     check_written("P6", ours_binary_to_binary, &figure_13, &figure_13);
+    if (is_count(argc, argv)) {
+        take_counts(columns, rows, ROWS);
+        return 0;
+    }
     take_times(rows, ROWS);
     print_table(columns, COLUMNS, rows, ROWS);
     return 0;

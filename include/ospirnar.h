@@ -10,7 +10,7 @@
  *
  * Ranges. An accepted message is described by numbers in `ranges`; only those in use are written, all behind them stays as it was. Where they do not fit
  * the answer is 13 at 0. OSPIRNAR_RANGES_MOST elements are always enough. A part is its start in the input and its length; a field is the
- * part of its name and the part of its value. Only fields that travel are named.
+ * part of its name and the part of its value. Only kept fields are named (document 01 names those that are dropped).
  *
  *   ranges[0]        0 request, 1 response
  *   ranges[1]        scheme of a request: 0 http, 1 https; 0 in a response
@@ -71,7 +71,7 @@ uint32_t ospirnar_binary_to_http1(const uint8_t *input, size_t input_len, uint32
  * it was. 13 at 0 where it does not fit; nothing else is refused. */
 uint32_t ospirnar_listing(const uint8_t *input, size_t input_len, uint8_t *output, size_t output_len, size_t *place);
 
-/* The field question: the first header field of the message that travels and whose name is `name`, of the final head in a response. `name` is in lower case; the message's
+/* The field question: the first kept header field of the message whose name is `name`, of the final head in a response. `name` is in lower case; the message's
  * names are compared in lower case, so that a `name` with a capital letter, and an empty one, find nothing.
  *
  * 1: its value is a part of the input, *start and *length say which (a length of 0 is an empty value that was found). 0: there is none, so the caller's default is

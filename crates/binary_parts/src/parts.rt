@@ -26,7 +26,7 @@ fn part_octets(s: &[u8], place: usize, at: usize, n: usize) -> PartRead
 }
 
 // The part at `from`, of any size.
-pub fn part_at(s: &[u8], from: usize) -> PartRead
+pub(crate) fn part_at(s: &[u8], from: usize) -> PartRead
     ensures { λ r. ⌜ Parted (now (s .entry)) (part from (drop from (now (s .entry)))) r ⌝ }
 {
     let v = read_int(s, from);
@@ -40,7 +40,7 @@ pub fn part_at(s: &[u8], from: usize) -> PartRead
 }
 
 // The part at `from`, of at most so many octets.
-pub fn part_within(s: &[u8], from: usize, most: usize) -> PartRead
+pub(crate) fn part_within(s: &[u8], from: usize, most: usize) -> PartRead
     ensures { λ r. ⌜ Parted (now (s .entry)) (partWithin most from (drop from (now (s .entry)))) r ⌝ }
 {
     let v = read_int(s, from);

@@ -79,7 +79,7 @@ fn after_final_status(
 }
 
 // The head from i on, behind `count` informational heads: kept fields are stored behind the `base` fields that stand in `headers`.
-pub fn next_head(
+pub(crate) fn next_head(
     t: &[u8; 256],
     s: &[u8],
     i: usize,
@@ -123,7 +123,7 @@ pub fn next_head(
 
 // The heads of a response from `from` on, up to the final one: kept fields are stored in `headers`, those of informational heads first, and status and
 // number of kept fields of each informational head in `informational`.
-pub fn read_heads(
+pub(crate) fn read_heads(
     t: &[u8; 256],
     s: &[u8],
     from: usize,

@@ -174,7 +174,7 @@ fn after_control(
 }
 
 // The request from `from` on, behind its framing: its outcome, and the ranges of an accepted one in the lent space.
-pub fn request_in(
+pub(crate) fn request_in(
     t: &[u8; 256],
     s: &[u8],
     from: usize,

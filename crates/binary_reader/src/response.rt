@@ -97,7 +97,7 @@ fn after_final(
 }
 
 // The response from `from` on, behind its framing: its outcome, and the ranges of an accepted one in the lent space.
-pub fn response_in(
+pub(crate) fn response_in(
     t: &[u8; 256],
     s: &[u8],
     from: usize,

@@ -100,7 +100,7 @@ fn after_content(
 
 // What stands behind a header section that ends at `from`, to the end of the input: content as the head states it, trailers, padding.
 // `body` says whether the message may have content.
-pub fn after_headers(
+pub(crate) fn after_headers(
     t: &[u8; 256],
     s: &[u8],
     from: usize,

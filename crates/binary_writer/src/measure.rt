@@ -34,7 +34,7 @@ fn entry_size(ranges: &[u32], k: usize) -> usize
 }
 
 // The fields of n entries from the entry k on.
-pub fn fields_size(ranges: &[u32], k: usize, n: usize) -> usize
+pub(crate) fn fields_size(ranges: &[u32], k: usize, n: usize) -> usize
     requires { ⌜ ((k + n) * 4 ≤ length (now ranges)) × (n ≤ linesMost) ⌝ }
     ensures { λ r. ⌜ (r ≡ fieldsSize (now (ranges .entry)) k n) × (r ≤ fieldsMost) ⌝ }
 {
@@ -126,7 +126,7 @@ fn control_size(r: Record, fields: &[u32], heads: &[u32]) -> usize
 }
 
 // A whole message.
-pub fn message_size(r: Record, fields: &[u32], heads: &[u32], trailers: &[u32]) -> usize
+pub(crate) fn message_size(r: Record, fields: &[u32], heads: &[u32], trailers: &[u32]) -> usize
     requires { ⌜ ((s : List ℕ) × (cs : List ℕ) × MessageWithin s r (now fields) (now heads) cs (now trailers)) ⌝ }
     ensures { λ z. ⌜ z ≡ messageSize r (now (fields .entry)) (now (heads .entry)) (now (trailers .entry)) ⌝ }
 {

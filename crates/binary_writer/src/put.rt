@@ -206,7 +206,7 @@ fn put_control_data(out: &mut [u8], s: &[u8], r: Record, fields: &[u32], heads: 
 }
 
 // A whole message, at the front.
-pub fn put_message(
+pub(crate) fn put_message(
     out: &mut [u8],
     s: &[u8],
     r: Record,

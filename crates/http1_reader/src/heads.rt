@@ -11,7 +11,7 @@ ghost use Rattle.octets.specs.Table.{classes};
 ghost use Rattle.http1_reader.specs.Readers.{RequestJudged};
 
 // A request's head that ends at `end`: host, then length.
-pub fn judge_request(t: &[u8; 256], s: &[u8], end: usize, notes: Notes) -> HeadAnswer
+pub(crate) fn judge_request(t: &[u8; 256], s: &[u8], end: usize, notes: Notes) -> HeadAnswer
     requires { ⌜ now t ≡ classes ⌝ }
     ensures { λ r. ⌜ RequestJudged (now (s .entry)) end notes r ⌝ }
 {

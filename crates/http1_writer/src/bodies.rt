@@ -31,7 +31,7 @@ fn put_chunk(out: &mut [u8], at: usize, s: &[u8], chunks: &[u32], n: usize, size
 }
 
 // The body: n chunks of size octets together, and `count` trailer fields.
-pub fn put_body(
+pub(crate) fn put_body(
     out: &mut [u8],
     at: usize,
     s: &[u8],
@@ -67,7 +67,7 @@ fn chunk_size(size: usize) -> usize
 }
 
 // How long the body is.
-pub fn body_size(size: usize, trailers: &[u32], count: usize) -> usize
+pub(crate) fn body_size(size: usize, trailers: &[u32], count: usize) -> usize
     requires { ⌜ (size ≤ contentMost) × (count * 4 ≤ length (now trailers)) × (count ≤ linesMost) ⌝ }
     ensures { λ n. ⌜ (n ≡ bodySize size (now (trailers .entry)) count) × (n ≤ bodyBound) ⌝ }
 {

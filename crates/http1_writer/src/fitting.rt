@@ -12,7 +12,7 @@ ghost use Rattle.octets.specs.Limits.{linesMost};
 ghost use Rattle.http1_writer.specs.Numbered.{headCount, trailersFit, fitsIn, connectedIn};
 
 // Whether the scheme of a request is the connection's.
-pub fn is_connected(told: Told, r: Record) -> bool
+pub(crate) fn is_connected(told: Told, r: Record) -> bool
     ensures { λ b. ⌜ b ≡ connectedIn told r ⌝ }
 {
     if r.response {
@@ -43,7 +43,7 @@ fn trailers_fit(trailers: &[u32], count: usize) -> bool
 }
 
 // Whether heads of so many octets, their lines and the trailers are within the sizes.
-pub fn sizes_fit(head: usize, r: Record, line: LengthLine, trailers: &[u32]) -> bool
+pub(crate) fn sizes_fit(head: usize, r: Record, line: LengthLine, trailers: &[u32]) -> bool
     requires { ⌜ (r .headers ≤ linesMost) × (r .trailers * 4 ≤ length (now trailers)) × (r .trailers ≤ linesMost) ⌝ }
     ensures { λ b. ⌜ b ≡ fitsIn head r line (now (trailers .entry)) ⌝ }
 {

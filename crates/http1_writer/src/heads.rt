@@ -158,7 +158,7 @@ fn lead_size(r: Record, fields: &[u32], heads: &[u32]) -> usize
 }
 
 // All heads of a message, with this length line.
-pub fn put_head(
+pub(crate) fn put_head(
     out: &mut [u8],
     at: usize,
     s: &[u8],
@@ -179,7 +179,7 @@ pub fn put_head(
 }
 
 // How long they are.
-pub fn measure_head(r: Record, line: LengthLine, fields: &[u32], heads: &[u32]) -> usize
+pub(crate) fn measure_head(r: Record, line: LengthLine, fields: &[u32], heads: &[u32]) -> usize
     requires { ⌜ HeadCounted r (now fields) (now heads) ⌝ }
     ensures { λ n. ⌜ (n ≡ headSize r line (now (fields .entry)) (now (heads .entry))) × (n ≤ headBound) ⌝ }
 {

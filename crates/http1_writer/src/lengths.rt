@@ -22,7 +22,7 @@ fn is_unmeasured(r: Record) -> bool
 }
 
 // Which length line a message has.
-pub fn length_line(r: Record) -> LengthLine
+pub(crate) fn length_line(r: Record) -> LengthLine
     ensures { λ l. ⌜ l ≡ lengthLineIn r ⌝ }
 {
     if r.trailers == 0 {
@@ -35,7 +35,7 @@ pub fn length_line(r: Record) -> LengthLine
 }
 
 // How long it is.
-pub fn length_size(line: LengthLine) -> usize
+pub(crate) fn length_size(line: LengthLine) -> usize
     ensures { λ n. ⌜ (n ≡ lengthSize line) × (n ≤ lengthBound) ⌝ }
 {
     match line {
@@ -46,7 +46,7 @@ pub fn length_size(line: LengthLine) -> usize
 }
 
 // The line itself.
-pub fn put_length(out: &mut [u8], at: usize, line: LengthLine) -> usize
+pub(crate) fn put_length(out: &mut [u8], at: usize, line: LengthLine) -> usize
     requires { ⌜ at + lengthSize line ≤ length (now out) ⌝ }
     ensures { λ z. ⌜ Put (now (out .entry)) at (lengthText line) (lengthSize line) (now (out .exit)) z ⌝ }
 {
@@ -62,7 +62,7 @@ pub fn put_length(out: &mut [u8], at: usize, line: LengthLine) -> usize
 }
 
 // How many lines it is.
-pub fn length_lines(line: LengthLine) -> usize
+pub(crate) fn length_lines(line: LengthLine) -> usize
     ensures { λ n. ⌜ (n ≡ lengthCount line) × (n ≤ 1) ⌝ }
 {
     match line {

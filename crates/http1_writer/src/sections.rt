@@ -26,7 +26,14 @@ fn put_line(out: &mut [u8], at: usize, s: &[u8], fields: &[u32], k: usize) -> us
 }
 
 // The lines of n entries from the entry k on, and the empty line.
-pub fn put_section(out: &mut [u8], at: usize, s: &[u8], fields: &[u32], k: usize, n: usize) -> usize
+pub(crate) fn put_section(
+    out: &mut [u8],
+    at: usize,
+    s: &[u8],
+    fields: &[u32],
+    k: usize,
+    n: usize,
+) -> usize
     requires { ⌜ FieldsWithin (length (now s)) (now fields) k n × (at + sectionSize (now fields) k n ≤ length (now out)) ⌝ }
     ensures { λ r. ⌜ Put (now (out .entry)) at
         (sectionText (fieldsNamed (now (s .entry)) (now (fields .entry)) k n)) (sectionSize (now (fields .entry)) k n) (now (out .exit)) r ⌝ }
@@ -41,7 +48,7 @@ pub fn put_section(out: &mut [u8], at: usize, s: &[u8], fields: &[u32], k: usize
 }
 
 // How long they are.
-pub fn section_size(fields: &[u32], k: usize, n: usize) -> usize
+pub(crate) fn section_size(fields: &[u32], k: usize, n: usize) -> usize
     requires { ⌜ ((k + n) * 4 ≤ length (now fields)) × (n ≤ linesMost) ⌝ }
     ensures { λ r. ⌜ (r ≡ sectionSize (now (fields .entry)) k n) × (r ≤ sectionBound) ⌝ }
 {
