@@ -158,8 +158,8 @@ fn field_or<'a>(
     }
 }
 
-// The first kept header value of the name in the first HTTP/1.1 request of s, under the scheme told, as the part of s that it is, or the default; the lent number
-// and place receive the message's refusal, or 0 and 0.
+// The first kept header value of the name in the first HTTP/1.1 request of s, under the scheme told, as the part of s that it is, or the default; the lent
+// number and place receive the message's refusal, or 0 and 0.
 pub fn request_field<'a>(
     s: &'a [u8],
     told: Told,

@@ -1,7 +1,6 @@
 use borrow.Author.Needs.{needs}
 use native.Mathlib.Omega.{arith}
 use mathlib.Core.Path.{_≡_, refl, sym, ap, _∙_}
-use Rattle.messages.specs.Told.{plain as told}
 use Rattle.turning.proofs.Replies.{told-scheme, told-other}
 use Rattle.turning.proofs.from_binary.binary_to_http1.Statement.{statement}
 use Rattle.turning.proofs.from_binary.binary_to_http1.Tie as tie
@@ -33,10 +32,10 @@ same-length : tie.Need-same-length
 same-length c = search needs
 
 returns : tie.Need-returns
-returns c = told-scheme (told (c .before .before .before .before .before .before .before .before .before .before .before .before .before .before .before .before .before .before .args .scheme)) (c .before .before .before .before .before .before .before .before .before .before .before .before .before .before .before .before .before .before .args .input .now) (sym (c .before .before .before .before .before .before .before .before .before .before .before .before .before .before .before .is-scheme .ensures) ∙ c .before .before .before .before .before .before .before .before .before .before .before .before .before .before .if1 .taken) (c .before .before .before .before .before .before .turn-http1 .ensures)
+returns c = told-scheme (c .before .before .before .before .before .before .before .before .before .before .before .before .before .before .before .before .before .before .args .told) (c .before .before .before .before .before .before .before .before .before .before .before .before .before .before .before .before .before .before .args .input .now) (sym (c .before .before .before .before .before .before .before .before .before .before .before .before .before .before .before .is-scheme .ensures) ∙ c .before .before .before .before .before .before .before .before .before .before .before .before .before .before .if1 .taken) (c .before .before .before .before .before .before .turn-http1 .ensures)
 
 returns-2 : tie.Need-returns-2
-returns-2 c = told-other (told (c .before .before .before .before .args .scheme)) (c .before .before .before .before .args .input .now) _ (sym (c .before .is-scheme .ensures) ∙ c .if1 .left)
+returns-2 c = told-other (c .before .before .before .before .args .told) (c .before .before .before .before .args .input .now) _ (sym (c .before .is-scheme .ensures) ∙ c .if1 .left)
 
 pub binary-to-http1-spec : {M : Type 1} → statement M
 binary-to-http1-spec =

@@ -3,7 +3,6 @@ use mathlib.Core.Path.{_≡_, refl, sym, ap, _∙_}
 use lib.ListN.{length}
 use Rattle.ranges.proofs.Outcomes.{given-refusal, given-more, response-outcomed}
 use Rattle.http1_writer.specs.Write.{toHttp1}
-use Rattle.messages.specs.Told.{plain as told}
 use Rattle.turning.specs.Behind.{readToHttp1}
 use Rattle.turning.proofs.Replies.{turned-more, turned-refused, turned, binary-held}
 use Rattle.turning.proofs.from_binary.turn_http1.Statement.{statement}
@@ -31,7 +30,7 @@ same-length-4 c = search needs
 
 returns : tie.Need-returns
 unfolding readToHttp1
-returns c = turned-more _ (toHttp1 (told (c .before .before .before .before .before .before .before .before .before .before .before .before .before .before .before .before .before .before .before .before .before .args .scheme))) _ (given-more (response-outcomed (c .before .before .before .before .before .before .before .before .before .before .binary-in .ensures)) (c .enum-told .given .1))
+returns c = turned-more _ (toHttp1 (c .before .before .before .before .before .before .before .before .before .before .before .before .before .before .before .before .before .before .before .before .before .args .told)) _ (given-more (response-outcomed (c .before .before .before .before .before .before .before .before .before .before .binary-in .ensures)) (c .enum-told .given .1))
 
 enum-known-o : tie.Need-enum-known-o
 enum-known-o c = search needs
@@ -50,7 +49,7 @@ same-length-8 c = search needs
 
 returns-2 : tie.Need-returns-2
 unfolding readToHttp1
-returns-2 c = turned-refused _ (toHttp1 (told (c .before .before .before .before .before .before .before .before .before .before .before .before .before .before .before .before .before .before .before .before .before .before .args .scheme))) _ _ _ (given-refusal (response-outcomed (c .before .before .before .before .before .before .before .before .before .before .before .binary-in .ensures)) _ _ (c .before .o .given .1))
+returns-2 c = turned-refused _ (toHttp1 (c .before .before .before .before .before .before .before .before .before .before .before .before .before .before .before .before .before .before .before .before .before .before .args .told)) _ _ _ (given-refusal (response-outcomed (c .before .before .before .before .before .before .before .before .before .before .before .binary-in .ensures)) _ _ (c .before .o .given .1))
 
 enum-known-o-2 : tie.Need-enum-known-o-2
 enum-known-o-2 c = search needs
@@ -75,7 +74,7 @@ same-length-13 c = search needs
 
 returns-3 : tie.Need-returns-3
 unfolding readToHttp1
-returns-3 c = let h = binary-held (c .before .before .before .before .before .before .before .before .before .before .before .before .before .before .before .before .before .before .before .before .before .before .before .before .before .before .before .before .before .before .args .input .now) (c .before .before .before .before .before .before .before .before .before .before .before .before .before .before .before .before .before .before .before .binary-in .ensures) (c .before .before .before .before .before .before .before .before .before .o2 .given .1) (c .before .before .before .before .before .before .before .before .before .before .before .before .before .before .before .before .before .before .before .before .before .before .before .before .before .before .before .before .before .before .pre .1) (c .before .before .before .before .before .before .before .before .before .before .before .before .before .before .before .before .before .before .before .before .before .before .before .before .before .before .before .before .before .before .pre .2) (c .before .before .before .before .before .before .before .before .before .before .before .before .before .before .before .before .before .before .before .before .before .before .before .before .before .before .before .before .before .before .pre .3) (c .before .before .before .before .before .before .before .before .before .before .before .before .before .before .before .before .before .before .before .before .before .before .before .before .before .before .before .before .before .before .pre .4) in turned _ (toHttp1 (told (c .before .before .before .before .before .before .before .before .before .before .before .before .before .before .before .before .before .before .before .before .before .before .before .before .before .before .before .before .before .before .args .scheme))) (h .0) (h .1) (h .2) (c .before .before .write-message .ensures .by (h .0) (h .1) (h .3))
+returns-3 c = let h = binary-held (c .before .before .before .before .before .before .before .before .before .before .before .before .before .before .before .before .before .before .before .before .before .before .before .before .before .before .before .before .before .before .args .input .now) (c .before .before .before .before .before .before .before .before .before .before .before .before .before .before .before .before .before .before .before .binary-in .ensures) (c .before .before .before .before .before .before .before .before .before .o2 .given .1) (c .before .before .before .before .before .before .before .before .before .before .before .before .before .before .before .before .before .before .before .before .before .before .before .before .before .before .before .before .before .before .pre .1) (c .before .before .before .before .before .before .before .before .before .before .before .before .before .before .before .before .before .before .before .before .before .before .before .before .before .before .before .before .before .before .pre .2) (c .before .before .before .before .before .before .before .before .before .before .before .before .before .before .before .before .before .before .before .before .before .before .before .before .before .before .before .before .before .before .pre .3) (c .before .before .before .before .before .before .before .before .before .before .before .before .before .before .before .before .before .before .before .before .before .before .before .before .before .before .before .before .before .before .pre .4) in turned _ (toHttp1 (c .before .before .before .before .before .before .before .before .before .before .before .before .before .before .before .before .before .before .before .before .before .before .before .before .before .before .before .before .before .before .args .told)) (h .0) (h .1) (h .2) (c .before .before .write-message .ensures .by (h .0) (h .1) (h .3))
 
 pub turn-http1-spec : {M : Type 1} → statement M
 turn-http1-spec =

@@ -1,3 +1,4 @@
+use borrow.Author.Needs.{needs}
 use mathlib.Core.Path.{_≡_, refl, sym, ap, _∙_}
 use lib.ListN.{length}
 use Rattle.ranges.proofs.Outcomes.{given-refusal, given-more, response-outcomed}
@@ -5,97 +6,73 @@ use Rattle.http1_reader.proofs.Values.{response-held}
 use Rattle.binary_writer.specs.Write.{toBinary}
 use Rattle.turn.specs.Turn.{responseToBinary}
 use Rattle.turning.proofs.Replies.{turned-more, turned-refused, turned}
-use borrow.Author.Needs.{needs}
 use Rattle.turning.proofs.to_binary.turn_response.Statement.{statement}
 use Rattle.turning.proofs.to_binary.turn_response.Tie as tie
 use Rattle.turning.proofs.to_binary.turn_response.Reads as reads
 use Rattle.turning.proofs.to_binary.turn_response.Lts as lts
-use Rattle.http1_reader.proofs.response.response_in.Reads as response-in-reads
-use Rattle.binary_writer.proofs.write_message.Reads as write-message-reads
 
--- src/to_binary.rt:76:9
 response-in-requires : tie.Need-response-in-requires
-response-in-requires c κs = search needs
+response-in-requires c κs = c .before .before .before .before .before .before .before .before .before .before .pre
 
--- src/to_binary.rt:80:20
 enum-told : tie.Need-enum-told
 enum-told c = search needs
 
--- src/to_binary.rt:78:26
 same-length : tie.Need-same-length
 same-length c = search needs
 
--- src/to_binary.rt:78:26
 same-length-2 : tie.Need-same-length-2
 same-length-2 c = search needs
 
--- src/to_binary.rt:78:26
 same-length-3 : tie.Need-same-length-3
 same-length-3 c = search needs
 
--- src/to_binary.rt:78:26
 same-length-4 : tie.Need-same-length-4
 same-length-4 c = search needs
 
--- src/to_binary.rt:78:26
 returns : tie.Need-returns
 unfolding responseToBinary
 returns c = turned-more _ toBinary _ (given-more (response-outcomed (c .before .before .before .before .before .before .before .before .before .before .response-in .ensures)) (c .enum-told .given .1))
 
--- src/to_binary.rt:82:28
 enum-known-o : tie.Need-enum-known-o
 enum-known-o c = search needs
 
--- src/to_binary.rt:82:47
 same-length-5 : tie.Need-same-length-5
 same-length-5 c = search needs
 
--- src/to_binary.rt:82:47
 same-length-6 : tie.Need-same-length-6
 same-length-6 c = search needs
 
--- src/to_binary.rt:82:47
 same-length-7 : tie.Need-same-length-7
 same-length-7 c = search needs
 
--- src/to_binary.rt:82:47
 same-length-8 : tie.Need-same-length-8
 same-length-8 c = search needs
 
--- src/to_binary.rt:82:47
 returns-2 : tie.Need-returns-2
 unfolding responseToBinary
 returns-2 c = turned-refused _ toBinary _ _ _ (given-refusal (response-outcomed (c .before .before .before .before .before .before .before .before .before .before .before .response-in .ensures)) _ _ (c .before .o .given .1))
 
--- src/to_binary.rt:83:26
 enum-known-o-2 : tie.Need-enum-known-o-2
 enum-known-o-2 c = search needs
 
--- src/to_binary.rt:83:32
 write-message-requires : tie.Need-write-message-requires
 write-message-requires c κs = let h = response-held (c .before .before .before .before .before .before .before .before .before .before .before .before .before .before .before .before .before .before .before .before .before .before .before .before .before .before .before .args .input .now) (c .before .before .before .before .before .before .before .before .before .before .before .before .before .before .before .before .response-in .ensures) (c .before .before .before .before .before .before .o2 .given .1) (c .before .before .before .before .before .before .before .before .before .before .before .before .before .before .before .before .before .before .before .before .before .before .before .before .before .before .before .pre .1) (c .before .before .before .before .before .before .before .before .before .before .before .before .before .before .before .before .before .before .before .before .before .before .before .before .before .before .before .pre .2) (c .before .before .before .before .before .before .before .before .before .before .before .before .before .before .before .before .before .before .before .before .before .before .before .before .before .before .before .pre .3) (c .before .before .before .before .before .before .before .before .before .before .before .before .before .before .before .before .before .before .before .before .before .before .before .before .before .before .before .pre .4) in (h .0, h .1, h .3)
 
--- src/to_binary.rt:83:32
 same-length-9 : tie.Need-same-length-9
 same-length-9 c = search needs
 
--- src/to_binary.rt:83:32
 same-length-10 : tie.Need-same-length-10
 same-length-10 c = search needs
 
--- src/to_binary.rt:83:32
 same-length-11 : tie.Need-same-length-11
 same-length-11 c = search needs
 
--- src/to_binary.rt:83:32
 same-length-12 : tie.Need-same-length-12
 same-length-12 c = search needs
 
--- src/to_binary.rt:83:32
 same-length-13 : tie.Need-same-length-13
 same-length-13 c = search needs
 
--- src/to_binary.rt:83:32
 returns-3 : tie.Need-returns-3
 unfolding responseToBinary
 returns-3 c = let h = response-held (c .before .before .before .before .before .before .before .before .before .before .before .before .before .before .before .before .before .before .before .before .before .before .before .before .before .before .before .before .before .before .args .input .now) (c .before .before .before .before .before .before .before .before .before .before .before .before .before .before .before .before .before .before .before .response-in .ensures) (c .before .before .before .before .before .before .before .before .before .o2 .given .1) (c .before .before .before .before .before .before .before .before .before .before .before .before .before .before .before .before .before .before .before .before .before .before .before .before .before .before .before .before .before .before .pre .1) (c .before .before .before .before .before .before .before .before .before .before .before .before .before .before .before .before .before .before .before .before .before .before .before .before .before .before .before .before .before .before .pre .2) (c .before .before .before .before .before .before .before .before .before .before .before .before .before .before .before .before .before .before .before .before .before .before .before .before .before .before .before .before .before .before .pre .3) (c .before .before .before .before .before .before .before .before .before .before .before .before .before .before .before .before .before .before .before .before .before .before .before .before .before .before .before .before .before .before .pre .4) in turned _ toBinary (h .0) (h .1) (h .2) (c .before .before .write-message .ensures .by (h .0) (h .1) (h .3))
