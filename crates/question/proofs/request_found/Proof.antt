@@ -1,6 +1,5 @@
 use borrow.Author.Needs.{needs}
 use mathlib.Core.Path.{_≡_, refl, sym, ap, _∙_}
-use Rattle.messages.specs.Told.{plain as told}
 use Rattle.http1_reader.proofs.Values.{request-held}
 use Rattle.turn.specs.Question.{requestQuestion}
 use Rattle.question.proofs.Laws.{outcome-within, asked-is}
@@ -31,11 +30,11 @@ slice-aggregate-asked-from-2 : tie.Need-slice-aggregate-asked-from-2
 slice-aggregate-asked-from-2 c = search needs
 
 asked-from-requires : tie.Need-asked-from-requires
-asked-from-requires c κs = outcome-within (c .before .before .before .before .before .before .before .before .before .before .before .before .before .args .s .now) (λ r e. request-held (told (c .before .before .before .before .before .before .before .before .before .before .before .before .before .args .scheme)) (c .before .before .before .before .before .before .before .before .before .before .before .before .before .args .s .now) _ (c .before .before .before .before .before .request-in .ensures) e (search needs) (search needs) (search needs))
+asked-from-requires c κs = outcome-within (c .before .before .before .before .before .before .before .before .before .before .before .before .before .args .s .now) (λ r e. request-held (c .before .before .before .before .before .before .before .before .before .before .before .before .before .args .told) (c .before .before .before .before .before .before .before .before .before .before .before .before .before .args .s .now) _ (c .before .before .before .before .before .request-in .ensures) e (search needs) (search needs) (search needs))
 
 returns : tie.Need-returns
 unfolding requestQuestion
-returns c = c .asked-from .ensures ∙ asked-is (c .before .before .before .before .before .before .before .before .before .before .before .before .before .before .args .s .now) (λ r e. request-held (told (c .before .before .before .before .before .before .before .before .before .before .before .before .before .before .args .scheme)) (c .before .before .before .before .before .before .before .before .before .before .before .before .before .before .args .s .now) _ (c .before .before .before .before .before .before .request-in .ensures) e (search needs) (search needs) (search needs)) (c .before .before .before .before .before .before .before .before .before .before .before .before .before .before .args .name .now) (c .before .before .before .before .before .before .request-in .ensures)
+returns c = c .asked-from .ensures ∙ asked-is (c .before .before .before .before .before .before .before .before .before .before .before .before .before .before .args .s .now) (λ r e. request-held (c .before .before .before .before .before .before .before .before .before .before .before .before .before .before .args .told) (c .before .before .before .before .before .before .before .before .before .before .before .before .before .before .args .s .now) _ (c .before .before .before .before .before .before .request-in .ensures) e (search needs) (search needs) (search needs)) (c .before .before .before .before .before .before .before .before .before .before .before .before .before .before .args .name .now) (c .before .before .before .before .before .before .request-in .ensures)
 
 pub request-found-spec : {M : Type 1} → statement M
 request-found-spec =

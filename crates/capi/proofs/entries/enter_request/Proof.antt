@@ -2,7 +2,6 @@ use borrow.Author.Needs.{needs}
 use mathlib.Core.Path.{_≡_, refl, sym, ap, _∙_}
 use native.Mathlib.Omega.{arith}
 use lib.ListN.{length}
-use Rattle.messages.specs.Told.{plain as told}
 use Rattle.ranges.proofs.Outcomes.{given-message, given-refusal, given-more}
 use Rattle.capi.proofs.Entering.{entered-refused, entered-more}
 use Rattle.capi.proofs.RequestEntry.{request-small, request-room, request-entered}
@@ -51,7 +50,7 @@ slice-aggregate-give-message : tie.Need-slice-aggregate-give-message
 slice-aggregate-give-message c = search needs
 
 give-message-requires : tie.Need-give-message-requires
-give-message-requires c κs = let g = given-message (c .before .before .before .before .before .before .before .before .before .before .before .before .before .before .before .request-in .ensures) _ (c .before .before .before .before .before .before .before .o2 .given .1) in let z = request-room (told (c .before .before .before .before .before .before .before .before .before .before .before .before .before .before .before .before .before .before .before .before .before .before .before .before .args .scheme)) (c .before .before .before .before .before .before .before .before .before .before .before .before .before .before .before .before .before .before .before .before .before .before .before .before .args .input .now) g (c .before .before .before .before .before .before .before .before .before .before .before .before .before .before .before .before .before .before .before .before .before .before .before .before .pre .1) (c .before .before .before .before .before .before .before .before .before .before .before .before .before .before .before .before .before .before .before .before .before .before .before .before .pre .2) (c .before .before .before .before .before .before .before .before .before .before .before .before .before .before .before .before .before .before .before .before .before .before .before .before .pre .3) in (request-small (told (c .before .before .before .before .before .before .before .before .before .before .before .before .before .before .before .before .before .before .before .before .before .before .before .before .args .scheme)) (c .before .before .before .before .before .before .before .before .before .before .before .before .before .before .before .before .before .before .before .before .before .before .before .before .args .input .now) g, z .0, omega arith, omega (arith, z .1), omega (arith, z .2), omega (arith, z .3))
+give-message-requires c κs = let g = given-message (c .before .before .before .before .before .before .before .before .before .before .before .before .before .before .before .request-in .ensures) _ (c .before .before .before .before .before .before .before .o2 .given .1) in let z = request-room (c .before .before .before .before .before .before .before .before .before .before .before .before .before .before .before .before .before .before .before .before .before .before .before .before .args .told) (c .before .before .before .before .before .before .before .before .before .before .before .before .before .before .before .before .before .before .before .before .before .before .before .before .args .input .now) g (c .before .before .before .before .before .before .before .before .before .before .before .before .before .before .before .before .before .before .before .before .before .before .before .before .pre .1) (c .before .before .before .before .before .before .before .before .before .before .before .before .before .before .before .before .before .before .before .before .before .before .before .before .pre .2) (c .before .before .before .before .before .before .before .before .before .before .before .before .before .before .before .before .before .before .before .before .before .before .before .before .pre .3) in (request-small (c .before .before .before .before .before .before .before .before .before .before .before .before .before .before .before .before .before .before .before .before .before .before .before .before .args .told) (c .before .before .before .before .before .before .before .before .before .before .before .before .before .before .before .before .before .before .before .before .before .before .before .before .args .input .now) g, z .0, omega arith, omega (arith, z .1), omega (arith, z .2), omega (arith, z .3))
 
 same-length-7 : tie.Need-same-length-7
 same-length-7 c = search needs
@@ -66,7 +65,7 @@ same-length-10 : tie.Need-same-length-10
 same-length-10 c = search needs
 
 returns-3 : tie.Need-returns-3
-returns-3 c = let g = given-message (c .before .before .before .before .before .before .before .before .before .before .before .before .before .before .before .before .before .before .request-in .ensures) _ (c .before .before .before .before .before .before .before .before .before .before .o2 .given .1) in request-entered (told (c .before .before .before .before .before .before .before .before .before .before .before .before .before .before .before .before .before .before .before .before .before .before .before .before .before .before .before .args .scheme)) (c .before .before .before .before .before .before .before .before .before .before .before .before .before .before .before .before .before .before .before .before .before .before .before .before .before .before .before .args .input .now) g (c .before .before .before .before .before .before .before .before .before .before .before .before .before .before .before .before .before .before .before .before .before .before .before .before .before .before .before .pre .1) (c .before .before .before .before .before .before .before .before .before .before .before .before .before .before .before .before .before .before .before .before .before .before .before .before .before .before .before .pre .2) (c .before .before .before .before .before .before .before .before .before .before .before .before .before .before .before .before .before .before .before .before .before .before .before .before .before .before .before .pre .3) _ _ _ _ _ (c .before .before .give-message .ensures)
+returns-3 c = let g = given-message (c .before .before .before .before .before .before .before .before .before .before .before .before .before .before .before .before .before .before .request-in .ensures) _ (c .before .before .before .before .before .before .before .before .before .before .o2 .given .1) in request-entered (c .before .before .before .before .before .before .before .before .before .before .before .before .before .before .before .before .before .before .before .before .before .before .before .before .before .before .before .args .told) (c .before .before .before .before .before .before .before .before .before .before .before .before .before .before .before .before .before .before .before .before .before .before .before .before .before .before .before .args .input .now) g (c .before .before .before .before .before .before .before .before .before .before .before .before .before .before .before .before .before .before .before .before .before .before .before .before .before .before .before .pre .1) (c .before .before .before .before .before .before .before .before .before .before .before .before .before .before .before .before .before .before .before .before .before .before .before .before .before .before .before .pre .2) (c .before .before .before .before .before .before .before .before .before .before .before .before .before .before .before .before .before .before .before .before .before .before .before .before .before .before .before .pre .3) _ _ _ _ _ (c .before .before .give-message .ensures)
 
 pub enter-request-spec : {M : Type 1} → statement M
 enter-request-spec =
