@@ -1,9 +1,12 @@
 //! Random messages of both forms: valid, damaged and hostile.
 
+use crate::reference::items::*;
 use crate::Random;
 
 pub struct Maker {
     pub random: Random,
+    /// The items of document 02 that the messages may show something of.
+    pub items: Items,
     /// Most messages valid, for the cases that need accepted ones.
     pub calm: bool,
     /// Short contents and values, many of them looking like the framing of HTTP/1.1: for the lists of `stream`.
@@ -22,8 +25,8 @@ const COMMON_NAMES: [&str; 12] = [
 const DROPPED_NAMES: [&str; 5] = ["connection", "keep-alive", "proxy-connection", "te", "upgrade"];
 
 impl Maker {
-    pub fn new(random: Random) -> Maker {
-        Maker { random, calm: false, small: false, faults: 0, sharp_faults: 0 }
+    pub fn new(random: Random, items: Items) -> Maker {
+        Maker { random, items, calm: false, small: false, faults: 0, sharp_faults: 0 }
     }
 
     fn bad(&mut self) -> bool {

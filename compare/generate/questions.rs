@@ -1,23 +1,12 @@
 //! Random and fixed cases of the field question.
 
+use crate::commands::{field_line, Form};
 use crate::fixed::{request_plan, response_plan, Cases, Plan};
 use crate::messages::Maker;
-use crate::{hex, scheme, Random};
-
-#[derive(Clone, Copy)]
-enum Form {
-    Request(u64),
-    Response,
-    Binary,
-}
+use crate::{scheme, Random};
 
 fn line(form: Form, name: &[u8], default: &[u8], input: &[u8]) -> String {
-    let words = format!("{} {} {}", hex(name), hex(default), hex(input));
-    match form {
-        Form::Request(scheme) => format!("field_h1req {} {}", scheme, words),
-        Form::Response => format!("field_h1resp {}", words),
-        Form::Binary => format!("field_bin {}", words),
-    }
+    field_line(&[], form, name, default, input)
 }
 
 // ---------------------------------------------------------------------------------------- random

@@ -2,6 +2,7 @@
 
 use super::message::*;
 use super::octets::*;
+use super::told::Told;
 
 /// "the top two bits of the first byte give 1, 2, 4 or 8 bytes, the rest is the value, most significant first.
 /// Long forms are taken." The value and the place behind it; None if cut off by the end of `input`.
@@ -209,7 +210,7 @@ fn authority_of(input: &[u8], control: Span, fields: &[Field], after: usize) -> 
     Ok(control)
 }
 
-pub fn read(input: &[u8]) -> Result<Message, Refusal> {
+pub fn read(input: &[u8], told: &Told) -> Result<Message, Refusal> {
     // "input size 8 at 0 first"
     if input.len() > BINARY_MOST {
         return refuse(SIZE, 0);

@@ -2,6 +2,7 @@
 
 use super::message::*;
 use super::octets::*;
+use super::told::Told;
 
 /// A line without its CRLF: input[start..end]; the next one begins at `next`.
 struct Line {
@@ -184,7 +185,7 @@ fn chunk_size(line: &[u8]) -> Option<u128> {
 }
 
 /// The first request of the stream. `scheme` None: another number was told.
-pub fn read_request(input: &[u8], scheme: Option<Scheme>) -> Result<Message, Refusal> {
+pub fn read_request(input: &[u8], scheme: Option<Scheme>, told: &Told) -> Result<Message, Refusal> {
     // "any call told another number is 4 at 0, first"
     let scheme = match scheme {
         Some(scheme) => scheme,
@@ -236,7 +237,7 @@ fn request_line(input: &[u8], line: &Line) -> Result<(Span, Span), Refusal> {
 }
 
 /// The first response of the stream.
-pub fn read_response(input: &[u8]) -> Result<Message, Refusal> {
+pub fn read_response(input: &[u8], told: &Told) -> Result<Message, Refusal> {
     let mut informational: Vec<Informational> = Vec::new();
     let mut at = 0;
     loop {

@@ -3,11 +3,14 @@
 
 use crate::reference::binary::integer;
 use crate::reference::figures::*;
+use crate::reference::items::*;
 
 const A: &str = "POST /s HTTP/1.1\r\nHost: a\r\nContent-Length: 3\r\n\r\nabc";
 const P5: &str = "0004504f535404687474700161022f73000361626300";
-struct Tests {
-    answer: fn(&[u8]) -> String,
+pub struct Tests {
+    answer: fn(Items, &[u8]) -> String,
+    /// The items that have landed for the rows to come.
+    pub items: Items,
     passed: usize,
     failed: usize,
 }
@@ -20,6 +23,9 @@ fn hex(bytes: &[u8]) -> String {
 }
 
 impl Tests {
+    fn answer(&self, line: &str) -> String {
+        (self.answer)(self.items, line.as_bytes())
+    }
     fn check(&mut self, name: &str, got: &str, wanted: &str) {
         if got == wanted {
             self.passed += 1;
@@ -29,7 +35,7 @@ impl Tests {
         }
     }
     fn says(&mut self, name: &str, line: &str, wanted: &str) {
-        let got = (self.answer)(line.as_bytes());
+        let got = self.answer(line);
         self.check(name, &got, wanted);
     }
     fn req(&mut self, name: &str, input: &str, number: u32, place: usize) {
@@ -45,7 +51,7 @@ impl Tests {
     }
     /// A refusal with its place; for number 0, accepted with that length.
     fn outcome(&mut self, name: &str, line: &str, number: u32, place: usize) {
-        let got = (self.answer)(line.as_bytes());
+        let got = self.answer(line);
         if number == 0 {
             let start = format!("{{\"len\":{},\"m\":", place);
             let good = got.starts_with(&start) && got.contains(",\"n\":0,\"r\":");
@@ -57,8 +63,8 @@ impl Tests {
     }
 }
 
-pub fn run(answer: fn(&[u8]) -> String) -> usize {
-    let mut t = Tests { answer, passed: 0, failed: 0 };
+pub fn run(answer: fn(Items, &[u8]) -> String) -> usize {
+    let mut t = Tests { answer, items: Items::none(), passed: 0, failed: 0 };
     examples(&mut t);
     figures(&mut t);
     http1(&mut t);
@@ -158,7 +164,7 @@ fn figures(t: &mut Tests) {
     t.req("Figure 7 without its empty line", FIGURE_7, 1, FIGURE_7.len());
     t.resp("Figure 10", FIGURE_10, 0, FIGURE_10.len());
     t.bin("Figure 11", FIGURE_11, 0, 368);
-    let ten = (t.answer)(format!("h1resp2bin 1000 {}", hex(FIGURE_10.as_bytes())).as_bytes());
+    let ten = t.answer(&format!("h1resp2bin 1000 {}", hex(FIGURE_10.as_bytes())));
     t.check("Figure 10 to Binary", ten.get(..13).unwrap_or(&ten), "{\"n\":0,\"out\":");
     t.says("Figure 11 anew is Figure 10 to Binary", &format!("bin2bin 1000 {}", FIGURE_11), &ten);
     let figure_12 = format!("{}\r\n", FIGURE_12);

@@ -4,6 +4,7 @@ use super::binary;
 use super::http1;
 use super::message::*;
 use super::octets::*;
+use super::told::Told;
 
 /// "shortest integers"
 pub fn push_integer(out: &mut Vec<u8>, value: u64) {
@@ -162,23 +163,23 @@ fn into_room(out: Vec<u8>, room: u128) -> Result<Vec<u8>, Refusal> {
 
 // "Writing: the reader's refusal, 14, 8 at 0, 13."
 
-pub fn http1_request_to_binary(input: &[u8], scheme: Option<Scheme>, room: u128) -> Result<Vec<u8>, Refusal> {
-    let message = http1::read_request(input, scheme)?;
+pub fn http1_request_to_binary(input: &[u8], scheme: Option<Scheme>, room: u128, told: &Told) -> Result<Vec<u8>, Refusal> {
+    let message = http1::read_request(input, scheme, told)?;
     into_room(as_binary(input, &message)?, room)
 }
 
-pub fn http1_response_to_binary(input: &[u8], room: u128) -> Result<Vec<u8>, Refusal> {
-    let message = http1::read_response(input)?;
+pub fn http1_response_to_binary(input: &[u8], room: u128, told: &Told) -> Result<Vec<u8>, Refusal> {
+    let message = http1::read_response(input, told)?;
     into_room(as_binary(input, &message)?, room)
 }
 
-pub fn binary_to_http1(input: &[u8], connection: Option<Scheme>, room: u128) -> Result<Vec<u8>, Refusal> {
+pub fn binary_to_http1(input: &[u8], connection: Option<Scheme>, room: u128, told: &Told) -> Result<Vec<u8>, Refusal> {
     // "any call told another number is 4 at 0, first"
     let connection = match connection {
         Some(scheme) => scheme,
         None => return refuse(UNSUPPORTED, 0),
     };
-    let message = binary::read(input)?;
+    let message = binary::read(input, told)?;
     // "request's scheme is not the connection's": 14 at 0; never for a response (R26).
     if let Control::Request { scheme, .. } = &message.control {
         if *scheme != connection {
@@ -188,13 +189,13 @@ pub fn binary_to_http1(input: &[u8], connection: Option<Scheme>, room: u128) -> 
     into_room(as_http1(input, &message)?, room)
 }
 
-pub fn binary_to_binary(input: &[u8], room: u128) -> Result<Vec<u8>, Refusal> {
-    let message = binary::read(input)?;
+pub fn binary_to_binary(input: &[u8], room: u128, told: &Told) -> Result<Vec<u8>, Refusal> {
+    let message = binary::read(input, told)?;
     into_room(as_binary(input, &message)?, room)
 }
 
 /// The listing program's print for a request stream under http.
-pub fn listing(stream: &[u8]) -> String {
+pub fn listing(stream: &[u8], told: &Told) -> String {
     let mut text = String::from("message start length fields content trailers\n");
     // "Above 65,536 bytes of input it prints the header and `end 65536 8`."
     if stream.len() > LISTING_MOST {
@@ -205,7 +206,7 @@ pub fn listing(stream: &[u8]) -> String {
     let mut count = 0;
     // "`end` gives the stop's place in the stream and the refusal, or 0 when no byte is left."
     while start < stream.len() {
-        match http1::read_request(&stream[start..], Some(Scheme::Http)) {
+        match http1::read_request(&stream[start..], Some(Scheme::Http), told) {
             Ok(message) => {
                 count += 1;
                 text.push_str(&format!(

@@ -1,0 +1,189 @@
+//! The answers, in JSON: compact, keys sorted.
+
+use crate::reference::message::*;
+use crate::reference::octets::*;
+use crate::reference::told::Told;
+use crate::reference::{streams, writing};
+
+fn push_hex(out: &mut String, bytes: &[u8]) {
+    const DIGITS: &[u8; 16] = b"0123456789abcdef";
+    out.reserve(bytes.len() * 2);
+    for &b in bytes {
+        out.push(DIGITS[(b >> 4) as usize] as char);
+        out.push(DIGITS[(b & 15) as usize] as char);
+    }
+}
+
+fn push_hex_member(out: &mut String, key: &str, bytes: &[u8]) {
+    out.push('"');
+    out.push_str(key);
+    out.push_str("\":\"");
+    push_hex(out, bytes);
+    out.push('"');
+}
+
+fn push_list<T>(out: &mut String, items: &[T], mut push: impl FnMut(&mut String, &T)) {
+    out.push('[');
+    for (i, item) in items.iter().enumerate() {
+        if i > 0 {
+            out.push(',');
+        }
+        push(out, item);
+    }
+    out.push(']');
+}
+
+fn push_fields(out: &mut String, input: &[u8], fields: &[Field]) {
+    push_list(out, fields, |out, field| {
+        out.push_str("[\"");
+        push_hex(out, &field.lower);
+        out.push_str("\",\"");
+        push_hex(out, field.value.of(input));
+        out.push_str("\"]");
+    });
+}
+
+fn push_meaning(out: &mut String, input: &[u8], message: &Message) {
+    let content = message.content(input);
+    match &message.control {
+        Control::Request { method, scheme, authority, path } => {
+            out.push('{');
+            push_hex_member(out, "authority", authority.of(input));
+            out.push(',');
+            push_hex_member(out, "content", &content);
+            out.push_str(",\"headers\":");
+            push_fields(out, input, &message.headers);
+            out.push_str(",\"k\":\"req\",");
+            push_hex_member(out, "method", method.of(input));
+            out.push(',');
+            push_hex_member(out, "path", path.of(input));
+            out.push_str(",\"scheme\":\"");
+            out.push_str(scheme.text());
+            out.push_str("\",\"trailers\":");
+            push_fields(out, input, &message.trailers);
+            out.push('}');
+        }
+        Control::Response { informational, status } => {
+            out.push('{');
+            push_hex_member(out, "content", &content);
+            out.push_str(",\"headers\":");
+            push_fields(out, input, &message.headers);
+            out.push_str(",\"info\":");
+            push_list(out, informational, |out, head| {
+                out.push_str(&format!("[{},", head.status));
+                push_fields(out, input, &head.fields);
+                out.push(']');
+            });
+            out.push_str(&format!(",\"k\":\"resp\",\"status\":{},\"trailers\":", status));
+            push_fields(out, input, &message.trailers);
+            out.push('}');
+        }
+    }
+}
+
+fn push_span(out: &mut String, span: &Span) {
+    out.push_str(&format!("[{},{}]", span.start, span.len));
+}
+
+fn push_field_ranges(out: &mut String, fields: &[Field]) {
+    push_list(out, fields, |out, f| {
+        out.push_str(&format!("[{},{},{},{}]", f.name.start, f.name.len, f.value.start, f.value.len));
+    });
+}
+
+fn push_ranges(out: &mut String, message: &Message) {
+    out.push('{');
+    if let Control::Request { authority, .. } = &message.control {
+        out.push_str("\"authority\":");
+        push_span(out, authority);
+        out.push(',');
+    }
+    out.push_str("\"chunks\":");
+    push_list(out, &message.chunks, push_span);
+    out.push_str(",\"headers\":");
+    push_field_ranges(out, &message.headers);
+    match &message.control {
+        Control::Request { method, path, .. } => {
+            out.push_str(",\"method\":");
+            push_span(out, method);
+            out.push_str(",\"path\":");
+            push_span(out, path);
+        }
+        Control::Response { informational, .. } => {
+            out.push_str(",\"info\":");
+            push_list(out, informational, |out, head| push_field_ranges(out, &head.fields));
+        }
+    }
+    out.push_str(",\"trailers\":");
+    push_field_ranges(out, &message.trailers);
+    out.push('}');
+}
+
+fn refused(refusal: Refusal) -> String {
+    format!("{{\"at\":{},\"n\":{}}}", refusal.place, refusal.number)
+}
+
+pub fn read_answer(input: &[u8], outcome: Result<Message, Refusal>) -> String {
+    match outcome {
+        Err(refusal) => refused(refusal),
+        Ok(message) => {
+            let mut out = format!("{{\"len\":{},\"m\":", message.length);
+            push_meaning(&mut out, input, &message);
+            out.push_str(",\"n\":0,\"r\":");
+            push_ranges(&mut out, &message);
+            out.push('}');
+            out
+        }
+    }
+}
+
+pub fn turn_answer(outcome: Result<Vec<u8>, Refusal>) -> String {
+    match outcome {
+        Err(refusal) => refused(refusal),
+        Ok(bytes) => {
+            let mut out = String::from("{\"n\":0,");
+            push_hex_member(&mut out, "out", &bytes);
+            out.push('}');
+            out
+        }
+    }
+}
+
+pub fn field_answer(outcome: Result<Message, Refusal>, name: &[u8], default: &[u8]) -> String {
+    // "A lent number and place ... receive the message's refusal, or 0 and 0; a refused message gives the whole
+    // default."
+    let (number, place, found) = match &outcome {
+        Err(refusal) => (refusal.number, refusal.place, None),
+        Ok(message) => (0, 0, first_header(message, name)),
+    };
+    let (from, start, len) = match found {
+        Some(value) => ("message", value.start, value.len),
+        None => ("default", 0, default.len()),
+    };
+    format!("{{\"at\":{place},\"from\":\"{from}\",\"len\":{len},\"n\":{number},\"start\":{start}}}")
+}
+
+pub fn listing_answer(stream: &[u8], told: &Told) -> String {
+    format!("{{\"text\":\"{}\"}}", writing::listing(stream, told).replace('\n', "\\n"))
+}
+
+pub fn stream_answer(scheme: Option<Scheme>, room: u128, tail: &[u8], inputs: &[Vec<u8>], told: &Told) -> String {
+    let written = streams::write(inputs, scheme, room, told);
+    let stream = [&written.octets[..], tail].concat();
+    let taken = streams::take_off(&stream, scheme, told);
+    let mut out = String::from("{\"calls\":");
+    push_list(&mut out, &written.calls, |out, call| match call {
+        Ok(length) => out.push_str(&format!("{{\"len\":{},\"n\":0}}", length)),
+        Err(refusal) => out.push_str(&refused(*refusal)),
+    });
+    out.push_str(&format!(",\"end\":{},", refused(taken.end)));
+    push_hex_member(&mut out, "out", &written.octets);
+    out.push_str(&format!(",\"rest\":{},\"taken\":", taken.rest));
+    push_list(&mut out, &taken.messages, |out, (start, message)| {
+        out.push_str(&format!("[{},", message.length));
+        push_meaning(out, &stream[*start..], message);
+        out.push(']');
+    });
+    out.push('}');
+    out
+}
