@@ -13,6 +13,8 @@ mod binary;
 mod commands;
 #[path = "generate/fixed.rs"]
 mod fixed;
+#[path = "generate/head.rs"]
+mod head;
 #[path = "generate/messages.rs"]
 mod messages;
 #[path = "generate/questions.rs"]
@@ -127,7 +129,7 @@ fn turn_case(maker: &mut Maker) -> String {
 /// The set of an item: its name, the item, its random cases and its fixed ones.
 type ItemSet = (&'static str, Item, fn(&mut Maker) -> String, fn(&mut Cases));
 
-const ITEM_SETS: [ItemSet; 0] = [];
+const ITEM_SETS: [ItemSet; 1] = [("head", Item::Head, head::case, head::cases)];
 
 fn usage() -> ! {
     let names: String = ITEM_SETS.iter().map(|(name, ..)| format!("|{name}")).collect();

@@ -12,6 +12,8 @@ mod answers;
 mod reference;
 #[path = "reference/selftest.rs"]
 mod selftest;
+#[path = "reference/selftest_messages.rs"]
+mod selftest_messages;
 #[path = "reference/words.rs"]
 mod words;
 
@@ -25,15 +27,15 @@ use words::*;
 /// Each command, the item it comes with (None: the base), and the options it takes.
 const COMMANDS: [(&str, Option<Item>, &[&str]); 12] = [
     ("h1req", None, &[]),
-    ("h1resp", None, &[]),
-    ("bin", None, &[]),
+    ("h1resp", None, &["head"]),
+    ("bin", None, &["head"]),
     ("h1req2bin", None, &[]),
-    ("h1resp2bin", None, &[]),
-    ("bin2h1", None, &[]),
-    ("bin2bin", None, &[]),
+    ("h1resp2bin", None, &["head"]),
+    ("bin2h1", None, &["head"]),
+    ("bin2bin", None, &["head"]),
     ("field_h1req", None, &[]),
-    ("field_h1resp", None, &[]),
-    ("field_bin", None, &[]),
+    ("field_h1resp", None, &["head"]),
+    ("field_bin", None, &["head"]),
     ("listing", None, &[]),
     ("stream", None, &[]),
 ];

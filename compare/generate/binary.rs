@@ -21,10 +21,6 @@ pub fn cases(out: &mut Cases) {
     rooms(out);
 }
 
-fn pair(name: &str, value: &str) -> (Vec<u8>, Vec<u8>) {
-    (name.as_bytes().to_vec(), value.as_bytes().to_vec())
-}
-
 fn encode(plan: &Plan, known: bool) -> Vec<u8> {
     if known {
         plan.known()

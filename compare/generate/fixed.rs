@@ -168,6 +168,10 @@ pub fn field(name: &str, size: usize) -> (Vec<u8>, Vec<u8>) {
     (name.as_bytes().to_vec(), vec![b'v'; size])
 }
 
+pub fn pair(name: &str, value: &str) -> (Vec<u8>, Vec<u8>) {
+    (name.as_bytes().to_vec(), value.as_bytes().to_vec())
+}
+
 impl Plan {
     pub fn known(&self) -> Vec<u8> {
         self.encode(true)
@@ -639,7 +643,6 @@ const RESPONSES: [&str; 10] = [
 ];
 
 fn binary_samples() -> Vec<Vec<u8>> {
-    let pair = |name: &str, value: &str| (name.as_bytes().to_vec(), value.as_bytes().to_vec());
     let request = Plan {
         method: b"POST".to_vec(),
         authority: b"a".to_vec(),

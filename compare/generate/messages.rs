@@ -7,6 +7,8 @@ pub struct Maker {
     pub random: Random,
     /// The items of document 02 that the messages may show something of.
     pub items: Items,
+    /// The response being made answers a HEAD.
+    pub answers_head: bool,
     /// Most messages valid, for the cases that need accepted ones.
     pub calm: bool,
     /// Short contents and values, many of them looking like the framing of HTTP/1.1: for the lists of `stream`.
@@ -26,7 +28,7 @@ const DROPPED_NAMES: [&str; 5] = ["connection", "keep-alive", "proxy-connection"
 
 impl Maker {
     pub fn new(random: Random, items: Items) -> Maker {
-        Maker { random, items, calm: false, small: false, faults: 0, sharp_faults: 0 }
+        Maker { random, items, answers_head: false, calm: false, small: false, faults: 0, sharp_faults: 0 }
     }
 
     fn bad(&mut self) -> bool {
@@ -87,6 +89,9 @@ impl Maker {
                 b"MMMMMMMMMMMMMMMMMMMMMMMMMMMMMMMMM", b"MMMMMMMMMMMMMMMMMMMMMMMMMMMMMMMMM(",
             ];
             return self.random.pick(&bad).to_vec();
+        }
+        if self.items.has(Item::Head) && self.random.chance(5) {
+            return b"HEAD".to_vec();
         }
         match self.random.below(10) {
             0 => self.token(32),
@@ -422,6 +427,40 @@ impl Maker {
         (fields, body)
     }
 
+    /// Whether the length line of this reply would only state a length.
+    fn states_length(&self, status: u64) -> bool {
+        self.items.has(Item::Head) && status != 204 && (status == 304 || self.answers_head)
+    }
+
+    /// A stated length: about 15 digits, at times behind zeros.
+    fn stated_digits(&mut self) -> String {
+        let count = [1, 1, 2, 5, 14, 15, 15][self.random.below(7)] + if self.bad_framing() { 1 } else { 0 };
+        let digits: String = (0..count).map(|i| char::from(b'0' + self.random.below(10) as u8).max(if i == 0 { '1' } else { '0' })).collect();
+        let zeros = if self.random.chance(4) { 1 + self.random.below(20) } else { 0 };
+        format!("{}{}", "0".repeat(zeros), digits)
+    }
+
+    /// The length lines of a reply without content.
+    fn stated_fields(&mut self, may_be_chunked: bool) -> Vec<Pair> {
+        let chunked = (b"transfer-encoding".to_vec(), self.mixed_case(b"chunked"));
+        let mut fields = match self.random.below(6) {
+            0 => Vec::new(),
+            1 if may_be_chunked => vec![chunked.clone()],
+            2 => vec![(b"content-length".to_vec(), b"000".to_vec())],
+            _ => vec![(b"content-length".to_vec(), self.stated_digits().into_bytes())],
+        };
+        if self.bad_framing() {
+            let more: [Pair; 4] = [
+                chunked,
+                (b"content-length".to_vec(), b"5".to_vec()),
+                (b"transfer-encoding".to_vec(), b"gzip".to_vec()),
+                (b"content-length".to_vec(), b"1234567890123456x".to_vec()),
+            ];
+            fields.push(more[self.random.below(4)].clone());
+        }
+        fields
+    }
+
     fn chunk_size(&mut self, size: usize) -> String {
         if self.bad_framing() {
             return match self.random.below(16) {
@@ -591,7 +630,9 @@ impl Maker {
         }
         let mut body = Vec::new();
         let bodiless = status == b"204" || status == b"304";
-        if bodiless == self.bad_framing() {
+        if self.states_length(if status == b"204" { 204 } else if status == b"304" { 304 } else { 200 }) {
+            fields.extend(self.stated_fields(self.answers_head));
+        } else if bodiless == self.bad_framing() {
             let (framing, bytes) = self.framing(false);
             fields.extend(framing);
             body = bytes;
@@ -621,20 +662,14 @@ impl Maker {
         self.choose_faults();
         let mut out = if self.random.chance(80) { self.big_http1(true) } else { self.request() };
         self.behind(&mut out);
-        if out.len() < 5_000 || self.random.chance(4) {
-            self.damage(&mut out);
-        }
-        out
+        self.damaged_at_times(out)
     }
 
     pub fn response_input(&mut self) -> Vec<u8> {
         self.choose_faults();
         let mut out = if self.random.chance(80) { self.big_http1(false) } else { self.response() };
         self.behind(&mut out);
-        if out.len() < 5_000 || self.random.chance(4) {
-            self.damage(&mut out);
-        }
-        out
+        self.damaged_at_times(out)
     }
 
     pub fn stream_input(&mut self) -> Vec<u8> {
@@ -957,7 +992,11 @@ impl Maker {
             }
             let status = self.binary_status(false);
             self.integer(&mut out, status);
-            if (status == 204 || status == 304) && !self.bad_framing() {
+            if self.states_length(status) && !self.bad_framing() {
+                content.clear();
+                trailers.clear();
+                fields.extend(self.stated_fields(true));
+            } else if (status == 204 || status == 304) && !self.bad_framing() {
                 content.clear();
                 if !self.bad_framing() {
                     trailers.retain(|(name, _)| DROPPED_NAMES.iter().any(|d| d.as_bytes() == &name[..]));
@@ -1019,7 +1058,18 @@ impl Maker {
 
     pub fn binary_input(&mut self) -> Vec<u8> {
         self.choose_faults();
-        let mut out = if self.random.chance(60) { self.big_binary() } else { self.binary() };
+        let out = if self.random.chance(60) { self.big_binary() } else { self.binary() };
+        self.damaged_at_times(out)
+    }
+
+    /// A message of this framing, damaged at times.
+    pub fn binary_input_of(&mut self, framing: u64) -> Vec<u8> {
+        self.choose_faults();
+        let out = self.binary_of(framing, None);
+        self.damaged_at_times(out)
+    }
+
+    fn damaged_at_times(&mut self, mut out: Vec<u8>) -> Vec<u8> {
         if out.len() < 5_000 || self.random.chance(4) {
             self.damage(&mut out);
         }

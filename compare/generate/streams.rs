@@ -140,10 +140,6 @@ pub fn case(maker: &mut Maker) -> String {
 
 // ---------------------------------------------------------------------------------------- fixed cases
 
-fn pair(name: &str, value: &str) -> (Vec<u8>, Vec<u8>) {
-    (name.as_bytes().to_vec(), value.as_bytes().to_vec())
-}
-
 fn post(content: &str) -> Plan {
     Plan { method: b"POST".to_vec(), path: b"/s".to_vec(), chunks: vec![content.as_bytes().to_vec()], ..request_plan() }
 }

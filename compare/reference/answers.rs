@@ -74,7 +74,11 @@ fn push_meaning(out: &mut String, input: &[u8], message: &Message) {
                 push_fields(out, input, &head.fields);
                 out.push(']');
             });
-            out.push_str(&format!(",\"k\":\"resp\",\"status\":{},\"trailers\":", status));
+            out.push_str(",\"k\":\"resp\"");
+            if let Some(number) = message.stated {
+                out.push_str(&format!(",\"stated\":{}", number));
+            }
+            out.push_str(&format!(",\"status\":{},\"trailers\":", status));
             push_fields(out, input, &message.trailers);
             out.push('}');
         }

@@ -173,19 +173,16 @@ fn content(input: &[u8], start: usize, known: bool) -> Result<(Vec<Span>, usize)
 }
 
 /// "content-length stands at most once, one or more digits, ... and not in 204, 304 or informational heads":
-/// 7 after the header section. Gives the number, to be held against the content later.
-fn stated_length(input: &[u8], fields: &[Field], none_may_stand: bool, after: usize) -> Result<Option<u128>, Refusal> {
+/// 7 after the header section. Gives its line.
+fn length_field(input: &[u8], fields: &[Field], none_may_stand: bool, after: usize) -> Result<Option<Field>, Refusal> {
     let lengths = all_named(fields, "content-length");
     if lengths.is_empty() {
         return Ok(None);
     }
-    if lengths.len() > 1 || none_may_stand {
+    if lengths.len() > 1 || none_may_stand || decimal(lengths[0].value.of(input)).is_none() {
         return refuse(LENGTH, after);
     }
-    match decimal(lengths[0].value.of(input)) {
-        Some(number) => Ok(Some(number)),
-        None => refuse(LENGTH, after),
-    }
+    Ok(Some(lengths[0].clone()))
 }
 
 /// The authority: of the control data where it is not empty, else of the one `host` field. 6 after the head.
@@ -229,7 +226,7 @@ pub fn read(input: &[u8], told: &Told) -> Result<Message, Refusal> {
     if request {
         // "each control part judged as in a start line before the next is read"
         let (method, next) = control_string(input, at, Some(METHOD_MOST))?;
-        if let Some(number) = judge_method(method.of(input)) {
+        if let Some(number) = judge_method(method.of(input), told.items) {
             return refuse(number, at);
         }
         at = next;
@@ -272,7 +269,7 @@ pub fn read(input: &[u8], told: &Told) -> Result<Message, Refusal> {
             let (lines, after) = section(input, next, known)?;
             at = after;
             if status < 200 {
-                stated_length(input, &lines, true, after)?;
+                length_field(input, &lines, true, after)?;
                 informational.push(Informational { status, fields: keep_headers(lines, false) });
                 continue;
             }
@@ -282,8 +279,22 @@ pub fn read(input: &[u8], told: &Told) -> Result<Message, Refusal> {
         }
     }
 
-    let bodiless = matches!(control, Control::Response { status: 204 | 304, .. });
-    let stated = stated_length(input, &fields, bodiless, at)?;
+    let (states, bodiless) = match &control {
+        Control::Request { .. } => (false, false),
+        Control::Response { status, .. } => {
+            let states = states_length(*status, told);
+            (states, states || *status == 204 || *status == 304)
+        }
+    };
+    // The number that the content is held against, and item 5's stated length: never both.
+    let (mut length, mut stated) = (None, None);
+    if let Some(field) = length_field(input, &fields, bodiless && !states, at)? {
+        if states {
+            stated = Some(stated_by(input, &field)?);
+        } else {
+            length = decimal(field.value.of(input));
+        }
+    }
 
     // "The message may end after the header section or after the content; missing parts are empty."
     let mut chunks = Vec::new();
@@ -292,7 +303,7 @@ pub fn read(input: &[u8], told: &Told) -> Result<Message, Refusal> {
     }
     let total: usize = chunks.iter().map(|c| c.len).sum();
     // "content-length against content, and 204/304 content, after the content"
-    if stated.is_some_and(|number| number != total as u128) || (bodiless && total > 0) {
+    if length.is_some_and(|number| number != total as u128) || (bodiless && total > 0) {
         return refuse(LENGTH, at);
     }
 
@@ -305,7 +316,7 @@ pub fn read(input: &[u8], told: &Told) -> Result<Message, Refusal> {
         return refuse(LENGTH, at);
     }
     let trailers = keep_trailers(trailers);
-    // "A 204 or 304 has neither content nor kept trailers."
+    // "A 204 or 304 has neither content nor kept trailers."; item 5: "7 where 204's are"
     if bodiless && !trailers.is_empty() {
         return refuse(LENGTH, at);
     }
@@ -321,5 +332,6 @@ pub fn read(input: &[u8], told: &Told) -> Result<Message, Refusal> {
         headers: keep_headers(fields, request),
         chunks,
         trailers,
+        stated,
     })
 }

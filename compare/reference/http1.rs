@@ -82,7 +82,7 @@ fn field_section(input: &[u8], start: usize, allowed: usize) -> Result<(Vec<Fiel
 /// How the content is framed.
 enum Framing {
     Absent,
-    Length { number: u128, line: usize },
+    Length(Field),
     Chunked,
 }
 
@@ -96,7 +96,7 @@ fn framing(input: &[u8], fields: &[Field], after: usize) -> Result<Framing, Refu
     }
     if let Some(field) = lengths.first() {
         return match decimal(field.value.of(input)) {
-            Some(number) => Ok(Framing::Length { number, line: field.line }),
+            Some(_) => Ok(Framing::Length((*field).clone())),
             None => refuse(LENGTH, after),
         };
     }
@@ -117,12 +117,12 @@ fn has_framing(fields: &[Field]) -> bool {
 fn body(input: &[u8], at: usize, framing: Framing) -> Result<(Vec<Span>, Vec<Field>, usize), Refusal> {
     match framing {
         Framing::Absent => Ok((Vec::new(), Vec::new(), at)),
-        Framing::Length { number, line } => {
+        Framing::Length(field) => {
             // "then content size 8 at its line"
-            if number > CONTENT_MOST as u128 {
-                return refuse(SIZE, line);
-            }
-            let size = number as usize;
+            let size = match decimal(field.value.of(input)) {
+                Some(number) if number <= CONTENT_MOST as u128 => number as usize,
+                _ => return refuse(SIZE, field.line),
+            };
             if input.len() - at < size {
                 return refuse(MORE, input.len());
             }
@@ -193,7 +193,7 @@ pub fn read_request(input: &[u8], scheme: Option<Scheme>, told: &Told) -> Result
     };
 
     let line = take_line(input, 0, HEADS_MOST)?;
-    let (method, path) = request_line(input, &line)?;
+    let (method, path) = request_line(input, &line, told)?;
 
     let (fields, after) = field_section(input, line.next, HEADS_MOST)?;
 
@@ -212,11 +212,12 @@ pub fn read_request(input: &[u8], scheme: Option<Scheme>, told: &Told) -> Result
         headers: keep_headers(fields, true),
         chunks,
         trailers,
+        stated: None,
     })
 }
 
 /// "Request line: shape 2 (exactly two spaces), version 3, method 2, 8, 4, path 4, 2, 8." All at the line.
-fn request_line(input: &[u8], line: &Line) -> Result<(Span, Span), Refusal> {
+fn request_line(input: &[u8], line: &Line, told: &Told) -> Result<(Span, Span), Refusal> {
     let spaces: Vec<usize> = (line.start..line.end).filter(|&i| input[i] == SP).collect();
     if spaces.len() != 2 {
         return refuse(SYNTAX, line.start);
@@ -227,7 +228,7 @@ fn request_line(input: &[u8], line: &Line) -> Result<(Span, Span), Refusal> {
     if version.of(input) != b"HTTP/1.1" {
         return refuse(VERSION, line.start);
     }
-    if let Some(number) = judge_method(method.of(input)) {
+    if let Some(number) = judge_method(method.of(input), told.items) {
         return refuse(number, line.start);
     }
     if let Some(number) = judge_path(path.of(input)) {
@@ -259,18 +260,8 @@ pub fn read_response(input: &[u8], told: &Told) -> Result<Message, Refusal> {
             continue;
         }
 
-        // "A final response needs one (H), except 204 and 304; these ... have neither (H)."
-        let framing = if status == 204 || status == 304 {
-            if has_framing(&fields) {
-                return refuse(LENGTH, after);
-            }
-            Framing::Absent
-        } else {
-            match framing(input, &fields, after)? {
-                Framing::Absent => return refuse(LENGTH, after),
-                framing => framing,
-            }
-        };
+        let stated = stated_length(input, &fields, status, after, told)?;
+        let framing = final_framing(input, &fields, status, after, told)?;
         let (chunks, trailers, length) = body(input, after, framing)?;
         return Ok(Message {
             length,
@@ -278,7 +269,41 @@ pub fn read_response(input: &[u8], told: &Told) -> Result<Message, Refusal> {
             headers: keep_headers(fields, false),
             chunks,
             trailers,
+            stated,
         });
+    }
+}
+
+/// Item 5: "A HEAD reply may announce chunked, which is dropped, or have neither line"; "Two length statements still
+/// clash". A 304 that is not told HEAD has no Transfer-Encoding line, as in 01 (S24).
+fn stated_length(input: &[u8], fields: &[Field], status: u64, after: usize, told: &Told) -> Result<Option<u64>, Refusal> {
+    if !states_length(status, told) {
+        return Ok(None);
+    }
+    match framing(input, fields, after)? {
+        Framing::Absent => Ok(None),
+        Framing::Length(field) => Ok(Some(stated_by(input, &field)?)),
+        Framing::Chunked if told.head => Ok(None),
+        Framing::Chunked => refuse(LENGTH, after),
+    }
+}
+
+/// How the content of a final reply is framed.
+fn final_framing(input: &[u8], fields: &[Field], status: u64, after: usize, told: &Told) -> Result<Framing, Refusal> {
+    // "no content or trailers follow"
+    if states_length(status, told) {
+        return Ok(Framing::Absent);
+    }
+    // "A final response needs one (H), except 204 and 304; these ... have neither (H)."
+    if status == 204 || status == 304 {
+        if has_framing(fields) {
+            return refuse(LENGTH, after);
+        }
+        return Ok(Framing::Absent);
+    }
+    match framing(input, fields, after)? {
+        Framing::Absent => refuse(LENGTH, after),
+        framing => Ok(framing),
     }
 }
 

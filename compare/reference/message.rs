@@ -1,5 +1,9 @@
 //! A message as a reader hands it out: its length and ranges into the input; and "Fields that do not travel".
 
+use super::items::*;
+use super::octets::*;
+use super::told::Told;
+
 #[derive(Clone, Copy, PartialEq, Eq, Debug)]
 pub struct Span {
     pub start: usize,
@@ -73,6 +77,23 @@ pub struct Message {
     pub chunks: Vec<Span>,
     /// Kept fields only.
     pub trailers: Vec<Field>,
+    /// Item 5: "A message record gains a stated length, which may be missing."
+    pub stated: Option<u64>,
+}
+
+/// Item 5: "For a HEAD's final reply and for 304, Content-Length fills [the stated length] ... no content or trailers
+/// follow". A 204 has no length line, told HEAD or not (S23).
+pub fn states_length(status: u64, told: &Told) -> bool {
+    told.has(Item::Head) && status >= 200 && status != 204 && (status == 304 || told.head)
+}
+
+/// The stated length of a field that is digits: "more than 15 digits is 8 at its line after the head's 7".
+pub fn stated_by(input: &[u8], field: &Field) -> Result<u64, Refusal> {
+    let digits = field.value.of(input);
+    match decimal(digits) {
+        Some(number) if within_stated_digits(digits) => Ok(number as u64),
+        _ => refuse(SIZE, field.line),
+    }
 }
 
 impl Message {

@@ -1,5 +1,7 @@
 //! What each octet may stand in, the sizes, and the numbers a call answers with.
 
+use super::items::*;
+
 pub const CR: u8 = 0x0d;
 pub const LF: u8 = 0x0a;
 pub const SP: u8 = 0x20;
@@ -17,6 +19,7 @@ pub const CHUNKS_MOST: usize = 256;
 pub const CONTENT_MOST: usize = 32_768;
 pub const BINARY_MOST: usize = 65_535;
 pub const INFORMATIONAL_MOST: usize = 4;
+pub const STATED_DIGITS_MOST: usize = 15;
 pub const LISTING_MOST: usize = 65_536;
 
 // "Numbers a call answers with"
@@ -121,16 +124,22 @@ pub fn hexadecimal(value: &[u8]) -> Option<u128> {
     Some(n)
 }
 
+/// "A stated length has at most 15 digits after leading zeros."
+pub fn within_stated_digits(value: &[u8]) -> bool {
+    value.iter().skip_while(|&&b| b == b'0').count() <= STATED_DIGITS_MOST
+}
+
 /// The method's rule behind its shape: "method 2, 8, 4". Number of the refusal, if any.
 /// (Binary tests the size before it has the bytes; the order 2, 8 then never shows.)
-pub fn judge_method(method: &[u8]) -> Option<u32> {
+pub fn judge_method(method: &[u8], items: Items) -> Option<u32> {
     if !all_of(method, is_token) {
         return Some(SYNTAX);
     }
     if method.len() > METHOD_MOST {
         return Some(SIZE);
     }
-    if method == b"HEAD" || method == b"CONNECT" {
+    // Item 5: "HEAD leaves 4".
+    if method == b"CONNECT" || (method == b"HEAD" && !items.has(Item::Head)) {
         return Some(UNSUPPORTED);
     }
     None

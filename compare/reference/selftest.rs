@@ -1,9 +1,10 @@
 //! `reference --selftest`: 01's examples P1 to P13, the listing's example, the figures of document 001, and the
-//! readings' points with answers worked out by hand from the papers.
+//! readings' points with answers worked out by hand from the papers. The items of 02 have their own files.
 
 use crate::reference::binary::integer;
 use crate::reference::figures::*;
 use crate::reference::items::*;
+use crate::selftest_messages;
 
 const A: &str = "POST /s HTTP/1.1\r\nHost: a\r\nContent-Length: 3\r\n\r\nabc";
 const P5: &str = "0004504f535404687474700161022f73000361626300";
@@ -15,7 +16,7 @@ pub struct Tests {
     failed: usize,
 }
 
-fn hex(bytes: &[u8]) -> String {
+pub fn hex(bytes: &[u8]) -> String {
     if bytes.is_empty() {
         return "-".to_string();
     }
@@ -23,10 +24,10 @@ fn hex(bytes: &[u8]) -> String {
 }
 
 impl Tests {
-    fn answer(&self, line: &str) -> String {
+    pub fn answer(&self, line: &str) -> String {
         (self.answer)(self.items, line.as_bytes())
     }
-    fn check(&mut self, name: &str, got: &str, wanted: &str) {
+    pub fn check(&mut self, name: &str, got: &str, wanted: &str) {
         if got == wanted {
             self.passed += 1;
         } else {
@@ -34,11 +35,11 @@ impl Tests {
             println!("FAILED {}\n  got    {}\n  wanted {}", name, got, wanted);
         }
     }
-    fn says(&mut self, name: &str, line: &str, wanted: &str) {
+    pub fn says(&mut self, name: &str, line: &str, wanted: &str) {
         let got = self.answer(line);
         self.check(name, &got, wanted);
     }
-    fn req(&mut self, name: &str, input: &str, number: u32, place: usize) {
+    pub fn req(&mut self, name: &str, input: &str, number: u32, place: usize) {
         let line = format!("h1req 0 {}", hex(input.as_bytes()));
         self.outcome(name, &line, number, place);
     }
@@ -46,11 +47,11 @@ impl Tests {
         let line = format!("h1resp {}", hex(input.as_bytes()));
         self.outcome(name, &line, number, place);
     }
-    fn bin(&mut self, name: &str, input: &str, number: u32, place: usize) {
+    pub fn bin(&mut self, name: &str, input: &str, number: u32, place: usize) {
         self.outcome(name, &format!("bin {}", input), number, place);
     }
     /// A refusal with its place; for number 0, accepted with that length.
-    fn outcome(&mut self, name: &str, line: &str, number: u32, place: usize) {
+    pub fn outcome(&mut self, name: &str, line: &str, number: u32, place: usize) {
         let got = self.answer(line);
         if number == 0 {
             let start = format!("{{\"len\":{},\"m\":", place);
@@ -72,6 +73,7 @@ pub fn run(answer: fn(Items, &[u8]) -> String) -> usize {
     writing(&mut t);
     streams(&mut t);
     protocol(&mut t);
+    selftest_messages::run(&mut t);
     println!("{} passed, {} failed", t.passed, t.failed);
     t.failed
 }

@@ -6,6 +6,8 @@ use super::items::*;
 pub struct Told {
     /// The items of document 02 that have landed.
     pub items: Items,
+    /// "whether the message answers a HEAD"
+    pub head: bool,
 }
 
 impl Told {
@@ -28,8 +30,9 @@ impl Told {
     }
 
     /// "A yes or no told to any call is a number: 0 is no, any other yes."
-    pub fn tell(&mut self, key: &str, _number: u64) {
+    pub fn tell(&mut self, key: &str, number: u64) {
         match key {
+            "head" => self.head = number != 0,
             _ => {}
         }
     }

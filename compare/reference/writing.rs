@@ -24,8 +24,13 @@ fn push_string(out: &mut Vec<u8>, bytes: &[u8]) {
     out.extend_from_slice(bytes);
 }
 
-fn push_section(out: &mut Vec<u8>, input: &[u8], fields: &[Field]) {
+fn push_section(out: &mut Vec<u8>, input: &[u8], stated: Option<u64>, fields: &[Field]) {
     let mut lines = Vec::new();
+    // Item 5: "both writers put the field back as plain decimal, first in the header"
+    if let Some(number) = stated {
+        push_string(&mut lines, b"content-length");
+        push_string(&mut lines, number.to_string().as_bytes());
+    }
     for field in fields {
         push_string(&mut lines, &field.lower);
         push_string(&mut lines, field.value.of(input));
@@ -48,14 +53,14 @@ pub fn as_binary(input: &[u8], message: &Message) -> Result<Vec<u8>, Refusal> {
             push_integer(&mut out, 1);
             for head in informational {
                 push_integer(&mut out, head.status);
-                push_section(&mut out, input, &head.fields);
+                push_section(&mut out, input, None, &head.fields);
             }
             push_integer(&mut out, *status);
         }
     }
-    push_section(&mut out, input, &message.headers);
+    push_section(&mut out, input, message.stated, &message.headers);
     push_string(&mut out, &message.content(input));
-    push_section(&mut out, input, &message.trailers);
+    push_section(&mut out, input, None, &message.trailers);
     // "8 at 0 (... or Binary above 65,535 bytes)"
     if out.len() > BINARY_MOST {
         return refuse(SIZE, 0);
@@ -73,23 +78,29 @@ fn push_lines(out: &mut Vec<u8>, input: &[u8], fields: &[Field]) {
     }
 }
 
-/// HTTP/1.1 as we write it.
-pub fn as_http1(input: &[u8], message: &Message) -> Result<Vec<u8>, Refusal> {
-    let content = message.content(input);
+/// The line of the head that frames the content, or states its length.
+fn length_line(message: &Message, told: &Told) -> Option<String> {
     // "Kept trailers: `transfer-encoding: chunked` ... Else `content-length` in plain decimal, save in requests with
     // empty content, 204, 304 and informational heads."
+    if !message.trailers.is_empty() {
+        return Some("transfer-encoding: chunked\r\n".to_string());
+    }
+    let length = |number: u64| Some(format!("content-length: {number}\r\n"));
+    let size = message.content_length() as u64;
+    match &message.control {
+        Control::Request { .. } if size == 0 => None,
+        // Item 5: "put the field back ... or no length line if it is missing"
+        Control::Response { status, .. } if states_length(*status, told) => message.stated.and_then(length),
+        Control::Response { status: 204 | 304, .. } => None,
+        _ => length(size),
+    }
+}
+
+/// HTTP/1.1 as we write it.
+pub fn as_http1(input: &[u8], message: &Message, told: &Told) -> Result<Vec<u8>, Refusal> {
+    let content = message.content(input);
+    let length_line = length_line(message, told);
     let chunked = !message.trailers.is_empty();
-    let without_length = match &message.control {
-        Control::Request { .. } => content.is_empty(),
-        Control::Response { status, .. } => *status == 204 || *status == 304,
-    };
-    let length_line = if chunked {
-        Some("transfer-encoding: chunked\r\n".to_string())
-    } else if without_length {
-        None
-    } else {
-        Some(format!("content-length: {}\r\n", content.len()))
-    };
 
     let mut heads = Vec::new();
     let mut too_many = false;
@@ -186,7 +197,7 @@ pub fn binary_to_http1(input: &[u8], connection: Option<Scheme>, room: u128, tol
             return refuse(OTHER_SCHEME, 0);
         }
     }
-    into_room(as_http1(input, &message)?, room)
+    into_room(as_http1(input, &message, told)?, room)
 }
 
 pub fn binary_to_binary(input: &[u8], room: u128, told: &Told) -> Result<Vec<u8>, Refusal> {

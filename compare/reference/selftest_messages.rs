@@ -1,0 +1,127 @@
+//! Selftest rows of the items of document 02 that change how messages are read and written. The answers are worked out by
+//! hand from the papers.
+
+use crate::reference::items::*;
+use crate::selftest::{hex, Tests};
+
+/// The answer of a turning that wrote this text.
+fn wrote(text: &str) -> String {
+    format!("{{\"n\":0,\"out\":\"{}\"}}", hex(text.as_bytes()))
+}
+
+fn wrote_hex(out: &str) -> String {
+    format!("{{\"n\":0,\"out\":\"{out}\"}}")
+}
+
+const BAD: &str = "{\"error\":\"bad command\"}";
+/// `content-length` behind its length: 15 bytes.
+const CL: &str = "0e636f6e74656e742d6c656e677468";
+/// `transfer-encoding` behind its length: 18 bytes.
+const TE: &str = "117472616e736665722d656e636f64696e67";
+
+pub fn run(t: &mut Tests) {
+    head(t);
+}
+
+impl Tests {
+    /// An HTTP/1.1 response, with options.
+    fn reply(&mut self, name: &str, options: &str, input: &str, number: u32, place: usize) {
+        let line = format!("h1resp {options} {}", hex(input.as_bytes()));
+        self.outcome(name, &line, number, place);
+    }
+}
+
+/// Item 5: replies to HEAD and 304.
+fn head(t: &mut Tests) {
+    t.items = Items::none();
+    t.says("head= before its item", "bin head=0 0140c800", BAD);
+    t.bin("304 with a length, before its item", &format!("01413011{CL}0135"), 7, 21);
+
+    t.items = Items::up_to(Item::Head);
+    t.req("HEAD", "HEAD /s HTTP/1.1\r\nHost: a\r\n\r\n", 0, 29);
+    t.req("HEAD with content", "HEAD /s HTTP/1.1\r\nHost: a\r\nContent-Length: 1\r\n\r\nx", 0, 49);
+    t.req("CONNECT", "CONNECT /s HTTP/1.1\r\n", 4, 0);
+    t.bin("HEAD in Binary", "00044845414404687474700161012f00", 0, 16);
+
+    let status = |code: u32, lines: &str| format!("HTTP/1.1 {code} \r\n{lines}\r\n"); // 15 bytes, the lines, 2
+    let length = "content-length: 5\r\n"; // 19
+    let coding = "transfer-encoding: chunked\r\n"; // 28
+    t.says(
+        "a HEAD reply, with bytes behind it",
+        &format!("h1resp head=1 {}", hex(format!("{}abc", status(200, length)).as_bytes())),
+        "{\"len\":36,\"m\":{\"content\":\"\",\"headers\":[],\"info\":[],\"k\":\"resp\",\"stated\":5,\"status\":200,\"trailers\":[]},\
+         \"n\":0,\"r\":{\"chunks\":[],\"headers\":[],\"info\":[],\"trailers\":[]}}",
+    );
+    let both = format!("{length}{coding}");
+    for (name, told, code, lines, number, place) in [
+        ("not told", "head=0", 200, length, 1, 36),
+        ("chunked is dropped", "head=7", 200, coding, 0, 45),
+        ("neither line", "head=4294967295", 200, "", 0, 17),
+        ("neither line, not told", "head=0", 200, "", 7, 17),
+        ("both lines", "head=1", 200, &both, 7, 64),
+        ("two equal lengths", "head=1", 404, &length.repeat(2), 7, 55),
+        ("two codings", "head=1", 404, &coding.repeat(2), 7, 73),
+        ("another coding", "head=1", 200, "transfer-encoding: gzip\r\n", 7, 42),
+        ("204 with a length", "head=1", 204, length, 7, 36),
+        ("204 chunked", "head=1", 204, coding, 7, 45),
+        ("204 with neither", "head=1", 204, "", 0, 17),
+        ("103 with a length", "head=1", 103, length, 7, 36),
+        ("304 with a length", "head=0", 304, length, 0, 36),
+        ("304 chunked (S24)", "head=0", 304, coding, 7, 45),
+        ("304 chunked, told (S24)", "head=1", 304, coding, 0, 45),
+        ("304 with both", "head=1", 304, &both, 7, 64),
+        ("15 digits", "head=1", 200, "content-length: 000999999999999999\r\n", 0, 53),
+        ("16 digits", "head=1", 200, "b: c\r\ncontent-length: 1000000000000000\r\n", 8, 21),
+        ("16 digits in a 304", "head=0", 304, "content-length: 1000000000000000\r\n", 8, 15),
+        ("16 digits, not told", "head=0", 200, "content-length: 1000000000000000\r\n", 8, 15),
+        ("no digits, however long", "head=1", 200, "content-length: 1000000000000000x\r\n", 7, 52),
+        ("16 digits twice", "head=1", 200, &"content-length: 1000000000000000\r\n".repeat(2), 7, 85),
+    ] {
+        t.reply(name, told, &status(code, lines), number, place);
+    }
+    t.reply("the remark is of the final reply", "head=1", &format!("{}{}x", status(103, ""), status(200, length)), 0, 53);
+
+    // Binary: framing and status are 3 bytes, the section's length is at 3, its first line at 4
+    for (name, told, input, number, place) in [
+        ("Binary, stated", "head=1", format!("0140c811{CL}0135"), 0, 21),
+        ("Binary, not told", "head=0", format!("0140c811{CL}0135"), 7, 21),
+        ("Binary, content behind", "head=1", format!("0140c811{CL}01310161"), 7, 23),
+        ("Binary, content without a statement", "head=1", "0140c8000161".to_string(), 7, 6),
+        ("Binary, kept trailer", "head=1", "0140c8000003016100".to_string(), 7, 9),
+        ("Binary, dropped trailer", "head=1", "0140c800000402746500".to_string(), 0, 10),
+        ("Binary, refused trailer", "head=1", "0140c800000604686f737400".to_string(), 7, 12),
+        ("Binary, 16 digits before the content", "head=1", format!("0140c820{CL}10{}0161", "31".repeat(16)), 8, 4),
+        ("Binary, 15 digits behind zeros", "head=1", format!("0140c820{CL}1030{}", "31".repeat(15)), 0, 36),
+        ("Binary, twice", "head=1", format!("0140c822{CL}0135{CL}0135"), 7, 38),
+        ("Binary, no digits", "head=1", format!("0140c811{CL}012b"), 7, 21),
+        ("Binary, a coding is no statement (S25)", "head=1", format!("0140c824{CL}0135{TE}00"), 0, 40),
+        ("Binary, 204", "head=1", format!("0140cc11{CL}0130"), 7, 21),
+        ("Binary, 304", "head=0", format!("01413011{CL}0135"), 0, 21),
+        ("Binary, 304 with content", "head=0", format!("01413011{CL}01310161"), 7, 23),
+        ("Binary, a request is not changed", "head=1", format!("000347455404687474700161012f11{CL}01310161"), 0, 34),
+    ] {
+        t.outcome(name, &format!("bin {told} {input}"), number, place);
+    }
+
+    t.says("written", &format!("bin2h1 head=1 0 99 0140c811{CL}0135"), &wrote("HTTP/1.1 200 \r\ncontent-length: 5\r\n\r\n"));
+    t.says("written, missing", "bin2h1 head=1 0 17 0140c800", &wrote("HTTP/1.1 200 \r\n\r\n"));
+    t.says("written, missing, not told", "bin2h1 0 36 0140c800", &wrote("HTTP/1.1 200 \r\ncontent-length: 0\r\n\r\n"));
+    t.says("written, 204", "bin2h1 head=1 0 17 0140cc00", &wrote("HTTP/1.1 204 \r\n\r\n"));
+    t.says("written, 304", &format!("bin2h1 0 36 01413011{CL}0135"), &wrote("HTTP/1.1 304 \r\ncontent-length: 5\r\n\r\n"));
+    t.says("written, room", &format!("bin2h1 0 35 01413011{CL}0135"), "{\"at\":0,\"n\":13}");
+    // b before the length, whose zeros go: first in the header, plain decimal
+    let written = format!("01413015{CL}013501620163 0000").replace(' ', "");
+    t.says("anew", &format!("bin2bin 99 01413017 01620163 {CL}03303035").replace(" 01620163 ", "01620163"), &wrote_hex(&written));
+    let reply = hex(status(304, "b: c\r\nContent-Length: 005\r\n").as_bytes());
+    t.says("304 to Binary", &format!("h1resp2bin 99 {reply}"), &wrote_hex(&written));
+    let reply = hex(status(200, "transfer-encoding: chunked\r\n").as_bytes());
+    t.says("chunked to Binary", &format!("h1resp2bin head=1 6 {reply}"), &wrote_hex("0140c8000000"));
+    t.says(
+        "no kept field",
+        &format!("field_bin head=1 {} ff 0140c811{CL}0135", &CL[2..]),
+        "{\"at\":0,\"from\":\"default\",\"len\":1,\"n\":0,\"start\":0}",
+    );
+    for line in ["bin heads=1 00", "bin head= 00", "bin head=4294967296 00", "bin head=-1 00", "bin head=1 head=1 00", "bin 00 head=1", "h1req head=1 0 00"] {
+        t.says(line, line, BAD);
+    }
+}
