@@ -9,6 +9,8 @@
 
 #[path = "generate/binary.rs"]
 mod binary;
+#[path = "generate/bundles.rs"]
+mod bundles;
 #[path = "generate/commands.rs"]
 mod commands;
 #[path = "generate/fixed.rs"]
@@ -129,7 +131,10 @@ fn turn_case(maker: &mut Maker) -> String {
 /// The set of an item: its name, the item, its random cases and its fixed ones.
 type ItemSet = (&'static str, Item, fn(&mut Maker) -> String, fn(&mut Cases));
 
-const ITEM_SETS: [ItemSet; 1] = [("head", Item::Head, head::case, head::cases)];
+const ITEM_SETS: [ItemSet; 2] = [
+    ("head", Item::Head, head::case, head::cases),
+    ("bundle", Item::Bundle, bundles::case, bundles::cases),
+];
 
 fn usage() -> ! {
     let names: String = ITEM_SETS.iter().map(|(name, ..)| format!("|{name}")).collect();

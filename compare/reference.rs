@@ -12,6 +12,8 @@ mod answers;
 mod reference;
 #[path = "reference/selftest.rs"]
 mod selftest;
+#[path = "reference/selftest_bundles.rs"]
+mod selftest_bundles;
 #[path = "reference/selftest_messages.rs"]
 mod selftest_messages;
 #[path = "reference/words.rs"]
@@ -20,12 +22,12 @@ mod words;
 use answers::*;
 use reference::items::*;
 use reference::octets::decimal;
-use reference::{binary, http1, writing};
+use reference::{binary, bundle, http1, writing};
 use std::io::{self, BufRead, BufReader, BufWriter, Write};
 use words::*;
 
 /// Each command, the item it comes with (None: the base), and the options it takes.
-const COMMANDS: [(&str, Option<Item>, &[&str]); 12] = [
+const COMMANDS: [(&str, Option<Item>, &[&str]); 15] = [
     ("h1req", None, &[]),
     ("h1resp", None, &["head"]),
     ("bin", None, &["head"]),
@@ -38,6 +40,9 @@ const COMMANDS: [(&str, Option<Item>, &[&str]); 12] = [
     ("field_bin", None, &["head"]),
     ("listing", None, &[]),
     ("stream", None, &[]),
+    ("bundle", Some(Item::Bundle), &[]),
+    ("append", Some(Item::Bundle), &[]),
+    ("flock_list", Some(Item::Bundle), &[]),
 ];
 
 /// The answer to one command line; None if it is no command.
@@ -88,6 +93,14 @@ fn command(items: Items, line: &[u8]) -> Option<String> {
             let (scheme, room, tail) = (scheme_of(scheme)?, decimal(room)?, bytes_of(tail)?);
             let inputs: Vec<Vec<u8>> = inputs.iter().map(|hex| bytes_of(hex)).collect::<Option<_>>()?;
             stream_answer(scheme, room, &tail, &inputs, told)
+        }
+        ("bundle", [hex]) => bundle_answer(bundle::read(&bytes_of(hex)?, items)),
+        ("append", [flock, used, buffer, message]) => {
+            let (flock, used, buffer) = (number_of(flock)?, number_of(used)?, bytes_of(buffer)?);
+            append_answer(&buffer, used, bundle::append(&buffer, used, flock, &bytes_of(message)?, items))
+        }
+        ("flock_list", [flock, room, hex]) => {
+            turn_answer(bundle::list(&bytes_of(hex)?, number_of(flock)?, decimal(room)?, items))
         }
         _ => return None,
     })

@@ -1,5 +1,6 @@
 //! The answers, in JSON: compact, keys sorted.
 
+use crate::reference::bundle::Entry;
 use crate::reference::message::*;
 use crate::reference::octets::*;
 use crate::reference::told::Told;
@@ -189,5 +190,31 @@ pub fn stream_answer(scheme: Option<Scheme>, room: u128, tail: &[u8], inputs: &[
         out.push(']');
     });
     out.push('}');
+    out
+}
+
+pub fn bundle_answer(outcome: Result<Vec<Entry>, Refusal>) -> String {
+    let entries = match outcome {
+        Err(refusal) => return refused(refusal),
+        Ok(entries) => entries,
+    };
+    let mut out = String::from("{\"entries\":");
+    push_list(&mut out, &entries, |out, entry| {
+        let (delivered, message) = (entry.delivered as u32, entry.message);
+        out.push_str(&format!("[{},{},{},{},{}]", entry.flock, delivered, entry.kind, message.start, message.len));
+    });
+    out.push_str(",\"n\":0}");
+    out
+}
+
+pub fn append_answer(buffer: &[u8], used: u64, outcome: Result<Vec<u8>, Refusal>) -> String {
+    let entry = match outcome {
+        Err(refusal) => return refused(refusal),
+        Ok(entry) => entry,
+    };
+    let bundle = [&buffer[..used as usize], &entry].concat();
+    let mut out = String::from("{\"n\":0,");
+    push_hex_member(&mut out, "out", &bundle);
+    out.push_str(&format!(",\"used\":{}}}", bundle.len()));
     out
 }

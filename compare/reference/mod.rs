@@ -8,6 +8,7 @@
 #![allow(dead_code)]
 
 pub mod binary;
+pub mod bundle;
 pub mod figures;
 pub mod http1;
 pub mod items;

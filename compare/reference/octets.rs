@@ -38,6 +38,9 @@ pub const PADDING: u32 = 12;
 pub const ROOM: u32 = 13;
 pub const OTHER_SCHEME: u32 = 14;
 
+// Those of document 02
+pub const ENTRY: u32 = 15;
+
 /// A refusal (or, with number 1, the call for more bytes) and its place.
 #[derive(Clone, Copy, PartialEq, Eq, Debug)]
 pub struct Refusal {

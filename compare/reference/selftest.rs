@@ -4,16 +4,21 @@
 use crate::reference::binary::integer;
 use crate::reference::figures::*;
 use crate::reference::items::*;
-use crate::selftest_messages;
+use crate::{selftest_bundles, selftest_messages};
 
 const A: &str = "POST /s HTTP/1.1\r\nHost: a\r\nContent-Length: 3\r\n\r\nabc";
-const P5: &str = "0004504f535404687474700161022f73000361626300";
+pub const P5: &str = "0004504f535404687474700161022f73000361626300";
 pub struct Tests {
     answer: fn(Items, &[u8]) -> String,
     /// The items that have landed for the rows to come.
     pub items: Items,
     passed: usize,
     failed: usize,
+}
+
+/// The answer of a refusal.
+pub fn refused(number: u32, place: usize) -> String {
+    format!("{{\"at\":{place},\"n\":{number}}}")
 }
 
 pub fn hex(bytes: &[u8]) -> String {
@@ -59,7 +64,7 @@ impl Tests {
             let wanted = format!("{}...", start);
             self.check(name, if good { &wanted } else { &got }, &wanted);
         } else {
-            self.check(name, &got, &format!("{{\"at\":{},\"n\":{}}}", place, number));
+            self.check(name, &got, &refused(number, place));
         }
     }
 }
@@ -74,6 +79,7 @@ pub fn run(answer: fn(Items, &[u8]) -> String) -> usize {
     streams(&mut t);
     protocol(&mut t);
     selftest_messages::run(&mut t);
+    selftest_bundles::run(&mut t);
     println!("{} passed, {} failed", t.passed, t.failed);
     t.failed
 }

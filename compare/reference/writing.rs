@@ -165,7 +165,7 @@ pub fn as_http1(input: &[u8], message: &Message, told: &Told) -> Result<Vec<u8>,
     Ok(out)
 }
 
-fn into_room(out: Vec<u8>, room: u128) -> Result<Vec<u8>, Refusal> {
+pub fn into_room(out: Vec<u8>, room: u128) -> Result<Vec<u8>, Refusal> {
     if out.len() as u128 > room {
         return refuse(ROOM, 0);
     }

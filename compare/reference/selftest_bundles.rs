@@ -1,0 +1,115 @@
+//! Selftest rows of the items of document 02 on bundles. The answers are worked out by hand from the papers.
+
+use crate::reference::figures::*;
+use crate::reference::items::*;
+use crate::selftest::{refused, Tests, P5};
+
+/// A response 204 as it is written, 6 bytes; an entry of it is 10.
+const SMALL: &str = "0140cc000000";
+/// `content-length` behind its length: 15 bytes.
+const CL: &str = "0e636f6e74656e742d6c656e677468";
+
+pub fn run(t: &mut Tests) {
+    bundle(t);
+}
+
+fn entries(list: &str) -> String {
+    format!("{{\"entries\":[{list}],\"n\":0}}")
+}
+
+fn appended(out: &str) -> String {
+    format!("{{\"n\":0,\"out\":\"{out}\",\"used\":{}}}", out.len() / 2)
+}
+
+fn wrote(out: &str) -> String {
+    format!("{{\"n\":0,\"out\":\"{out}\"}}")
+}
+
+/// Item 1: the night's bundle.
+fn bundle(t: &mut Tests) {
+    t.items = Items::up_to(Item::Head);
+    t.says("a bundle, before its item", "bundle -", "{\"error\":\"not built\"}");
+    t.says("an append, before its item", "append", "{\"error\":\"not built\"}");
+
+    t.items = Items::up_to(Item::Bundle);
+    let figure = format!("0a400030{FIGURE_13}"); // 52 bytes, flock 5
+    let post = format!("ff000016{P5}"); // 26 bytes, flock 127, delivered
+    let small = format!("02400006{SMALL}"); // 10 bytes, flock 1
+    t.says("empty bundle", "bundle -", &entries(""));
+    t.says("Figure 13, flock 5", &format!("bundle {figure}"), &entries("[5,0,1,4,48]"));
+    t.says("two entries", &format!("bundle {figure}{post}"), &entries("[5,0,1,4,48],[127,1,0,56,22]"));
+    t.says("no word", "bundle", "{\"error\":\"bad command\"}");
+
+    let many = small.repeat(256);
+    let long_integer = P5.replacen("00", "4000", 1);
+    let dropped = "0140c8050274650161 0000".replace(' ', "");
+    let host = "0003474554046874747000012f0704686f7374016100 00".replace(' ', "");
+    for (name, input, number, place) in [
+        ("cut head", format!("{figure}0a"), 9, 52),
+        ("cut head, 3 bytes", format!("{figure}0a4000"), 9, 52),
+        ("256 entries and 3 bytes", format!("{many}000000"), 9, 2560),
+        ("257th entry, whatever it holds", format!("{many}00000000"), 8, 2560),
+        ("flock 0", format!("00400030{FIGURE_13}"), 15, 0),
+        ("kind 2, too long", "0a810000".to_string(), 15, 0),
+        ("kind 3, cut", "0ac00030".to_string(), 15, 0),
+        ("length 65,536", "0a410000".to_string(), 8, 0),
+        ("length of all bits", format!("{figure}0a7fffff"), 8, 52),
+        ("length 65,535, cut", "0a40ffff".to_string(), 9, 0),
+        ("cut message", format!("{figure}{}", &figure[..102]), 9, 52),
+        ("empty message", format!("{figure}0a000000"), 9, 52),
+        ("the message's own", format!("{figure}0a40000104"), 10, 52),
+        ("the message's own before kind", format!("{figure}0a00000104"), 10, 52),
+        ("the message's own place does not show", format!("{figure}0a000010{}", &P5[..32]), 9, 52),
+        ("another kind", format!("{figure}0a000030{FIGURE_13}"), 15, 52),
+        ("padding", format!("0a400031{FIGURE_13}00"), 15, 0),
+        ("sections missing", format!("0a000011{}", &P5[..34]), 15, 0),
+        ("a long integer", format!("0a000017{long_integer}"), 15, 0),
+        ("indeterminate", "0a4000060340cc000000".to_string(), 15, 0),
+        ("a dropped field", format!("0a40000b{dropped}"), 15, 0),
+        ("host for authority", format!("0a000017{host}"), 15, 0),
+        // item 5 is there: a 304 stands with its length first, in plain decimal (S1); a HEAD reply is not known as one
+        ("304, zeros", format!("0a40001801413012{CL}0230350000"), 15, 0),
+        ("a HEAD reply", format!("0a4000170140c811{CL}01350000"), 7, 0),
+    ] {
+        t.says(name, &format!("bundle {input}"), &refused(number, place));
+    }
+    t.says("304 with its length", &format!("bundle 0a40001701413011{CL}01350000"), &entries("[5,0,1,4,23]"));
+    t.says("256 entries", &format!("flock_list 1 2560 {many}"), &wrote(&many));
+
+    // the appender
+    let free = |bytes: usize| "ff".repeat(bytes);
+    t.says("append", &format!("append 5 0 {} {FIGURE_13}", free(52)), &appended(&figure));
+    t.says("append, more room", &format!("append 5 0 {} {FIGURE_13}", free(60)), &appended(&figure));
+    t.says("append behind", &format!("append 1 52 {figure}{} {SMALL}", free(10)), &appended(&format!("{figure}{small}")));
+    let open = "0340cc000000"; // indeterminate
+    t.says("append anew", &format!("append 1 0 {} {open}", free(10)), &appended(&small));
+    t.says("flock 127", &format!("append 127 0 {} {P5}", free(26)), &appended(&format!("fe000016{P5}")));
+    let above = |value: usize| format!("0340c80162{:08x}{}000000", 0x8000_0000u32 + value as u32, "76".repeat(value));
+    for (name, line, number, place) in [
+        ("room", format!("5 0 {} {FIGURE_13}", free(51)), 13, 0),
+        ("room, none", format!("5 0 - {FIGURE_13}"), 13, 0),
+        ("used past the buffer", format!("0 53 {figure} 04"), 13, 0),
+        ("used at the buffer", format!("5 52 {figure} {SMALL}"), 13, 0),
+        ("the bundle's own", format!("0 53 {figure}{} 04", free(9)), 9, 52),
+        ("256 entries", format!("0 2560 {many} 04"), 8, 0),
+        ("flock 0", format!("0 0 {} 04", free(9)), 15, 0),
+        ("flock 128", format!("128 0 {} 04", free(9)), 15, 0),
+        ("flock 257", format!("257 0 {} 04", free(9)), 15, 0),
+        ("the message's own, at its own place", format!("5 52 {figure} {}", &P5[..32]), 9, 16),
+        ("written above 65,535", format!("5 0 - {}", above(65_521)), 8, 0),
+        ("written 65,535, no room", format!("5 0 - {}", above(65_520)), 13, 0),
+        ("a HEAD reply", format!("5 0 - 0140c811{CL}0135"), 7, 21),
+    ] {
+        t.says(&format!("append: {name}"), &format!("append {line}"), &refused(number, place));
+    }
+
+    // the list
+    let all = format!("{figure}{small}{figure}{post}");
+    t.says("list", &format!("flock_list 5 104 {all}"), &wrote(&figure.repeat(2)));
+    t.says("list, delivered", &format!("flock_list 127 26 {all}"), &wrote(&post));
+    t.says("list of none", &format!("flock_list 2 0 {all}"), &wrote(""));
+    t.says("list, room", &format!("flock_list 5 103 {all}"), &refused(13, 0));
+    t.says("list, flock before room", &format!("flock_list 128 0 {all}"), &refused(15, 0));
+    t.says("list, flock 0", "flock_list 0 0 -", &refused(15, 0));
+    t.says("list, the bundle's own first", &format!("flock_list 0 0 {all}00"), &refused(9, 140));
+}
