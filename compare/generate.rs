@@ -23,6 +23,8 @@ mod messages;
 mod questions;
 #[path = "reference/mod.rs"]
 mod reference;
+#[path = "generate/salvage.rs"]
+mod salvage;
 #[path = "generate/streams.rs"]
 mod streams;
 
@@ -131,9 +133,10 @@ fn turn_case(maker: &mut Maker) -> String {
 /// The set of an item: its name, the item, its random cases and its fixed ones.
 type ItemSet = (&'static str, Item, fn(&mut Maker) -> String, fn(&mut Cases));
 
-const ITEM_SETS: [ItemSet; 2] = [
+const ITEM_SETS: [ItemSet; 3] = [
     ("head", Item::Head, head::case, head::cases),
     ("bundle", Item::Bundle, bundles::case, bundles::cases),
+    ("salvage", Item::Salvage, salvage::case, salvage::cases),
 ];
 
 fn usage() -> ! {

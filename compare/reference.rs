@@ -22,12 +22,12 @@ mod words;
 use answers::*;
 use reference::items::*;
 use reference::octets::decimal;
-use reference::{binary, bundle, http1, writing};
+use reference::{binary, bundle, http1, salvage, writing};
 use std::io::{self, BufRead, BufReader, BufWriter, Write};
 use words::*;
 
 /// Each command, the item it comes with (None: the base), and the options it takes.
-const COMMANDS: [(&str, Option<Item>, &[&str]); 15] = [
+const COMMANDS: [(&str, Option<Item>, &[&str]); 17] = [
     ("h1req", None, &[]),
     ("h1resp", None, &["head"]),
     ("bin", None, &["head"]),
@@ -43,6 +43,8 @@ const COMMANDS: [(&str, Option<Item>, &[&str]); 15] = [
     ("bundle", Some(Item::Bundle), &[]),
     ("append", Some(Item::Bundle), &[]),
     ("flock_list", Some(Item::Bundle), &[]),
+    ("salvage", Some(Item::Salvage), &[]),
+    ("salvage_text", Some(Item::Salvage), &[]),
 ];
 
 /// The answer to one command line; None if it is no command.
@@ -88,7 +90,7 @@ fn command(items: Items, line: &[u8]) -> Option<String> {
         ("field_bin", [name, default, hex]) => {
             field_answer(binary::read(&bytes_of(hex)?, told), &bytes_of(name)?, &bytes_of(default)?)
         }
-        ("listing", [hex]) => listing_answer(&bytes_of(hex)?, told),
+        ("listing", [hex]) => text_answer(&writing::listing(&bytes_of(hex)?, told)),
         ("stream", [scheme, room, tail, inputs @ ..]) => {
             let (scheme, room, tail) = (scheme_of(scheme)?, decimal(room)?, bytes_of(tail)?);
             let inputs: Vec<Vec<u8>> = inputs.iter().map(|hex| bytes_of(hex)).collect::<Option<_>>()?;
@@ -102,6 +104,8 @@ fn command(items: Items, line: &[u8]) -> Option<String> {
         ("flock_list", [flock, room, hex]) => {
             turn_answer(bundle::list(&bytes_of(hex)?, number_of(flock)?, decimal(room)?, items))
         }
+        ("salvage", [room, hex]) => salvage_answer(salvage::salvage(&bytes_of(hex)?, decimal(room)?, items)),
+        ("salvage_text", [hex]) => text_answer(&salvage::text(&bytes_of(hex)?, items)),
         _ => return None,
     })
 }

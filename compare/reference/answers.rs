@@ -3,8 +3,9 @@
 use crate::reference::bundle::Entry;
 use crate::reference::message::*;
 use crate::reference::octets::*;
+use crate::reference::salvage::Salvaged;
+use crate::reference::streams;
 use crate::reference::told::Told;
-use crate::reference::{streams, writing};
 
 fn push_hex(out: &mut String, bytes: &[u8]) {
     const DIGITS: &[u8; 16] = b"0123456789abcdef";
@@ -168,8 +169,9 @@ pub fn field_answer(outcome: Result<Message, Refusal>, name: &[u8], default: &[u
     format!("{{\"at\":{place},\"from\":\"{from}\",\"len\":{len},\"n\":{number},\"start\":{start}}}")
 }
 
-pub fn listing_answer(stream: &[u8], told: &Told) -> String {
-    format!("{{\"text\":\"{}\"}}", writing::listing(stream, told).replace('\n', "\\n"))
+/// What a program prints.
+pub fn text_answer(text: &str) -> String {
+    format!("{{\"text\":\"{}\"}}", text.replace('\n', "\\n"))
 }
 
 pub fn stream_answer(scheme: Option<Scheme>, room: u128, tail: &[u8], inputs: &[Vec<u8>], told: &Told) -> String {
@@ -216,5 +218,16 @@ pub fn append_answer(buffer: &[u8], used: u64, outcome: Result<Vec<u8>, Refusal>
     let mut out = String::from("{\"n\":0,");
     push_hex_member(&mut out, "out", &bundle);
     out.push_str(&format!(",\"used\":{}}}", bundle.len()));
+    out
+}
+
+pub fn salvage_answer(outcome: Result<Salvaged, Refusal>) -> String {
+    let Salvaged { entries, kept, left, stop } = match outcome {
+        Err(refusal) => return refused(refusal),
+        Ok(salvaged) => salvaged,
+    };
+    let mut out = format!("{{\"bytes\":{},\"entries\":{entries},\"left\":{left},\"n\":0,", kept.len());
+    push_hex_member(&mut out, "out", &kept);
+    out.push_str(&format!(",\"stop\":{stop}}}"));
     out
 }

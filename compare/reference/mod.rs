@@ -14,6 +14,7 @@ pub mod http1;
 pub mod items;
 pub mod message;
 pub mod octets;
+pub mod salvage;
 pub mod streams;
 pub mod told;
 pub mod writing;

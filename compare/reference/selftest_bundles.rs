@@ -11,6 +11,7 @@ const CL: &str = "0e636f6e74656e742d6c656e677468";
 
 pub fn run(t: &mut Tests) {
     bundle(t);
+    salvage(t);
 }
 
 fn entries(list: &str) -> String {
@@ -112,4 +113,42 @@ fn bundle(t: &mut Tests) {
     t.says("list, flock before room", &format!("flock_list 128 0 {all}"), &refused(15, 0));
     t.says("list, flock 0", "flock_list 0 0 -", &refused(15, 0));
     t.says("list, the bundle's own first", &format!("flock_list 0 0 {all}00"), &refused(9, 140));
+}
+
+/// Item 12: what came through the radio.
+fn salvage(t: &mut Tests) {
+    t.items = Items::up_to(Item::Bundle);
+    t.says("salvage, before its item", "salvage 0 -", "{\"error\":\"not built\"}");
+    t.says("salvage_text, before its item", "salvage_text -", "{\"error\":\"not built\"}");
+
+    t.items = Items::up_to(Item::Salvage);
+    let kept = |entries: usize, out: &str, left: usize, stop: u32| {
+        let bytes = out.len() / 2;
+        format!("{{\"bytes\":{bytes},\"entries\":{entries},\"left\":{left},\"n\":0,\"out\":\"{out}\",\"stop\":{stop}}}")
+    };
+    let figure = format!("0a400030{FIGURE_13}"); // 52 bytes
+    let post = format!("ff000016{P5}"); // 26 bytes
+    let both = format!("{figure}{post}");
+    let many = format!("02400006{SMALL}").repeat(256);
+    for (name, room, input, wanted) in [
+        ("nothing", 0, "-".to_string(), kept(0, "", 0, 0)),
+        ("whole", 78, both.clone(), kept(2, &both, 0, 0)),
+        ("whole, room", 77, both.clone(), refused(13, 0)),
+        ("cut in the first head", 0, figure[..6].to_string(), kept(0, "", 3, 9)),
+        ("cut in the first message", 0, figure[..102].to_string(), kept(0, "", 51, 9)),
+        ("cut between", 52, figure.clone(), kept(1, &figure, 0, 0)),
+        ("cut in the second", 52, both[..154].to_string(), kept(1, &figure, 25, 9)),
+        ("cut in the second, room by what is kept", 51, both[..154].to_string(), refused(13, 0)),
+        ("a wrong entry", 99, format!("{figure}00400030{FIGURE_13}"), kept(1, &figure, 52, 15)),
+        ("a message's own number", 99, format!("{figure}0a40000104"), kept(1, &figure, 5, 10)),
+        ("257th", 2560, format!("{many}{figure}"), kept(256, &many, 52, 8)),
+        ("257th, cut head", 2560, format!("{many}0a4000"), kept(256, &many, 3, 9)),
+    ] {
+        t.says(name, &format!("salvage {room} {input}"), &wanted);
+    }
+    let text = |line: &str| format!("{{\"text\":\"{line}\\n\"}}");
+    t.says("text", &format!("salvage_text {}", &both[..154]), &text("kept 1 52 left 25 stop 9"));
+    t.says("text of nothing", "salvage_text -", &text("kept 0 0 left 0 stop 0"));
+    t.says("text of 65,536", &format!("salvage_text {}{}", figure, "00".repeat(65_484)), &text("kept 1 52 left 65484 stop 15"));
+    t.says("text of 65,537", &format!("salvage_text {}{}", figure, "00".repeat(65_485)), &text("kept 0 0 left 65536 stop 8"));
 }
