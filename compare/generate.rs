@@ -11,6 +11,8 @@
 mod binary;
 #[path = "generate/bundles.rs"]
 mod bundles;
+#[path = "generate/closed.rs"]
+mod closed;
 #[path = "generate/commands.rs"]
 mod commands;
 #[path = "generate/fixed.rs"]
@@ -133,10 +135,11 @@ fn turn_case(maker: &mut Maker) -> String {
 /// The set of an item: its name, the item, its random cases and its fixed ones.
 type ItemSet = (&'static str, Item, fn(&mut Maker) -> String, fn(&mut Cases));
 
-const ITEM_SETS: [ItemSet; 3] = [
+const ITEM_SETS: [ItemSet; 4] = [
     ("head", Item::Head, head::case, head::cases),
     ("bundle", Item::Bundle, bundles::case, bundles::cases),
     ("salvage", Item::Salvage, salvage::case, salvage::cases),
+    ("closed", Item::Closed, closed::case, closed::cases),
 ];
 
 fn usage() -> ! {

@@ -29,14 +29,14 @@ use words::*;
 /// Each command, the item it comes with (None: the base), and the options it takes.
 const COMMANDS: [(&str, Option<Item>, &[&str]); 17] = [
     ("h1req", None, &[]),
-    ("h1resp", None, &["head"]),
+    ("h1resp", None, &["head", "closed"]),
     ("bin", None, &["head"]),
     ("h1req2bin", None, &[]),
-    ("h1resp2bin", None, &["head"]),
+    ("h1resp2bin", None, &["head", "closed"]),
     ("bin2h1", None, &["head"]),
     ("bin2bin", None, &["head"]),
     ("field_h1req", None, &[]),
-    ("field_h1resp", None, &["head"]),
+    ("field_h1resp", None, &["head", "closed"]),
     ("field_bin", None, &["head"]),
     ("listing", None, &[]),
     ("stream", None, &[]),

@@ -13,7 +13,7 @@ pub type Options<'a> = &'a [(&'static str, u64)];
 /// The options that a command takes.
 fn taken(command: &str) -> &'static [&'static str] {
     match command {
-        "h1resp" | "h1resp2bin" | "field_h1resp" => &["head"],
+        "h1resp" | "h1resp2bin" | "field_h1resp" => &["head", "closed"],
         "bin" | "bin2bin" | "field_bin" => &["head"],
         "bin2h1" => &["head"],
         _ => &[],

@@ -9,6 +9,8 @@ pub struct Maker {
     pub items: Items,
     /// The response being made answers a HEAD.
     pub answers_head: bool,
+    /// The response being made has no length line: its content ends with the input.
+    pub without_length: bool,
     /// Most messages valid, for the cases that need accepted ones.
     pub calm: bool,
     /// Short contents and values, many of them looking like the framing of HTTP/1.1: for the lists of `stream`.
@@ -28,7 +30,7 @@ const DROPPED_NAMES: [&str; 5] = ["connection", "keep-alive", "proxy-connection"
 
 impl Maker {
     pub fn new(random: Random, items: Items) -> Maker {
-        Maker { random, items, answers_head: false, calm: false, small: false, faults: 0, sharp_faults: 0 }
+        Maker { random, items, answers_head: false, without_length: false, calm: false, small: false, faults: 0, sharp_faults: 0 }
     }
 
     fn bad(&mut self) -> bool {
@@ -632,6 +634,8 @@ impl Maker {
         let bodiless = status == b"204" || status == b"304";
         if self.states_length(if status == b"204" { 204 } else if status == b"304" { 304 } else { 200 }) {
             fields.extend(self.stated_fields(self.answers_head));
+        } else if self.without_length && !bodiless {
+            body = self.content();
         } else if bodiless == self.bad_framing() {
             let (framing, bytes) = self.framing(false);
             fields.extend(framing);

@@ -145,8 +145,7 @@ fn section(input: &[u8], at: usize, known: bool) -> Result<(Vec<Field>, usize), 
 fn content(input: &[u8], start: usize, known: bool) -> Result<(Vec<Span>, usize), Refusal> {
     if known {
         let (span, after) = control_string(input, start, Some(CONTENT_MOST))?;
-        let chunks = if span.len == 0 { Vec::new() } else { vec![span] };
-        return Ok((chunks, after));
+        return Ok((one_chunk(span.start, span.len), after));
     }
     let mut chunks: Vec<Span> = Vec::new();
     let mut total: usize = 0;

@@ -1,5 +1,6 @@
 //! The reader of HTTP/1.1 requests and responses: the first message of a stream.
 
+use super::items::Item;
 use super::message::*;
 use super::octets::*;
 use super::told::Told;
@@ -84,6 +85,7 @@ enum Framing {
     Absent,
     Length(Field),
     Chunked,
+    UntilClosed { closed: bool },
 }
 
 /// "At most one Content-Length line, ... At most one Transfer-Encoding line, its value `chunked` in any case of
@@ -126,11 +128,24 @@ fn body(input: &[u8], at: usize, framing: Framing) -> Result<(Vec<Span>, Vec<Fie
             if input.len() - at < size {
                 return refuse(MORE, input.len());
             }
-            let chunks = if size == 0 { Vec::new() } else { vec![Span { start: at, len: size }] };
-            Ok((chunks, Vec::new(), at + size))
+            Ok((one_chunk(at, size), Vec::new(), at + size))
         }
         Framing::Chunked => chunked(input, at),
+        Framing::UntilClosed { closed } => until_closed(input, at, closed),
     }
+}
+
+/// Item 10: "takes all remaining bytes as content ...; the message is as long as the input"; "open it is 1, or 8 once more
+/// than 32,768 content bytes are in; closed with more is 8; both 8s at the content's first byte".
+fn until_closed(input: &[u8], at: usize, closed: bool) -> Result<(Vec<Span>, Vec<Field>, usize), Refusal> {
+    let size = input.len() - at;
+    if size > CONTENT_MOST {
+        return refuse(SIZE, at);
+    }
+    if !closed {
+        return refuse(MORE, input.len());
+    }
+    Ok((one_chunk(at, size), Vec::new(), input.len()))
 }
 
 fn chunked(input: &[u8], start: usize) -> Result<(Vec<Span>, Vec<Field>, usize), Refusal> {
@@ -284,7 +299,7 @@ fn stated_length(input: &[u8], fields: &[Field], status: u64, after: usize, told
         Framing::Absent => Ok(None),
         Framing::Length(field) => Ok(Some(stated_by(input, &field)?)),
         Framing::Chunked if told.head => Ok(None),
-        Framing::Chunked => refuse(LENGTH, after),
+        _ => refuse(LENGTH, after),
     }
 }
 
@@ -302,6 +317,8 @@ fn final_framing(input: &[u8], fields: &[Field], status: u64, after: usize, told
         return Ok(Framing::Absent);
     }
     match framing(input, fields, after)? {
+        // Item 10: "this case leaves 7"
+        Framing::Absent if told.has(Item::Closed) => Ok(Framing::UntilClosed { closed: told.closed }),
         Framing::Absent => refuse(LENGTH, after),
         framing => Ok(framing),
     }

@@ -81,6 +81,14 @@ pub struct Message {
     pub stated: Option<u64>,
 }
 
+/// A content in one piece: one chunk, or none where it is empty.
+pub fn one_chunk(start: usize, len: usize) -> Vec<Span> {
+    if len == 0 {
+        return Vec::new();
+    }
+    vec![Span { start, len }]
+}
+
 /// Item 5: "For a HEAD's final reply and for 304, Content-Length fills [the stated length] ... no content or trailers
 /// follow". A 204 has no length line, told HEAD or not (S23).
 pub fn states_length(status: u64, told: &Told) -> bool {

@@ -2,7 +2,7 @@
 //! hand from the papers.
 
 use crate::reference::items::*;
-use crate::selftest::{hex, Tests};
+use crate::selftest::{hex, refused, Tests};
 
 /// The answer of a turning that wrote this text.
 fn wrote(text: &str) -> String {
@@ -21,6 +21,7 @@ const TE: &str = "117472616e736665722d656e636f64696e67";
 
 pub fn run(t: &mut Tests) {
     head(t);
+    closed(t);
 }
 
 impl Tests {
@@ -124,4 +125,53 @@ fn head(t: &mut Tests) {
     for line in ["bin heads=1 00", "bin head= 00", "bin head=4294967296 00", "bin head=-1 00", "bin head=1 head=1 00", "bin 00 head=1", "h1req head=1 0 00"] {
         t.says(line, line, BAD);
     }
+}
+
+/// Item 10: replies that end when the line closes.
+fn closed(t: &mut Tests) {
+    let reply = "HTTP/1.1 200 \r\nb: c\r\n\r\n"; // 23 bytes
+    t.items = Items::up_to(Item::Salvage);
+    t.says("closed= before its item", "h1resp closed=1 00", BAD);
+    t.reply("no length line, before its item", "head=0", reply, 7, 23);
+
+    t.items = Items::up_to(Item::Closed);
+    let more = format!("{reply}abc\r\n");
+    t.says(
+        "closed",
+        &format!("h1resp closed=1 {}", hex(more.as_bytes())),
+        "{\"len\":28,\"m\":{\"content\":\"6162630d0a\",\"headers\":[[\"62\",\"63\"]],\"info\":[],\"k\":\"resp\",\"status\":200,\
+         \"trailers\":[]},\"n\":0,\"r\":{\"chunks\":[[23,5]],\"headers\":[[15,1,18,1]],\"info\":[],\"trailers\":[]}}",
+    );
+    let full = |size: usize| format!("{reply}{}", "x".repeat(size));
+    let with = |status: u32, lines: &str, behind: &str| format!("HTTP/1.1 {status} \r\n{lines}\r\n{behind}");
+    for (name, options, input, number, place) in [
+        ("open", "closed=0", more.clone(), 1, 28),
+        ("open behind the head", "closed=0", reply.to_string(), 1, 23),
+        ("closed behind the head", "closed=1", reply.to_string(), 0, 23),
+        ("closed behind an informational head", "closed=1", format!("{}{more}", with(103, "", "")), 0, 45),
+        ("open, 32,768", "closed=0", full(32_768), 1, 32_791),
+        ("open, 32,769", "closed=0", full(32_769), 8, 23),
+        ("closed, 32,768", "closed=256", full(32_768), 0, 32_791),
+        ("closed, 32,769", "closed=1", full(32_769), 8, 23),
+        ("closed on nothing", "closed=1", String::new(), 1, 0),
+        ("closed in a head", "closed=1", reply[..22].to_string(), 1, 22),
+        ("closed behind an informational head alone", "closed=1", with(103, "", ""), 1, 17),
+        ("closed in a counted content", "closed=1", with(200, "content-length: 5\r\n", "abcd"), 1, 40),
+        ("closed in chunks", "closed=1", with(200, "transfer-encoding: chunked\r\n", "1\r\na\r\n"), 1, 51),
+        ("another coding", "closed=1", with(200, "transfer-encoding: gzip\r\n", "a"), 7, 42),
+        ("204", "closed=1", with(204, "", "abc"), 0, 17),
+        ("304", "closed=1", with(304, "", "abc"), 0, 17),
+        ("a HEAD reply", "closed=1 head=1", with(200, "", "abc"), 0, 17),
+        ("a HEAD reply, open", "head=1 closed=0", with(200, "", "abc"), 0, 17),
+    ] {
+        t.reply(name, options, &input, number, place);
+    }
+    t.says("to Binary", &format!("h1resp2bin closed=1 16 {}", hex(more.as_bytes())), &wrote_hex("0140c80401620163056162630d0a00"));
+    t.says("to Binary, open", &format!("h1resp2bin 16 {}", hex(more.as_bytes())), &refused(1, 28));
+    t.says(
+        "field question",
+        &format!("field_h1resp closed=1 62 - {}", hex(more.as_bytes())),
+        "{\"at\":0,\"from\":\"message\",\"len\":1,\"n\":0,\"start\":18}",
+    );
+    t.says("bin is not told", "bin closed=1 00", BAD);
 }

@@ -8,6 +8,8 @@ pub struct Told {
     pub items: Items,
     /// "whether the message answers a HEAD"
     pub head: bool,
+    /// "that the connection has closed"
+    pub closed: bool,
 }
 
 impl Told {
@@ -33,6 +35,7 @@ impl Told {
     pub fn tell(&mut self, key: &str, number: u64) {
         match key {
             "head" => self.head = number != 0,
+            "closed" => self.closed = number != 0,
             _ => {}
         }
     }
