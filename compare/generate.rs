@@ -17,6 +17,8 @@ mod closed;
 mod commands;
 #[path = "generate/fixed.rs"]
 mod fixed;
+#[path = "generate/former.rs"]
+mod former;
 #[path = "generate/head.rs"]
 mod head;
 #[path = "generate/messages.rs"]
@@ -135,11 +137,12 @@ fn turn_case(maker: &mut Maker) -> String {
 /// The set of an item: its name, the item, its random cases and its fixed ones.
 type ItemSet = (&'static str, Item, fn(&mut Maker) -> String, fn(&mut Cases));
 
-const ITEM_SETS: [ItemSet; 4] = [
+const ITEM_SETS: [ItemSet; 5] = [
     ("head", Item::Head, head::case, head::cases),
     ("bundle", Item::Bundle, bundles::case, bundles::cases),
     ("salvage", Item::Salvage, salvage::case, salvage::cases),
     ("closed", Item::Closed, closed::case, closed::cases),
+    ("former", Item::Former, former::case, former::cases),
 ];
 
 fn usage() -> ! {

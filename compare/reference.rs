@@ -33,7 +33,7 @@ const COMMANDS: [(&str, Option<Item>, &[&str]); 17] = [
     ("bin", None, &["head"]),
     ("h1req2bin", None, &[]),
     ("h1resp2bin", None, &["head", "closed"]),
-    ("bin2h1", None, &["head"]),
+    ("bin2h1", None, &["head", "former"]),
     ("bin2bin", None, &["head"]),
     ("field_h1req", None, &[]),
     ("field_h1resp", None, &["head", "closed"]),

@@ -15,7 +15,7 @@ fn taken(command: &str) -> &'static [&'static str] {
     match command {
         "h1resp" | "h1resp2bin" | "field_h1resp" => &["head", "closed"],
         "bin" | "bin2bin" | "field_bin" => &["head"],
-        "bin2h1" => &["head"],
+        "bin2h1" => &["head", "former"],
         _ => &[],
     }
 }

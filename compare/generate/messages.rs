@@ -11,6 +11,8 @@ pub struct Maker {
     pub answers_head: bool,
     /// The response being made has no length line: its content ends with the input.
     pub without_length: bool,
+    /// The Binary message being made has no content and no trailers that are kept.
+    pub empty: bool,
     /// Most messages valid, for the cases that need accepted ones.
     pub calm: bool,
     /// Short contents and values, many of them looking like the framing of HTTP/1.1: for the lists of `stream`.
@@ -30,7 +32,7 @@ const DROPPED_NAMES: [&str; 5] = ["connection", "keep-alive", "proxy-connection"
 
 impl Maker {
     pub fn new(random: Random, items: Items) -> Maker {
-        Maker { random, items, answers_head: false, without_length: false, calm: false, small: false, faults: 0, sharp_faults: 0 }
+        Maker { random, items, answers_head: false, without_length: false, empty: false, calm: false, small: false, faults: 0, sharp_faults: 0 }
     }
 
     fn bad(&mut self) -> bool {
@@ -937,6 +939,10 @@ impl Maker {
         let mut fields = Vec::new();
         let mut content = if self.random.chance(3) { Vec::new() } else { self.content() };
         let mut trailers = if self.random.chance(2) { self.other_fields(3) } else { Vec::new() };
+        if self.empty {
+            content.clear();
+            trailers.retain(|(name, _)| DROPPED_NAMES.iter().any(|d| d.as_bytes() == &name[..]));
+        }
         if request {
             let method = self.method();
             self.string(&mut out, &method);

@@ -22,6 +22,7 @@ const TE: &str = "117472616e736665722d656e636f64696e67";
 pub fn run(t: &mut Tests) {
     head(t);
     closed(t);
+    former(t);
 }
 
 impl Tests {
@@ -174,4 +175,39 @@ fn closed(t: &mut Tests) {
         "{\"at\":0,\"from\":\"message\",\"len\":1,\"n\":0,\"start\":18}",
     );
     t.says("bin is not told", "bin closed=1 00", BAD);
+}
+
+/// Item 9: empty posts say so.
+fn former(t: &mut Tests) {
+    let post = "0004504f535404687474700161012f"; // POST http a /, and the header section to come
+    let bare = "POST / HTTP/1.1\r\nhost: a\r\n\r\n"; // 28 bytes
+    let says = "POST / HTTP/1.1\r\nhost: a\r\ncontent-length: 0\r\n\r\n"; // 47
+    t.items = Items::up_to(Item::Closed);
+    t.says("former= before its item", &format!("bin2h1 former=1 0 99 {post}00"), BAD);
+    t.says("an empty post, before its item", &format!("bin2h1 0 28 {post}00"), &wrote(bare));
+
+    t.items = Items::up_to(Item::Former);
+    t.says("an empty post", &format!("bin2h1 0 47 {post}00"), &wrote(says));
+    t.says("an empty post, room", &format!("bin2h1 0 46 {post}00"), &refused(13, 0));
+    t.says("the former rule", &format!("bin2h1 former=1 0 28 {post}00"), &wrote(bare));
+    t.says("the former rule, told 256", &format!("bin2h1 former=256 0 28 {post}00"), &wrote(bare));
+    t.says("told 0", &format!("bin2h1 former=0 0 47 {post}00"), &wrote(says));
+    for (method, text) in [("GET", "03474554"), ("HEAD", "0448454144")] {
+        t.says(method, &format!("bin2h1 0 99 00{text}04687474700161012f00"), &wrote(&format!("{method} / HTTP/1.1\r\nhost: a\r\n\r\n")));
+    }
+    t.says("get", "bin2h1 0 99 000367657404687474700161012f00", &wrote("get / HTTP/1.1\r\nhost: a\r\ncontent-length: 0\r\n\r\n"));
+    // no kept trailers, and kept ones
+    t.says("dropped trailers", &format!("bin2h1 0 47 {post}00000402746500"), &wrote(says));
+    t.says(
+        "kept trailers",
+        &format!("bin2h1 0 99 {post}000003017400"),
+        &wrote("POST / HTTP/1.1\r\nhost: a\r\ntransfer-encoding: chunked\r\n\r\n0\r\nt: \r\n\r\n"),
+    );
+    // the line counts: host, length and 62 fields are 64
+    let fields = |count: usize| format!("{:04x}{}", 0x4000 + 3 * count, "016100".repeat(count));
+    t.says("63 fields", &format!("bin2h1 0 999 {post}{}", fields(63)), &refused(8, 0));
+    let lines = "a: \r\n".repeat(63);
+    t.says("63 fields, the former rule", &format!("bin2h1 former=1 0 999 {post}{}", fields(63)), &wrote(&bare.replace("a\r\n", &format!("a\r\n{lines}"))));
+    t.says("a response", "bin2h1 former=1 0 36 0140c800", &wrote("HTTP/1.1 200 \r\ncontent-length: 0\r\n\r\n"));
+    t.says("bin2bin is not told", "bin2bin former=1 99 0140c800", BAD);
 }

@@ -10,6 +10,8 @@ pub struct Told {
     pub head: bool,
     /// "that the connection has closed"
     pub closed: bool,
+    /// "to keep the former rule" on empty content
+    pub former: bool,
 }
 
 impl Told {
@@ -36,6 +38,7 @@ impl Told {
         match key {
             "head" => self.head = number != 0,
             "closed" => self.closed = number != 0,
+            "former" => self.former = number != 0,
             _ => {}
         }
     }

@@ -2,6 +2,7 @@
 
 use super::binary;
 use super::http1;
+use super::items::Item;
 use super::message::*;
 use super::octets::*;
 use super::told::Told;
@@ -79,7 +80,7 @@ fn push_lines(out: &mut Vec<u8>, input: &[u8], fields: &[Field]) {
 }
 
 /// The line of the head that frames the content, or states its length.
-fn length_line(message: &Message, told: &Told) -> Option<String> {
+fn length_line(input: &[u8], message: &Message, told: &Told) -> Option<String> {
     // "Kept trailers: `transfer-encoding: chunked` ... Else `content-length` in plain decimal, save in requests with
     // empty content, 204, 304 and informational heads."
     if !message.trailers.is_empty() {
@@ -88,7 +89,12 @@ fn length_line(message: &Message, told: &Told) -> Option<String> {
     let length = |number: u64| Some(format!("content-length: {number}\r\n"));
     let size = message.content_length() as u64;
     match &message.control {
-        Control::Request { .. } if size == 0 => None,
+        // Item 9: "a request written in HTTP/1.1 with empty content and no trailers carries `content-length: 0` for every
+        // method but GET and HEAD", unless told "to keep the former rule".
+        Control::Request { method, .. } if size == 0 => {
+            let says_so = told.has(Item::Former) && !told.former && !matches!(method.of(input), b"GET" | b"HEAD");
+            if says_so { length(0) } else { None }
+        }
         // Item 5: "put the field back ... or no length line if it is missing"
         Control::Response { status, .. } if states_length(*status, told) => message.stated.and_then(length),
         Control::Response { status: 204 | 304, .. } => None,
@@ -99,7 +105,7 @@ fn length_line(message: &Message, told: &Told) -> Option<String> {
 /// HTTP/1.1 as we write it.
 pub fn as_http1(input: &[u8], message: &Message, told: &Told) -> Result<Vec<u8>, Refusal> {
     let content = message.content(input);
-    let length_line = length_line(message, told);
+    let length_line = length_line(input, message, told);
     let chunked = !message.trailers.is_empty();
 
     let mut heads = Vec::new();
