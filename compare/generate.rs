@@ -15,6 +15,8 @@ mod bundles;
 mod closed;
 #[path = "generate/commands.rs"]
 mod commands;
+#[path = "generate/draft.rs"]
+mod draft;
 #[path = "generate/fixed.rs"]
 mod fixed;
 #[path = "generate/former.rs"]
@@ -137,12 +139,13 @@ fn turn_case(maker: &mut Maker) -> String {
 /// The set of an item: its name, the item, its random cases and its fixed ones.
 type ItemSet = (&'static str, Item, fn(&mut Maker) -> String, fn(&mut Cases));
 
-const ITEM_SETS: [ItemSet; 5] = [
+const ITEM_SETS: [ItemSet; 6] = [
     ("head", Item::Head, head::case, head::cases),
     ("bundle", Item::Bundle, bundles::case, bundles::cases),
     ("salvage", Item::Salvage, salvage::case, salvage::cases),
     ("closed", Item::Closed, closed::case, closed::cases),
     ("former", Item::Former, former::case, former::cases),
+    ("draft", Item::Draft, draft::case, draft::cases),
 ];
 
 fn usage() -> ! {

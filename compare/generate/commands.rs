@@ -14,8 +14,8 @@ pub type Options<'a> = &'a [(&'static str, u64)];
 fn taken(command: &str) -> &'static [&'static str] {
     match command {
         "h1resp" | "h1resp2bin" | "field_h1resp" => &["head", "closed"],
-        "bin" | "bin2bin" | "field_bin" => &["head"],
-        "bin2h1" => &["head", "former"],
+        "bin" | "bin2bin" | "field_bin" => &["head", "edition"],
+        "bin2h1" => &["head", "edition", "former"],
         _ => &[],
     }
 }

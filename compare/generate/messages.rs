@@ -13,6 +13,8 @@ pub struct Maker {
     pub without_length: bool,
     /// The Binary message being made has no content and no trailers that are kept.
     pub empty: bool,
+    /// The Binary message being made is one of the 2021 draft.
+    pub draft: bool,
     /// Most messages valid, for the cases that need accepted ones.
     pub calm: bool,
     /// Short contents and values, many of them looking like the framing of HTTP/1.1: for the lists of `stream`.
@@ -32,7 +34,7 @@ const DROPPED_NAMES: [&str; 5] = ["connection", "keep-alive", "proxy-connection"
 
 impl Maker {
     pub fn new(random: Random, items: Items) -> Maker {
-        Maker { random, items, answers_head: false, without_length: false, empty: false, calm: false, small: false, faults: 0, sharp_faults: 0 }
+        Maker { random, items, answers_head: false, without_length: false, empty: false, draft: false, calm: false, small: false, faults: 0, sharp_faults: 0 }
     }
 
     fn bad(&mut self) -> bool {
@@ -152,6 +154,7 @@ impl Maker {
             return self.random.pick(&bad).to_vec();
         }
         match self.random.below(10) {
+            0 if self.draft => b"v".to_vec(),
             0 => Vec::new(),
             1 => {
                 let size = 1 + self.random.below(30);
@@ -487,7 +490,7 @@ impl Maker {
             };
         }
         let mut text = format!("{:x}", size);
-        if self.random.chance(5) {
+        if self.random.chance(if self.draft { 40 } else { 5 }) {
             let zeros = [1, 3, 15, 16, 19, 39][self.random.below(6)];
             text = format!("{}{}", "0".repeat(zeros), text);
         }
@@ -1021,6 +1024,9 @@ impl Maker {
                 fields.push((b"host".to_vec(), self.value()));
             }
         }
+        if self.draft && self.random.chance(6) {
+            return out;
+        }
         fields.extend(self.other_fields(4));
         self.shuffle(&mut fields);
         self.binary_section(&mut out, &fields, known);
@@ -1039,7 +1045,7 @@ impl Maker {
         }
         self.binary_content(&mut out, &content, known);
         self.binary_section(&mut out, &trailers, known);
-        if self.random.chance(5) {
+        if self.random.chance(if self.draft { 40 } else { 5 }) {
             let zeros = 1 + self.random.below(20);
             out.extend(std::iter::repeat(0).take(zeros));
             if self.bad_framing() {

@@ -1,8 +1,9 @@
 //! Selftest rows of the items of document 02 that change how messages are read and written. The answers are worked out by
 //! hand from the papers.
 
+use crate::reference::figures::*;
 use crate::reference::items::*;
-use crate::selftest::{hex, refused, Tests};
+use crate::selftest::{hex, refused, Tests, P5};
 
 /// The answer of a turning that wrote this text.
 fn wrote(text: &str) -> String {
@@ -23,6 +24,7 @@ pub fn run(t: &mut Tests) {
     head(t);
     closed(t);
     former(t);
+    draft(t);
 }
 
 impl Tests {
@@ -210,4 +212,75 @@ fn former(t: &mut Tests) {
     t.says("63 fields, the former rule", &format!("bin2h1 former=1 0 999 {post}{}", fields(63)), &wrote(&bare.replace("a\r\n", &format!("a\r\n{lines}"))));
     t.says("a response", "bin2h1 former=1 0 36 0140c800", &wrote("HTTP/1.1 200 \r\ncontent-length: 0\r\n\r\n"));
     t.says("bin2bin is not told", "bin2bin former=1 99 0140c800", BAD);
+}
+
+/// Item 7: readers that speak the 2021 draft.
+fn draft(t: &mut Tests) {
+    t.items = Items::up_to(Item::Former);
+    t.says("edition= before its item", "bin edition=0 0140c800", BAD);
+
+    t.items = Items::up_to(Item::Draft);
+    // another number is 17 at 0, before all else
+    t.says("edition 2", "bin edition=2 -", &refused(17, 0));
+    t.says("edition 256, input too large", &format!("bin edition=256 {}", "00".repeat(65_536)), &refused(17, 0));
+    t.says("edition before scheme", "bin2h1 edition=4294967295 7 0 04", &refused(17, 0));
+    t.says("edition in bin2bin", &format!("bin2bin edition=2 0 {P5}"), &refused(17, 0));
+    t.says("edition in the field question", "field_bin edition=2 62 ffff 0140c800", "{\"at\":0,\"from\":\"default\",\"len\":2,\"n\":17,\"start\":0}");
+    t.says("scheme, told the draft", "bin2h1 edition=1 7 0 04", &refused(4, 0));
+
+    // the draft's own figures: 8 and 13 are the RFC's, 9 has no padding
+    t.outcome("Figure 8", &format!("bin edition=1 {FIGURE_8}"), 0, 135);
+    t.outcome("Figure 9 of the draft", &format!("bin edition=1 {}", &FIGURE_9[..268]), 0, 134);
+    t.outcome("Figure 9 of the draft, truncated", &format!("bin edition=1 {}", &FIGURE_9[..264]), 0, 132);
+    t.outcome("Figure 9 of the RFC", &format!("bin edition=1 {FIGURE_9}"), 12, 134);
+    t.outcome("Figure 11", &format!("bin edition=1 {FIGURE_11}"), 0, 368);
+    t.outcome("Figure 13", &format!("bin edition=1 {FIGURE_13}"), 0, 48);
+    t.says("Figure 13 anew", &format!("bin2bin edition=1 48 {FIGURE_13}"), &wrote_hex(FIGURE_13));
+
+    let start = "000347455404687474700161012f"; // GET http a /: 14 bytes
+    let bare = "0003474554046874747000012f"; // no authority: 13 bytes
+    for (name, input, number, place, in_rfc) in [
+        // an empty value is 2 at its line everywhere
+        ("empty value", format!("{start}03016100"), 2, 15, (0, 18)),
+        ("empty value, dropped", format!("{start}0402746500"), 2, 15, (0, 19)),
+        ("empty value, a coding", format!("{start}13{TE}00"), 2, 15, (0, 34)),
+        ("empty host", format!("{bare}0604686f737400"), 2, 14, (6, 20)),
+        ("empty value in an informational head", "01406403016100 40c8".replace(' ', ""), 2, 4, (9, 9)),
+        ("empty value in trailers", "0140c8000003017400".to_string(), 2, 6, (0, 9)),
+        ("empty value, indeterminate", "0340c801610000".to_string(), 2, 3, (0, 7)),
+        ("an empty value waits for its length", format!("{start}020161"), 11, 15, (11, 15)),
+        // no padding
+        ("a zero behind", format!("{P5}00"), 12, 22, (0, 23)),
+        ("another byte behind", format!("{P5}0001"), 12, 22, (12, 23)),
+        ("zeros are content and trailers", format!("{start}000000"), 0, 17, (0, 17)),
+        ("and one more", format!("{start}00000000"), 12, 17, (0, 18)),
+        ("indeterminate, one more", "0340c800000000".to_string(), 12, 6, (0, 7)),
+        // the end before the final header section
+        ("no header", start.to_string(), 0, 14, (9, 14)),
+        ("no header, no authority", bare.to_string(), 6, 13, (9, 13)),
+        ("no header, cut path", start[..26].to_string(), 9, 12, (9, 12)),
+        ("no header, indeterminate", start.replacen("00", "02", 1), 0, 14, (9, 14)),
+        ("no header, response", "0140c8".to_string(), 0, 3, (9, 3)),
+        ("no header, 204", "0340cc".to_string(), 0, 3, (9, 3)),
+        ("1xx without its section", "014064".to_string(), 9, 3, (9, 3)),
+        ("1xx without a final status", "01406400".to_string(), 9, 4, (9, 4)),
+        ("1xx, then no header", "0140640040c8".to_string(), 0, 6, (9, 6)),
+        ("cut header", "0140c804016101".to_string(), 9, 3, (9, 3)),
+        // as it was
+        ("a section of 0", "0140c800".to_string(), 0, 4, (0, 4)),
+        ("a section of 1", "0140c80100".to_string(), 11, 4, (11, 4)),
+        ("a colon name", format!("{start}04013a0161"), 2, 15, (2, 15)),
+        ("framing 4", "04".to_string(), 10, 0, (10, 0)),
+    ] {
+        t.outcome(name, &format!("bin edition=1 {input}"), number, place);
+        t.outcome(name, &format!("bin edition=0 {input}"), in_rfc.0, in_rfc.1);
+        t.outcome(name, &format!("bin {input}"), in_rfc.0, in_rfc.1);
+    }
+    t.says("anew is RFC 9292", &format!("bin2bin edition=1 17 {start}"), &wrote_hex(&format!("{start}000000")));
+    t.says("to HTTP/1.1", "bin2h1 edition=1 0 36 0140c8", &wrote("HTTP/1.1 200 \r\ncontent-length: 0\r\n\r\n"));
+    t.says("to HTTP/1.1, a HEAD reply", "bin2h1 head=1 edition=1 0 17 0140c8", &wrote("HTTP/1.1 200 \r\n\r\n"));
+    t.says("a bundle reads RFC 9292", "append 5 0 ffffffffffffffffffff 0140cc", &refused(9, 3));
+    for line in ["h1req edition=1 0 00", "bundle edition=1 -", "append edition=1 1 0 - 00", "bin edition=4294967296 00"] {
+        t.says(line, line, BAD);
+    }
 }

@@ -2,6 +2,30 @@
 
 use super::items::*;
 
+/// Item 7: "each call on a Binary message is told 0 for RFC 9292 or 1 for the draft".
+#[derive(Clone, Copy, PartialEq, Eq, Debug, Default)]
+pub enum Edition {
+    #[default]
+    Rfc9292,
+    Draft,
+    /// Another number was told.
+    Another,
+}
+
+/// "In the draft a value can't be empty, there is no padding, and a message may also end before the final header section.
+/// ... All else, colon names included, is document 01's."
+impl Edition {
+    pub fn takes_empty_values(self) -> bool {
+        self != Edition::Draft
+    }
+    pub fn takes_padding(self) -> bool {
+        self != Edition::Draft
+    }
+    pub fn may_end_before_header(self) -> bool {
+        self == Edition::Draft
+    }
+}
+
 #[derive(Clone, Copy, Debug, Default)]
 pub struct Told {
     /// The items of document 02 that have landed.
@@ -12,6 +36,7 @@ pub struct Told {
     pub closed: bool,
     /// "to keep the former rule" on empty content
     pub former: bool,
+    pub edition: Edition,
 }
 
 impl Told {
@@ -39,6 +64,13 @@ impl Told {
             "head" => self.head = number != 0,
             "closed" => self.closed = number != 0,
             "former" => self.former = number != 0,
+            "edition" => {
+                self.edition = match number {
+                    0 => Edition::Rfc9292,
+                    1 => Edition::Draft,
+                    _ => Edition::Another,
+                }
+            }
             _ => {}
         }
     }

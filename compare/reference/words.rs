@@ -43,7 +43,8 @@ pub fn number_of(word: &[u8]) -> Option<u64> {
 }
 
 /// Each option, and the item it comes with.
-const OPTIONS: [(&str, Item); 3] = [("head", Item::Head), ("closed", Item::Closed), ("former", Item::Former)];
+const OPTIONS: [(&str, Item); 4] =
+    [("head", Item::Head), ("closed", Item::Closed), ("former", Item::Former), ("edition", Item::Draft)];
 
 /// What the words `key=value` in front of the others tell, and the others. None: an option is unknown, not taken by this
 /// command (`taken` are), not there yet, told twice, or no number.

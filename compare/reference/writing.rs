@@ -191,6 +191,8 @@ pub fn http1_response_to_binary(input: &[u8], room: u128, told: &Told) -> Result
 }
 
 pub fn binary_to_http1(input: &[u8], connection: Option<Scheme>, room: u128, told: &Told) -> Result<Vec<u8>, Refusal> {
+    // Item 7: "before all else, a wrong scheme number's 4 included"
+    binary::judge_edition(told)?;
     // "any call told another number is 4 at 0, first"
     let connection = match connection {
         Some(scheme) => scheme,
