@@ -23,6 +23,8 @@ mod fixed;
 mod former;
 #[path = "generate/head.rs"]
 mod head;
+#[path = "generate/long.rs"]
+mod long;
 #[path = "generate/messages.rs"]
 mod messages;
 #[path = "generate/questions.rs"]
@@ -139,13 +141,14 @@ fn turn_case(maker: &mut Maker) -> String {
 /// The set of an item: its name, the item, its random cases and its fixed ones.
 type ItemSet = (&'static str, Item, fn(&mut Maker) -> String, fn(&mut Cases));
 
-const ITEM_SETS: [ItemSet; 6] = [
+const ITEM_SETS: [ItemSet; 7] = [
     ("head", Item::Head, head::case, head::cases),
     ("bundle", Item::Bundle, bundles::case, bundles::cases),
     ("salvage", Item::Salvage, salvage::case, salvage::cases),
     ("closed", Item::Closed, closed::case, closed::cases),
     ("former", Item::Former, former::case, former::cases),
     ("draft", Item::Draft, draft::case, draft::cases),
+    ("long", Item::Long, long::case, long::cases),
 ];
 
 fn usage() -> ! {

@@ -59,15 +59,15 @@ fn command(items: Items, line: &[u8]) -> Option<String> {
     Some(match (*name, words) {
         ("h1req", [scheme, hex]) => {
             let (scheme, input) = (scheme_of(scheme)?, bytes_of(hex)?);
-            read_answer(&input, http1::read_request(&input, scheme, told))
+            read_answer(&input, http1::read_request(&input, scheme, told), told)
         }
         ("h1resp", [hex]) => {
             let input = bytes_of(hex)?;
-            read_answer(&input, http1::read_response(&input, told))
+            read_answer(&input, http1::read_response(&input, told), told)
         }
         ("bin", [hex]) => {
             let input = bytes_of(hex)?;
-            read_answer(&input, binary::read(&input, told))
+            read_answer(&input, binary::read(&input, told), told)
         }
         ("h1req2bin", [scheme, room, hex]) => {
             turn_answer(writing::http1_request_to_binary(&bytes_of(hex)?, scheme_of(scheme)?, decimal(room)?, told))
@@ -99,7 +99,7 @@ fn command(items: Items, line: &[u8]) -> Option<String> {
         ("bundle", [hex]) => bundle_answer(bundle::read(&bytes_of(hex)?, items)),
         ("append", [flock, used, buffer, message]) => {
             let (flock, used, buffer) = (number_of(flock)?, number_of(used)?, bytes_of(buffer)?);
-            append_answer(&buffer, used, bundle::append(&buffer, used, flock, &bytes_of(message)?, items))
+            append_answer(&buffer, used, bundle::append(&buffer, used, flock, &bytes_of(message)?, items), items)
         }
         ("flock_list", [flock, room, hex]) => {
             turn_answer(bundle::list(&bytes_of(hex)?, number_of(flock)?, decimal(room)?, items))

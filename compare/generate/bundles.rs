@@ -177,8 +177,8 @@ fn append(out: &mut Cases, flock: u64, bundle: &[u8], free: usize, message: &[u8
 
 /// In exactly the room that is needed, one less, and more; none is needed where it is refused.
 fn append_rooms(out: &mut Cases, flock: u64, bundle: &[u8], message: &[u8]) {
-    let entry = bundle::append(&[bundle, &vec![0; 70_000]].concat(), bundle.len() as u64, flock, message, out.items);
-    for free in entry.map_or(vec![0], |entry| vec![entry.len() - 1, entry.len(), entry.len() + 3]) {
+    let appended = bundle::append(&[bundle, &vec![0; 70_000]].concat(), bundle.len() as u64, flock, message, out.items);
+    for free in appended.map_or(vec![0], |appended| [2, 3, 6].map(|free| appended.entry.len() + free - 3).to_vec()) {
         append(out, flock, bundle, free, message);
     }
 }
@@ -271,7 +271,7 @@ fn told_ways() -> Vec<Vec<u8>> {
 }
 
 /// One integer of Figure 13 or P5 in each longer form.
-fn long_ways() -> Vec<Vec<u8>> {
+pub fn long_ways() -> Vec<Vec<u8>> {
     // the places of the integers, and how many octets each has there
     let places: [(&str, &[(usize, usize)]); 2] =
         [(FIGURE_13, &[(0, 1), (1, 2), (3, 1), (4, 1), (34, 1), (35, 1), (43, 1)]), (P5, &[(0, 1), (1, 1), (6, 1), (11, 1), (13, 1), (16, 1), (17, 1), (21, 1)])];

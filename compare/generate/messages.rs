@@ -15,6 +15,8 @@ pub struct Maker {
     pub empty: bool,
     /// The Binary message being made is one of the 2021 draft.
     pub draft: bool,
+    /// The Binary message being made has many long integers.
+    pub long_forms: bool,
     /// Most messages valid, for the cases that need accepted ones.
     pub calm: bool,
     /// Short contents and values, many of them looking like the framing of HTTP/1.1: for the lists of `stream`.
@@ -34,7 +36,7 @@ const DROPPED_NAMES: [&str; 5] = ["connection", "keep-alive", "proxy-connection"
 
 impl Maker {
     pub fn new(random: Random, items: Items) -> Maker {
-        Maker { random, items, answers_head: false, without_length: false, empty: false, draft: false, calm: false, small: false, faults: 0, sharp_faults: 0 }
+        Maker { random, items, answers_head: false, without_length: false, empty: false, draft: false, long_forms: false, calm: false, small: false, faults: 0, sharp_faults: 0 }
     }
 
     fn bad(&mut self) -> bool {
@@ -804,7 +806,7 @@ impl Maker {
 
     fn integer(&mut self, out: &mut Vec<u8>, value: u64) {
         let mut form = if value < 1 << 6 { 0 } else if value < 1 << 14 { 1 } else if value < 1 << 30 { 2 } else { 3 };
-        if self.random.chance(8) {
+        if self.random.chance(if self.long_forms { 2 } else { 8 }) {
             form += self.random.below(4 - form);
         }
         push_form(out, value, form);

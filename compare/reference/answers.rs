@@ -1,6 +1,7 @@
 //! The answers, in JSON: compact, keys sorted.
 
-use crate::reference::bundle::Entry;
+use crate::reference::bundle::{Appended, Entry};
+use crate::reference::items::*;
 use crate::reference::message::*;
 use crate::reference::octets::*;
 use crate::reference::salvage::Salvaged;
@@ -129,11 +130,20 @@ fn refused(refusal: Refusal) -> String {
     format!("{{\"at\":{},\"n\":{}}}", refusal.place, refusal.number)
 }
 
-pub fn read_answer(input: &[u8], outcome: Result<Message, Refusal>) -> String {
+/// Item 8: the total of long integers, "absent where 0".
+fn push_long(out: &mut String, items: Items, long: usize) {
+    if items.has(Item::Long) && long > 0 {
+        out.push_str(&format!("\"long\":{long},"));
+    }
+}
+
+pub fn read_answer(input: &[u8], outcome: Result<Message, Refusal>, told: &Told) -> String {
     match outcome {
         Err(refusal) => refused(refusal),
         Ok(message) => {
-            let mut out = format!("{{\"len\":{},\"m\":", message.length);
+            let mut out = format!("{{\"len\":{},", message.length);
+            push_long(&mut out, told.items, message.long);
+            out.push_str("\"m\":");
             push_meaning(&mut out, input, &message);
             out.push_str(",\"n\":0,\"r\":");
             push_ranges(&mut out, &message);
@@ -209,13 +219,15 @@ pub fn bundle_answer(outcome: Result<Vec<Entry>, Refusal>) -> String {
     out
 }
 
-pub fn append_answer(buffer: &[u8], used: u64, outcome: Result<Vec<u8>, Refusal>) -> String {
-    let entry = match outcome {
+pub fn append_answer(buffer: &[u8], used: u64, outcome: Result<Appended, Refusal>, items: Items) -> String {
+    let appended = match outcome {
         Err(refusal) => return refused(refusal),
-        Ok(entry) => entry,
+        Ok(appended) => appended,
     };
-    let bundle = [&buffer[..used as usize], &entry].concat();
-    let mut out = String::from("{\"n\":0,");
+    let bundle = [&buffer[..used as usize], &appended.entry].concat();
+    let mut out = String::from("{");
+    push_long(&mut out, items, appended.long);
+    out.push_str("\"n\":0,");
     push_hex_member(&mut out, "out", &bundle);
     out.push_str(&format!(",\"used\":{}}}", bundle.len()));
     out

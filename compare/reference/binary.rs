@@ -4,9 +4,18 @@ use super::message::*;
 use super::octets::*;
 use super::told::{Edition, Told};
 
+#[derive(Clone, Copy, PartialEq, Eq, Debug)]
+pub struct Integer {
+    pub value: u64,
+    /// The place behind it.
+    pub next: usize,
+    /// Item 8: "The integer reader must also say whether the form was the shortest".
+    pub shortest: bool,
+}
+
 /// "the top two bits of the first byte give 1, 2, 4 or 8 bytes, the rest is the value, most significant first.
-/// Long forms are taken." The value and the place behind it; None if cut off by the end of `input`.
-pub fn integer(input: &[u8], at: usize) -> Option<(u64, usize)> {
+/// Long forms are taken." None if cut off by the end of `input`.
+pub fn integer(input: &[u8], at: usize) -> Option<Integer> {
     if at >= input.len() {
         return None;
     }
@@ -18,7 +27,13 @@ pub fn integer(input: &[u8], at: usize) -> Option<(u64, usize)> {
     for i in 1..size {
         value = value * 256 + input[at + i] as u64;
     }
-    Some((value, at + size))
+    let shortest = match size {
+        1 => true,
+        2 => value >= 1 << 6,
+        4 => value >= 1 << 14,
+        _ => value >= 1 << 30,
+    };
+    Some(Integer { value, next: at + size, shortest })
 }
 
 /// "content-length stands at most once, one or more digits, ... and not in 204, 304 or informational heads":
@@ -60,6 +75,9 @@ fn authority_of(input: &[u8], control: Span, fields: &[Field], after: usize) -> 
 struct Reader<'a> {
     input: &'a [u8],
     told: &'a Told,
+    /// Item 8: how many integers of the message so far were not in their shortest form, "framing and terminators
+    /// included, padding left out".
+    long: usize,
 }
 
 /// Control data and the (final) header section, judged up to there.
@@ -73,7 +91,9 @@ struct Head {
 impl<'a> Reader<'a> {
     /// An integer that ends before place `end`.
     fn integer(&mut self, at: usize, end: usize) -> Option<(u64, usize)> {
-        integer(&self.input[..end], at)
+        let integer = integer(&self.input[..end], at)?;
+        self.long += !integer.shortest as usize;
+        Some((integer.value, integer.next))
     }
 
     /// `length` bytes at `at`; None if `end` stands before theirs.
@@ -335,7 +355,15 @@ impl<'a> Reader<'a> {
         if let Some(offset) = input[at..].iter().position(|&b| b != 0 || !self.told.edition.takes_padding()) {
             return refuse(PADDING, at + offset);
         }
-        Ok(Message { length: input.len(), control, headers: keep_headers(fields, request), chunks, trailers, stated })
+        Ok(Message {
+            length: input.len(),
+            control,
+            headers: keep_headers(fields, request),
+            chunks,
+            trailers,
+            stated,
+            long: self.long,
+        })
     }
 }
 
@@ -353,7 +381,7 @@ pub fn read(input: &[u8], told: &Told) -> Result<Message, Refusal> {
     if input.len() > BINARY_MOST {
         return refuse(SIZE, 0);
     }
-    let mut reader = Reader { input, told };
+    let mut reader = Reader { input, told, long: 0 };
     let Some((framing, at)) = reader.integer(0, input.len()) else {
         return refuse(CUT, 0);
     };

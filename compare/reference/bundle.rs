@@ -119,10 +119,18 @@ fn used_part(buffer: &[u8], used: u64) -> Result<&[u8], Refusal> {
     Ok(&buffer[..used as usize])
 }
 
-/// The entry that is written behind the bundle. "The appender makes undelivered entries and judges the bundle (its own
+/// What an append does.
+pub struct Appended {
+    /// The entry that is written behind the bundle.
+    pub entry: Vec<u8>,
+    /// Item 8: "The appender gives its input's total".
+    pub long: usize,
+}
+
+/// "The appender makes undelivered entries and judges the bundle (its own
 /// place), then count, flock and message, then written length, then room"; "these stand at 0, the message's own at its
 /// own place".
-pub fn append(buffer: &[u8], used: u64, flock: u64, message: &[u8], items: Items) -> Result<Vec<u8>, Refusal> {
+pub fn append(buffer: &[u8], used: u64, flock: u64, message: &[u8], items: Items) -> Result<Appended, Refusal> {
     let bundle = used_part(buffer, used)?;
     if read(bundle, items)?.len() == ENTRIES_MOST {
         return refuse(SIZE, 0);
@@ -134,7 +142,7 @@ pub fn append(buffer: &[u8], used: u64, flock: u64, message: &[u8], items: Items
         return refuse(ROOM, 0);
     }
     let head = head_of(flock, kind_of(&accepted), written.len());
-    Ok([&head[..], &written].concat())
+    Ok(Appended { entry: [&head[..], &written].concat(), long: accepted.long })
 }
 
 /// "a list, the copied bytes of one flock's entries": heads and messages.

@@ -228,6 +228,7 @@ pub fn read_request(input: &[u8], scheme: Option<Scheme>, told: &Told) -> Result
         chunks,
         trailers,
         stated: None,
+        long: 0,
     })
 }
 
@@ -285,6 +286,7 @@ pub fn read_response(input: &[u8], told: &Told) -> Result<Message, Refusal> {
             chunks,
             trailers,
             stated,
+            long: 0,
         });
     }
 }

@@ -79,6 +79,8 @@ pub struct Message {
     pub trailers: Vec<Field>,
     /// Item 5: "A message record gains a stated length, which may be missing."
     pub stated: Option<u64>,
+    /// Item 8: how many of its integers were not in their shortest form; 0 in HTTP/1.1.
+    pub long: usize,
 }
 
 /// A content in one piece: one chunk, or none where it is empty.

@@ -85,9 +85,10 @@ pub fn run(answer: fn(Items, &[u8]) -> String) -> usize {
 }
 
 fn examples(t: &mut Tests) {
-    t.check("P1", &format!("{:?}", integer(&[0x25], 0)), "Some((37, 1))");
-    t.check("P2", &format!("{:?}", integer(&[0x40, 0x25], 0)), "Some((37, 2))");
-    t.check("P3", &format!("{:?}", integer(&[0x7b, 0xbd], 0)), "Some((15293, 2))");
+    let value = |bytes: &[u8]| format!("{:?}", integer(bytes, 0).map(|read| (read.value, read.next)));
+    t.check("P1", &value(&[0x25]), "Some((37, 1))");
+    t.check("P2", &value(&[0x40, 0x25]), "Some((37, 2))");
+    t.check("P3", &value(&[0x7b, 0xbd]), "Some((15293, 2))");
     t.check("A is 51 bytes", &A.len().to_string(), "51");
     t.says(
         "P4",

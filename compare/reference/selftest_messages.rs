@@ -1,6 +1,7 @@
 //! Selftest rows of the items of document 02 that change how messages are read and written. The answers are worked out by
 //! hand from the papers.
 
+use crate::reference::binary::integer;
 use crate::reference::figures::*;
 use crate::reference::items::*;
 use crate::selftest::{hex, refused, Tests, P5};
@@ -25,6 +26,7 @@ pub fn run(t: &mut Tests) {
     closed(t);
     former(t);
     draft(t);
+    long(t);
 }
 
 impl Tests {
@@ -283,4 +285,50 @@ fn draft(t: &mut Tests) {
     for line in ["h1req edition=1 0 00", "bundle edition=1 -", "append edition=1 1 0 - 00", "bin edition=4294967296 00"] {
         t.says(line, line, BAD);
     }
+}
+
+/// Item 8: who writes long integers?
+fn long(t: &mut Tests) {
+    for (bytes, shortest) in [
+        (&[0x3f][..], true),
+        (&[0x40, 0x3f], false),
+        (&[0x40, 0x40], true),
+        (&[0x80, 0, 0x3f, 0xff], false),
+        (&[0x80, 0, 0x40, 0], true),
+        (&[0xc0, 0, 0, 0, 0x3f, 0xff, 0xff, 0xff], false),
+        (&[0xc0, 0, 0, 0, 0x40, 0, 0, 0], true),
+        (&[0xc0, 0, 0, 0, 0, 0, 0, 0], false),
+    ] {
+        t.check("shortest", &format!("{:?}", integer(bytes, 0).map(|read| read.shortest)), &format!("Some({shortest})"));
+    }
+
+    let long = |answer: &str| answer.split("\"long\":").nth(1).and_then(|rest| rest.split(',').next()).unwrap_or("none").to_string();
+    let full = "4000 4003474554 400468747470 400161 40012f 4006 400162 400163 400164 4006 400174 400175".replace(' ', "");
+    t.items = Items::up_to(Item::Draft);
+    t.check("before its item", &long(&t.answer(&format!("bin {full}"))), "none");
+
+    t.items = Items::up_to(Item::Long);
+    for (name, options, input, wanted) in [
+        ("none", "", P5.to_string(), "none"),
+        // framing, four of control, section, name, value, content, section, name, value
+        ("every one, known length", "", full.clone(), "12"),
+        ("every one, in eight bytes", "", "c000000000000001 c0000000000000c8 c000000000000000".replace(' ', ""), "3"),
+        // framing, status, name and value and end, chunk and end, name and value and end
+        ("every one, indeterminate", "", "4003 800000c8 400162 400163 4000 400164 4000 400174 400175 4000".replace(' ', ""), "10"),
+        ("informational", "", "01 80000064 4000 40c8 4000".replace(' ', ""), "3"),
+        ("a status in two bytes is short", "", "0140c800".to_string(), "none"),
+        ("63 in two bytes", "", format!("0140c8 403f 0162 3c{}", "76".repeat(60)).replace(' ', ""), "1"),
+        ("64 in two bytes", "", format!("0140c8 4040 0162 3d{}", "76".repeat(61)).replace(' ', ""), "none"),
+        ("a dropped field's", "", "0140c8 06 40027465 0178".replace(' ', ""), "1"),
+        ("zeros of content and trailers", "", "0140c800 4000 80000000".replace(' ', ""), "2"),
+        ("padding counts nothing", "", "0140c800 00 4000 0000".replace(' ', ""), "1"),
+        ("in the draft", "edition=1 ", "4001 40c8".replace(' ', ""), "1"),
+    ] {
+        let answer = t.answer(&format!("bin {options}{input}"));
+        t.check(&format!("long integers: {name}"), &long(&answer), wanted);
+        t.check(&format!("accepted: {name}"), answer.get(..6).unwrap_or(&answer), "{\"len\"");
+    }
+    t.says("refused", &format!("bin {full}01"), &refused(12, full.len() / 2));
+    t.says("append", "append 1 0 ffffffffffffffffffff 400140cc4000", "{\"long\":2,\"n\":0,\"out\":\"024000060140cc000000\",\"used\":10}");
+    t.says("append of none", "append 1 0 ffffffffffffffffffff 0140cc00", "{\"n\":0,\"out\":\"024000060140cc000000\",\"used\":10}");
 }
