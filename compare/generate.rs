@@ -35,6 +35,8 @@ mod reference;
 mod salvage;
 #[path = "generate/streams.rs"]
 mod streams;
+#[path = "generate/targets.rs"]
+mod targets;
 
 pub use commands::{needed, turn_line, Turn};
 use fixed::Cases;
@@ -141,7 +143,7 @@ fn turn_case(maker: &mut Maker) -> String {
 /// The set of an item: its name, the item, its random cases and its fixed ones.
 type ItemSet = (&'static str, Item, fn(&mut Maker) -> String, fn(&mut Cases));
 
-const ITEM_SETS: [ItemSet; 7] = [
+const ITEM_SETS: [ItemSet; 8] = [
     ("head", Item::Head, head::case, head::cases),
     ("bundle", Item::Bundle, bundles::case, bundles::cases),
     ("salvage", Item::Salvage, salvage::case, salvage::cases),
@@ -149,6 +151,7 @@ const ITEM_SETS: [ItemSet; 7] = [
     ("former", Item::Former, former::case, former::cases),
     ("draft", Item::Draft, draft::case, draft::cases),
     ("long", Item::Long, long::case, long::cases),
+    ("target", Item::Target, targets::case, targets::cases),
 ];
 
 fn usage() -> ! {

@@ -98,6 +98,9 @@ impl Maker {
             ];
             return self.random.pick(&bad).to_vec();
         }
+        if self.items.has(Item::Target) && self.random.chance(5) {
+            return b"OPTIONS".to_vec();
+        }
         if self.items.has(Item::Head) && self.random.chance(5) {
             return b"HEAD".to_vec();
         }
@@ -108,7 +111,36 @@ impl Maker {
         }
     }
 
+    /// A target in absolute-form, or nearly so.
+    fn absolute_target(&mut self) -> Vec<u8> {
+        let scheme = self.random.pick(&["http://", "http://", "https://", "HTTP://", "hTtPs://", "http://"]);
+        let scheme = if self.bad() { self.random.pick(&["http:/", "http:", "ftp://", "httpx://", "//"]) } else { scheme };
+        let authority = if self.bad() { self.bad_authority() } else { self.authority() };
+        let rest = match self.random.below(5) {
+            0 => Vec::new(),
+            1 => b"?q=/r".to_vec(),
+            2 => b"?".to_vec(),
+            _ => self.origin_path(),
+        };
+        [scheme.as_bytes(), &authority, &rest].concat()
+    }
+
+    /// The target of a request line.
+    fn target(&mut self) -> Vec<u8> {
+        if self.items.has(Item::Target) && !self.random.chance(3) {
+            return self.absolute_target();
+        }
+        self.path()
+    }
+
     fn path(&mut self) -> Vec<u8> {
+        if self.items.has(Item::Target) && self.random.chance(10) {
+            return self.random.pick(&["*", "*", "*", "*x", "**"]).as_bytes().to_vec();
+        }
+        self.origin_path()
+    }
+
+    fn origin_path(&mut self) -> Vec<u8> {
         if self.bad() {
             let bad: [&[u8]; 14] = [
                 b"", b"*", b"s", b"http://a/s", b"/a#b", b"#", b"/a\x7f", b"/\x80", b"/a\tb", b"/a\x00", b"?q", b"\\", b"/a\x1f", b"/a\xff",
@@ -552,7 +584,7 @@ impl Maker {
         }
         out.extend_from_slice(&self.method());
         out.extend_from_slice(self.space());
-        out.extend_from_slice(&self.path());
+        out.extend_from_slice(&self.target());
         out.extend_from_slice(self.space());
         out.extend_from_slice(self.version());
         out.extend_from_slice(self.line_end());

@@ -49,7 +49,7 @@ fn push_fields(out: &mut String, input: &[u8], fields: &[Field]) {
 fn push_meaning(out: &mut String, input: &[u8], message: &Message) {
     let content = message.content(input);
     match &message.control {
-        Control::Request { method, scheme, authority, path } => {
+        Control::Request { method, scheme, authority, path, before } => {
             out.push('{');
             push_hex_member(out, "authority", authority.of(input));
             out.push(',');
@@ -59,7 +59,7 @@ fn push_meaning(out: &mut String, input: &[u8], message: &Message) {
             out.push_str(",\"k\":\"req\",");
             push_hex_member(out, "method", method.of(input));
             out.push(',');
-            push_hex_member(out, "path", path.of(input));
+            push_hex_member(out, "path", &whole_path(input, before, *path));
             out.push_str(",\"scheme\":\"");
             out.push_str(scheme.text());
             out.push_str("\",\"trailers\":");
@@ -100,10 +100,14 @@ fn push_field_ranges(out: &mut String, fields: &[Field]) {
 
 fn push_ranges(out: &mut String, message: &Message) {
     out.push('{');
-    if let Control::Request { authority, .. } = &message.control {
+    if let Control::Request { authority, before, .. } = &message.control {
         out.push_str("\"authority\":");
         push_span(out, authority);
         out.push(',');
+        if !before.is_empty() {
+            push_hex_member(out, "before", before.as_bytes());
+            out.push(',');
+        }
     }
     out.push_str("\"chunks\":");
     push_list(out, &message.chunks, push_span);

@@ -273,14 +273,14 @@ impl<'a> Reader<'a> {
         at = next;
 
         let (path, next) = self.part(at, PATH_MOST)?;
-        if let Some(number) = judge_path(path.of(input)) {
+        if let Some(number) = judge_path(method.of(input), path.of(input), self.told.items) {
             return refuse(number, at);
         }
 
         let (fields, after) = self.final_section(next, known)?;
         // "after the header 6 then 7"
         let authority = authority_of(input, stated, &fields, after)?;
-        Ok(Head { control: Control::Request { method, scheme, authority, path }, fields, after })
+        Ok(Head { control: Control::Request { method, scheme, authority, path, before: "" }, fields, after })
     }
 
     fn response_head(&mut self, start: usize, known: bool) -> Result<Head, Refusal> {

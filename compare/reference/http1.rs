@@ -3,6 +3,7 @@
 use super::items::Item;
 use super::message::*;
 use super::octets::*;
+use super::target::{judge_target, Target};
 use super::told::Told;
 
 /// A line without its CRLF: input[start..end]; the next one begins at `next`.
@@ -208,22 +209,18 @@ pub fn read_request(input: &[u8], scheme: Option<Scheme>, told: &Told) -> Result
     };
 
     let line = take_line(input, 0, HEADS_MOST)?;
-    let (method, path) = request_line(input, &line, told)?;
+    let (method, target) = request_line(input, &line, scheme, told)?;
 
     let (fields, after) = field_section(input, line.next, HEADS_MOST)?;
 
     // "After a head: 6, 7, then content size 8 at its line."
-    let hosts = all_named(&fields, "host");
-    if hosts.len() != 1 || !good_host(hosts[0].value.of(input)) {
-        return refuse(HOST, after);
-    }
-    let authority = hosts[0].value;
+    let authority = authority_of(input, &target, &fields, after)?;
     let framing = framing(input, &fields, after)?;
     let (chunks, trailers, length) = body(input, after, framing)?;
 
     Ok(Message {
         length,
-        control: Control::Request { method, scheme, authority, path },
+        control: Control::Request { method, scheme, authority, path: target.path, before: target.before },
         headers: keep_headers(fields, true),
         chunks,
         trailers,
@@ -233,13 +230,13 @@ pub fn read_request(input: &[u8], scheme: Option<Scheme>, told: &Told) -> Result
 }
 
 /// "Request line: shape 2 (exactly two spaces), version 3, method 2, 8, 4, path 4, 2, 8." All at the line.
-fn request_line(input: &[u8], line: &Line, told: &Told) -> Result<(Span, Span), Refusal> {
+fn request_line(input: &[u8], line: &Line, connection: Scheme, told: &Told) -> Result<(Span, Target), Refusal> {
     let spaces: Vec<usize> = (line.start..line.end).filter(|&i| input[i] == SP).collect();
     if spaces.len() != 2 {
         return refuse(SYNTAX, line.start);
     }
     let method = Span::new(line.start, spaces[0]);
-    let path = Span::new(spaces[0] + 1, spaces[1]);
+    let target = Span::new(spaces[0] + 1, spaces[1]);
     let version = Span::new(spaces[1] + 1, line.end);
     if version.of(input) != b"HTTP/1.1" {
         return refuse(VERSION, line.start);
@@ -247,10 +244,24 @@ fn request_line(input: &[u8], line: &Line, told: &Told) -> Result<(Span, Span), 
     if let Some(number) = judge_method(method.of(input), told.items) {
         return refuse(number, line.start);
     }
-    if let Some(number) = judge_path(path.of(input)) {
-        return refuse(number, line.start);
+    match judge_target(input, method.of(input), target, connection, told.items) {
+        Ok(target) => Ok((method, target)),
+        Err(number) => refuse(number, line.start),
     }
-    Ok((method, path))
+}
+
+/// "Host stands exactly once in a request; it is the authority". Item 2, in absolute-form: "authority is the target's, Host
+/// must stand once and is otherwise ignored".
+fn authority_of(input: &[u8], target: &Target, fields: &[Field], after: usize) -> Result<Span, Refusal> {
+    let hosts = all_named(fields, "host");
+    if hosts.len() != 1 {
+        return refuse(HOST, after);
+    }
+    match target.authority {
+        Some(authority) => Ok(authority),
+        None if good_host(hosts[0].value.of(input)) => Ok(hosts[0].value),
+        None => refuse(HOST, after),
+    }
 }
 
 /// The first response of the stream.

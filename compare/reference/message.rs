@@ -63,7 +63,8 @@ pub struct Informational {
 
 #[derive(Clone, Debug)]
 pub enum Control {
-    Request { method: Span, scheme: Scheme, authority: Span, path: Span },
+    /// `before` is what item 2 puts before the bytes of the path's range.
+    Request { method: Span, scheme: Scheme, authority: Span, path: Span, before: &'static str },
     Response { informational: Vec<Informational>, status: u64 },
 }
 
@@ -81,6 +82,11 @@ pub struct Message {
     pub stated: Option<u64>,
     /// Item 8: how many of its integers were not in their shortest form; 0 in HTTP/1.1.
     pub long: usize,
+}
+
+/// The whole path.
+pub fn whole_path(input: &[u8], before: &str, path: Span) -> Vec<u8> {
+    [before.as_bytes(), path.of(input)].concat()
 }
 
 /// A content in one piece: one chunk, or none where it is empty.

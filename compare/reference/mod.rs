@@ -16,5 +16,6 @@ pub mod message;
 pub mod octets;
 pub mod salvage;
 pub mod streams;
+pub mod target;
 pub mod told;
 pub mod writing;

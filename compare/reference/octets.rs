@@ -149,10 +149,14 @@ pub fn judge_method(method: &[u8], items: Items) -> Option<u32> {
     None
 }
 
-/// "path 4, 2, 8"; "Empty method or path is 2".
-pub fn judge_path(path: &[u8]) -> Option<u32> {
+/// "path 4, 2, 8"; "Empty method or path is 2". Item 2: "Take `*` for OPTIONS only, in both forms"; "`*` with another
+/// method or with bytes behind is 4".
+pub fn judge_path(method: &[u8], path: &[u8], items: Items) -> Option<u32> {
     if path.is_empty() {
         return Some(SYNTAX);
+    }
+    if items.has(Item::Target) && path == b"*" && method == b"OPTIONS" {
+        return None;
     }
     if path[0] != b'/' {
         return Some(UNSUPPORTED);

@@ -27,6 +27,7 @@ pub fn run(t: &mut Tests) {
     former(t);
     draft(t);
     long(t);
+    target(t);
 }
 
 impl Tests {
@@ -331,4 +332,97 @@ fn long(t: &mut Tests) {
     t.says("refused", &format!("bin {full}01"), &refused(12, full.len() / 2));
     t.says("append", "append 1 0 ffffffffffffffffffff 400140cc4000", "{\"long\":2,\"n\":0,\"out\":\"024000060140cc000000\",\"used\":10}");
     t.says("append of none", "append 1 0 ffffffffffffffffffff 0140cc00", "{\"n\":0,\"out\":\"024000060140cc000000\",\"used\":10}");
+}
+
+/// Item 2: targets with a scheme in them.
+fn target(t: &mut Tests) {
+    t.items = Items::up_to(Item::Long);
+    t.req("absolute-form, before its item", "POST http://a/s HTTP/1.1\r\n", 4, 0);
+    t.bin("asterisk in Binary, before its item", "00074f5054494f4e5304687474700161012a00", 4, 16);
+
+    t.items = Items::up_to(Item::Target);
+    let request = |target: &str, host: &str| format!("{target} HTTP/1.1\r\n{host}\r\n");
+    let answer = |len: usize, method: &str, authority: (&str, usize), path: (&str, usize, usize), before: &str| {
+        let method_length = method.len();
+        let (authority_hex, path_hex) = (hex(authority.0.as_bytes()), hex(path.0.as_bytes()));
+        let before = if before.is_empty() { String::new() } else { format!("\"before\":\"{before}\",") };
+        format!(
+            "{{\"len\":{len},\"m\":{{\"authority\":\"{authority_hex}\",\"content\":\"\",\"headers\":[],\"k\":\"req\",\"method\":\"{}\",\
+             \"path\":\"{path_hex}\",\"scheme\":\"http\",\"trailers\":[]}},\"n\":0,\"r\":{{\"authority\":[{},{}],{before}\"chunks\":[],\
+             \"headers\":[],\"method\":[0,{method_length}],\"path\":[{},{}],\"trailers\":[]}}}}",
+            hex(method.as_bytes()), authority.1, authority.0.len(), path.1, path.2
+        )
+    };
+    for (line, host, wanted) in [
+        // the target begins behind the method and a space; host is ignored
+        ("POST http://a/s", "Host: b\r\n", answer(37, "POST", ("a", 12), ("/s", 13, 2), "")),
+        ("GET HtTp://A:8/?x", "Host:\r\n", answer(37, "GET", ("A:8", 11), ("/?x", 14, 3), "")),
+        ("GET http://a", "Host: @\r\n", answer(34, "GET", ("a", 11), ("/", 12, 0), "2f")),
+        ("GET http://a?q", "Host: a\r\n", answer(36, "GET", ("a", 11), ("/?q", 12, 2), "2f")),
+        ("GET http://a?x/y", "Host: a\r\n", answer(38, "GET", ("a", 11), ("/?x/y", 12, 4), "2f")),
+        ("OPTIONS http://a", "Host: a\r\n", answer(38, "OPTIONS", ("a", 15), ("*", 16, 0), "2a")),
+        ("OPTIONS http://a?", "Host: a\r\n", answer(39, "OPTIONS", ("a", 15), ("/?", 16, 1), "2f")),
+        ("OPTIONS http://a/", "Host: a\r\n", answer(39, "OPTIONS", ("a", 15), ("/", 16, 1), "")),
+        ("options http://a", "Host: a\r\n", answer(38, "options", ("a", 15), ("/", 16, 0), "2f")),
+        ("OPTIONS *", "Host: b\r\n", answer(31, "OPTIONS", ("b", 26), ("*", 8, 1), "")),
+    ] {
+        t.says(line, &format!("h1req 0 {}", hex(request(line, host).as_bytes())), &wanted);
+    }
+    let long_authority = format!("GET http://{}/", "h".repeat(256));
+    let path = |size: usize| "p".repeat(size);
+    for (line, number) in [
+        ("GET ", 2),
+        ("GET http:/a", 4),
+        ("GET http:a", 4),
+        ("GET httpx://a", 4),
+        ("GET ftp://a", 4),
+        ("GET http//a", 4),
+        ("GET *", 4),
+        ("options *", 4),
+        ("OPTIONS *x", 4),
+        ("OPTIONS *#", 4),
+        ("OPTIONS **", 4),
+        ("CONNECT http://a", 4),
+        ("GET http://a#", 2),
+        ("GET http://#", 2),
+        ("GET https://a/\u{e9}", 2),
+        ("GET http://", 6),
+        ("GET http:///s", 6),
+        ("GET http://?s", 6),
+        ("GET https://u@a/", 6),
+        (&long_authority, 6),
+        (&format!("GET https://a/{}", path(4_096)), 8),
+        (&format!("GET http://a?{}", path(4_095)), 8),
+        ("GET https://a/", 14),
+        ("OPTIONS HTTPS://a", 14),
+    ] {
+        // the line alone is judged so, before any field line
+        t.req(line, &format!("{line} HTTP/1.1\r\n"), number, 0);
+    }
+    t.outcome("http under https", &format!("h1req 1 {}", hex(b"GET http://a/ HTTP/1.1\r\n")), 14, 0);
+    t.req("path of 4,096", &request(&format!("GET http://a/{}", path(4_095)), "Host: a\r\n"), 0, 4 + 8 + 4_096 + 11 + 9 + 2);
+    t.req("query of 4,095", &request(&format!("GET http://a?{}", path(4_094)), "Host: a\r\n"), 0, 4 + 8 + 4_095 + 11 + 9 + 2);
+    t.req("authority of 255", &request(&format!("GET http://{}", path(255)), "Host: a\r\n"), 0, 4 + 7 + 255 + 11 + 9 + 2);
+    t.req("no Host", &request("GET http://a/", ""), 6, 26);
+    t.req("two Hosts", &request("GET http://a/", "Host: a\r\nHost: a\r\n"), 6, 44);
+    t.req("origin-form judges Host", &request("GET /", "Host: @\r\n"), 6, 27);
+    t.req("* judges Host", &request("OPTIONS *", "Host: @\r\n"), 6, 31);
+
+    // Binary: the path's part of OPTIONS http a is at 16
+    let binary = |method: &str, path: &str| format!("00{}04687474700161{}00", method, path);
+    for (name, method, path, number, place) in [
+        ("*", "074f5054494f4e53", "012a", 0, 19),
+        ("*x", "074f5054494f4e53", "022a78", 4, 16),
+        ("* of GET", "03474554", "012a", 4, 12),
+        ("absolute-form", "074f5054494f4e53", "08687474703a2f2f61", 4, 16),
+        ("empty", "074f5054494f4e53", "00", 2, 16),
+    ] {
+        t.bin(&format!("Binary path {name}"), &binary(method, path), number, place);
+    }
+    let options = hex(request("OPTIONS http://A", "Host: b\r\n").as_bytes());
+    t.says("absolute-form to Binary", &format!("h1req2bin 0 99 {options}"), &wrote_hex("00074f5054494f4e5304687474700141012a000000"));
+    let query = hex(request("GET http://a?q", "Host: b\r\n").as_bytes());
+    t.says("query to Binary", &format!("h1req2bin 0 99 {query}"), &wrote_hex("000347455404687474700161032f3f71000000"));
+    t.says("* to HTTP/1.1", &format!("bin2h1 0 99 {}", binary("074f5054494f4e53", "012a")), &wrote("OPTIONS * HTTP/1.1\r\nhost: a\r\ncontent-length: 0\r\n\r\n"));
+    t.says("* in a bundle", "bundle 0a00001500074f5054494f4e5304687474700161012a000000", "{\"entries\":[[5,0,0,4,21]],\"n\":0}");
 }

@@ -43,12 +43,12 @@ fn push_section(out: &mut Vec<u8>, input: &[u8], stated: Option<u64>, fields: &[
 pub fn as_binary(input: &[u8], message: &Message) -> Result<Vec<u8>, Refusal> {
     let mut out = Vec::new();
     match &message.control {
-        Control::Request { method, scheme, authority, path } => {
+        Control::Request { method, scheme, authority, path, before } => {
             push_integer(&mut out, 0);
             push_string(&mut out, method.of(input));
             push_string(&mut out, scheme.text().as_bytes());
             push_string(&mut out, authority.of(input));
-            push_string(&mut out, path.of(input));
+            push_string(&mut out, &whole_path(input, before, *path));
         }
         Control::Response { informational, status } => {
             push_integer(&mut out, 1);
@@ -112,11 +112,12 @@ pub fn as_http1(input: &[u8], message: &Message, told: &Told) -> Result<Vec<u8>,
     let mut too_many = false;
     let mut lines = 0; // of the final head
     match &message.control {
-        Control::Request { method, authority, path, .. } => {
+        Control::Request { method, authority, path, before, .. } => {
             // "request line, `host`, length line, fields, empty line, body"
             heads.extend_from_slice(method.of(input));
             heads.push(SP);
-            heads.extend_from_slice(path.of(input));
+            // Item 2: "We write origin-form or `*`."
+            heads.extend_from_slice(&whole_path(input, before, *path));
             heads.extend_from_slice(b" HTTP/1.1\r\nhost: ");
             heads.extend_from_slice(authority.of(input));
             heads.extend_from_slice(b"\r\n");
