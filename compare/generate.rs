@@ -15,6 +15,8 @@ mod bundles;
 mod closed;
 #[path = "generate/commands.rs"]
 mod commands;
+#[path = "generate/connections.rs"]
+mod connections;
 #[path = "generate/draft.rs"]
 mod draft;
 #[path = "generate/fixed.rs"]
@@ -143,7 +145,7 @@ fn turn_case(maker: &mut Maker) -> String {
 /// The set of an item: its name, the item, its random cases and its fixed ones.
 type ItemSet = (&'static str, Item, fn(&mut Maker) -> String, fn(&mut Cases));
 
-const ITEM_SETS: [ItemSet; 8] = [
+const ITEM_SETS: [ItemSet; 9] = [
     ("head", Item::Head, head::case, head::cases),
     ("bundle", Item::Bundle, bundles::case, bundles::cases),
     ("salvage", Item::Salvage, salvage::case, salvage::cases),
@@ -152,6 +154,7 @@ const ITEM_SETS: [ItemSet; 8] = [
     ("draft", Item::Draft, draft::case, draft::cases),
     ("long", Item::Long, long::case, long::cases),
     ("target", Item::Target, targets::case, targets::cases),
+    ("connection", Item::Connection, connections::case, connections::cases),
 ];
 
 fn usage() -> ! {

@@ -213,10 +213,32 @@ impl Maker {
         }
     }
 
+    /// A list of names, most of them of fields that messages have.
+    fn connection_value(&mut self) -> Vec<u8> {
+        let mut out = Vec::new();
+        let count = 1 + self.random.below(4);
+        for i in 0..count {
+            if i > 0 {
+                out.extend_from_slice(self.random.pick(&[",", ", ", " ,", "\t,  ", ",,"]).as_bytes());
+            }
+            let member = match self.random.below(12) {
+                0 => self.random.pick(&["close", "keep-alive", "host", "content-length", "transfer-encoding", "connection"]).as_bytes().to_vec(),
+                1 => self.random.pick(&["\"a\"", "a b", "x-a;q", "(b)", "\u{e9}", "a=b"]).as_bytes().to_vec(),
+                2 => self.token(6),
+                _ => self.common_name().as_bytes().to_vec(),
+            };
+            out.extend(self.mixed_case(&member));
+        }
+        out
+    }
+
     fn other_fields(&mut self, most: usize) -> Vec<Pair> {
         let count = self.random.below(most + 1);
         (0..count)
             .map(|_| {
+                if self.items.has(Item::Connection) && self.random.chance(4) {
+                    return (b"connection".to_vec(), self.connection_value());
+                }
                 if self.small && self.random.chance(5) {
                     return self.framing_look();
                 }

@@ -299,7 +299,7 @@ impl<'a> Reader<'a> {
             }
             let (fields, after) = self.section(next, known)?;
             length_field(self.input, &fields, true, after)?;
-            informational.push(Informational { status, fields: keep_headers(fields, false) });
+            informational.push(Informational { status, fields: keep_headers(self.input, fields, false, self.told.items) });
             at = after;
         }
     }
@@ -358,7 +358,7 @@ impl<'a> Reader<'a> {
         Ok(Message {
             length: input.len(),
             control,
-            headers: keep_headers(fields, request),
+            headers: keep_headers(input, fields, request, self.told.items),
             chunks,
             trailers,
             stated,

@@ -221,7 +221,7 @@ pub fn read_request(input: &[u8], scheme: Option<Scheme>, told: &Told) -> Result
     Ok(Message {
         length,
         control: Control::Request { method, scheme, authority, path: target.path, before: target.before },
-        headers: keep_headers(fields, true),
+        headers: keep_headers(input, fields, true, told.items),
         chunks,
         trailers,
         stated: None,
@@ -283,7 +283,7 @@ pub fn read_response(input: &[u8], told: &Told) -> Result<Message, Refusal> {
             if has_framing(&fields) {
                 return refuse(LENGTH, after);
             }
-            informational.push(Informational { status, fields: keep_headers(fields, false) });
+            informational.push(Informational { status, fields: keep_headers(input, fields, false, told.items) });
             continue;
         }
 
@@ -293,7 +293,7 @@ pub fn read_response(input: &[u8], told: &Told) -> Result<Message, Refusal> {
         return Ok(Message {
             length,
             control: Control::Response { informational, status },
-            headers: keep_headers(fields, false),
+            headers: keep_headers(input, fields, false, told.items),
             chunks,
             trailers,
             stated,

@@ -127,7 +127,9 @@ impl Message {
 
 /// "In both forms these are dropped after they are judged: connection, keep-alive, proxy-connection, te,
 /// transfer-encoding, upgrade, content-length, and host in requests."
-pub fn keep_headers(fields: Vec<Field>, request: bool) -> Vec<Field> {
+///
+/// Item 3: "in both forms drop from the same header section each field that a Connection value names".
+pub fn keep_headers(input: &[u8], fields: Vec<Field>, request: bool, items: Items) -> Vec<Field> {
     let dropped = [
         "connection",
         "keep-alive",
@@ -137,10 +139,33 @@ pub fn keep_headers(fields: Vec<Field>, request: bool) -> Vec<Field> {
         "upgrade",
         "content-length",
     ];
+    let named = if items.has(Item::Connection) { connection_members(input, &fields) } else { Vec::new() };
     fields
         .into_iter()
-        .filter(|f| !dropped.iter().any(|name| f.is(name)) && !(request && f.is("host")))
+        .filter(|f| !dropped.iter().any(|name| f.is(name)) && !(request && f.is("host")) && !named.contains(&f.lower))
         .collect()
+}
+
+/// What the Connection lines of a section name: "comma list, space and tab trimmed, compared in lower case. Members that are
+/// no tokens name nothing." Every comma splits, quotes protect nothing (S20).
+fn connection_members(input: &[u8], fields: &[Field]) -> Vec<Vec<u8>> {
+    let mut members = Vec::new();
+    for field in all_named(fields, "connection") {
+        for member in field.value.of(input).split(|&b| b == b',') {
+            let member = trimmed(member);
+            if all_of(member, is_token) {
+                members.push(member.to_ascii_lowercase());
+            }
+        }
+    }
+    members
+}
+
+/// Without the spaces and tabs at its ends.
+fn trimmed(bytes: &[u8]) -> &[u8] {
+    let start = bytes.iter().take_while(|&&b| is_blank(b)).count();
+    let end = bytes.iter().rev().take_while(|&&b| is_blank(b)).count();
+    &bytes[start..bytes.len().max(start + end) - end]
 }
 
 /// "In trailers content-length, transfer-encoding and host are refused".

@@ -28,6 +28,7 @@ pub fn run(t: &mut Tests) {
     draft(t);
     long(t);
     target(t);
+    connection(t);
 }
 
 impl Tests {
@@ -425,4 +426,58 @@ fn target(t: &mut Tests) {
     t.says("query to Binary", &format!("h1req2bin 0 99 {query}"), &wrote_hex("000347455404687474700161032f3f71000000"));
     t.says("* to HTTP/1.1", &format!("bin2h1 0 99 {}", binary("074f5054494f4e53", "012a")), &wrote("OPTIONS * HTTP/1.1\r\nhost: a\r\ncontent-length: 0\r\n\r\n"));
     t.says("* in a bundle", "bundle 0a00001500074f5054494f4e5304687474700161012a000000", "{\"entries\":[[5,0,0,4,21]],\"n\":0}");
+}
+
+/// Item 3: fields named by Connection.
+fn connection(t: &mut Tests) {
+    let kept = |answer: &str| {
+        let names = answer.split("\"headers\":[").nth(1).and_then(|rest| rest.split("],\"").next()).unwrap_or("refused");
+        names.split("[\"").skip(1).filter_map(|field| field.split('"').next()).collect::<Vec<_>>().join(" ")
+    };
+    let line = |lines: &str| format!("h1req 0 {}", hex(format!("GET / HTTP/1.1\r\nHost: a\r\n{lines}\r\n").as_bytes()));
+    t.items = Items::up_to(Item::Target);
+    t.check("before its item", &kept(&t.answer(&line("Connection: x\r\nx: 1\r\n"))), "78");
+
+    t.items = Items::up_to(Item::Connection);
+    for (name, lines, wanted) in [
+        ("named", "Connection: x\r\nx: 1\r\ny: 2\r\n", "79"),
+        ("named behind it", "x: 1\r\ny: 2\r\nConnection: x\r\n", "79"),
+        ("in either case", "X: 1\r\nconnection: close, Y\r\nY: 2\r\nz: 3\r\n", "78 7a"),
+        ("list, blanks", "connection: \tx\t, y ,,z\r\nx: 1\r\ny: 2\r\nz: 3\r\nu: 4\r\n", "75"),
+        ("two lines", "connection: x\r\nx: 1\r\nConnection: y\r\ny: 2\r\n", ""),
+        ("all of that name", "x: 1\r\nconnection: x\r\nX: 2\r\ny: 3\r\n", "79"),
+        ("no token names nothing", "connection: x y, \"x\", x;q, (x\r\nx: 1\r\ny: 2\r\n", "78 79"),
+        ("quotes protect nothing", "connection: \"a,x,b\"\r\nx: 1\r\n", ""),
+        ("a longer name", "connection: xx\r\nx: 1\r\n", "78"),
+        ("a shorter name", "connection: x\r\nxx: 1\r\n", "7878"),
+        ("empty value", "connection:\r\nx: 1\r\n", "78"),
+        ("proxy-connection names nothing", "proxy-connection: x\r\nx: 1\r\n", "78"),
+        ("host and lengths are judged first", "connection: host, content-length, connection\r\ncontent-length: 0\r\nx: 1\r\n", "78"),
+    ] {
+        t.check(name, &kept(&t.answer(&line(lines))), wanted);
+    }
+    t.req("a length that is named frames", "GET / HTTP/1.1\r\nHost: a\r\nConnection: content-length\r\nContent-Length: 3\r\n\r\nabc", 0, 77);
+    t.req("two lengths that are named", "GET / HTTP/1.1\r\nHost: a\r\nConnection: content-length\r\nContent-Length: 0\r\nContent-Length: 0\r\n\r\n", 7, 93);
+
+    // each informational head obeys its own; trailers are untouched; a response's host is an ordinary field
+    let response = "HTTP/1.1 103 \r\nconnection: x\r\nx: 1\r\ny: 2\r\n\r\nHTTP/1.1 200 \r\nx: 3\r\nconnection: y, host\r\nhost: h\r\ny: 4\r\n\
+                    transfer-encoding: chunked\r\n\r\n0\r\nconnection: t\r\nt: 5\r\ny: 6\r\n\r\n";
+    let binary = "01 4067 15 0a636f6e6e656374696f6e0178 01780131 01790132 40c8 22 01780133 0a636f6e6e656374696f6e07792c20686f7374 04686f73740168 01790134 \
+                  00 15 0a636f6e6e656374696f6e0174 01740135 01790136"
+        .replace(' ', "");
+    let written = "01 4067 04 01790132 40c8 04 01780133 00 08 01740135 01790136".replace(' ', "");
+    t.says("a response", &format!("h1resp2bin 99 {}", hex(response.as_bytes())), &wrote_hex(&written));
+    t.says("a Binary response", &format!("bin2bin 99 {binary}"), &wrote_hex(&written));
+    t.says(
+        "field question",
+        &format!("field_bin 79 - {binary}"),
+        "{\"at\":0,\"from\":\"default\",\"len\":0,\"n\":0,\"start\":0}",
+    );
+    // item 5: "Content-Length fills it (even named by Connection)"
+    let named = "HTTP/1.1 304 \r\nconnection: content-length\r\ncontent-length: 5\r\n\r\n";
+    t.says("a stated length that is named", &format!("h1resp2bin 99 {}", hex(named.as_bytes())), &wrote_hex(&format!("01413011{CL}01350000")));
+    let listed = "{\"text\":\"message start length fields content trailers\\n1 0 54 1 0 0\\nend 54 0\\n\"}";
+    t.says("listing", &line("Connection: x\r\nx: 1\r\nb: c\r\n").replace("h1req 0", "listing"), listed);
+    // named fields count toward 64
+    t.req("65th line", &format!("GET / HTTP/1.1\r\nHost: a\r\nconnection: x\r\n{}", "x:\r\n".repeat(63)), 8, 16 + 9 + 15 + 62 * 4);
 }
