@@ -37,6 +37,8 @@ mod reference;
 mod salvage;
 #[path = "generate/streams.rs"]
 mod streams;
+#[path = "generate/tables.rs"]
+mod tables;
 #[path = "generate/targets.rs"]
 mod targets;
 
@@ -145,7 +147,7 @@ fn turn_case(maker: &mut Maker) -> String {
 /// The set of an item: its name, the item, its random cases and its fixed ones.
 type ItemSet = (&'static str, Item, fn(&mut Maker) -> String, fn(&mut Cases));
 
-const ITEM_SETS: [ItemSet; 9] = [
+const ITEM_SETS: [ItemSet; 10] = [
     ("head", Item::Head, head::case, head::cases),
     ("bundle", Item::Bundle, bundles::case, bundles::cases),
     ("salvage", Item::Salvage, salvage::case, salvage::cases),
@@ -155,6 +157,7 @@ const ITEM_SETS: [ItemSet; 9] = [
     ("long", Item::Long, long::case, long::cases),
     ("target", Item::Target, targets::case, targets::cases),
     ("connection", Item::Connection, connections::case, connections::cases),
+    ("table", Item::Table, tables::case, tables::cases),
 ];
 
 fn usage() -> ! {

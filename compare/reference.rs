@@ -22,12 +22,13 @@ mod words;
 use answers::*;
 use reference::items::*;
 use reference::octets::decimal;
+use reference::table::{self, Table};
 use reference::{binary, bundle, http1, salvage, writing};
 use std::io::{self, BufRead, BufReader, BufWriter, Write};
 use words::*;
 
 /// Each command, the item it comes with (None: the base), and the options it takes.
-const COMMANDS: [(&str, Option<Item>, &[&str]); 17] = [
+const COMMANDS: [(&str, Option<Item>, &[&str]); 19] = [
     ("h1req", None, &[]),
     ("h1resp", None, &["head", "closed"]),
     ("bin", None, &["head", "edition"]),
@@ -41,10 +42,12 @@ const COMMANDS: [(&str, Option<Item>, &[&str]); 17] = [
     ("listing", None, &[]),
     ("stream", None, &[]),
     ("bundle", Some(Item::Bundle), &[]),
-    ("append", Some(Item::Bundle), &[]),
+    ("append", Some(Item::Bundle), &["table"]),
     ("flock_list", Some(Item::Bundle), &[]),
     ("salvage", Some(Item::Salvage), &[]),
     ("salvage_text", Some(Item::Salvage), &[]),
+    ("totals", Some(Item::Table), &["table"]),
+    ("rebuild", Some(Item::Table), &["table"]),
 ];
 
 /// The answer to one command line; None if it is no command.
@@ -54,8 +57,11 @@ fn command(items: Items, line: &[u8]) -> Option<String> {
     if item.is_some_and(|item| !items.has(item)) {
         return Some("{\"error\":\"not built\"}".to_string());
     }
-    let (told, words) = options(items, taken, &words[1..])?;
+    let (Options { told, table }, words) = options(items, taken, &words[1..])?;
     let told = &told;
+    // A table is lent to each call that has one, and shown only where it was told.
+    let shown = table.is_some();
+    let mut table = table.unwrap_or_else(Table::empty);
     Some(match (*name, words) {
         ("h1req", [scheme, hex]) => {
             let (scheme, input) = (scheme_of(scheme)?, bytes_of(hex)?);
@@ -99,13 +105,19 @@ fn command(items: Items, line: &[u8]) -> Option<String> {
         ("bundle", [hex]) => bundle_answer(bundle::read(&bytes_of(hex)?, items)),
         ("append", [flock, used, buffer, message]) => {
             let (flock, used, buffer) = (number_of(flock)?, number_of(used)?, bytes_of(buffer)?);
-            append_answer(&buffer, used, bundle::append(&buffer, used, flock, &bytes_of(message)?, items), items)
+            let outcome = table::append(&mut table, &buffer, used, flock, &bytes_of(message)?, items);
+            append_answer(&buffer, used, outcome, shown.then_some(&table), items)
         }
         ("flock_list", [flock, room, hex]) => {
             turn_answer(bundle::list(&bytes_of(hex)?, number_of(flock)?, decimal(room)?, items))
         }
         ("salvage", [room, hex]) => salvage_answer(salvage::salvage(&bytes_of(hex)?, decimal(room)?, items)),
         ("salvage_text", [hex]) => text_answer(&salvage::text(&bytes_of(hex)?, items)),
+        ("totals", [flock]) => totals_answer(table::totals(&table, number_of(flock)?)),
+        ("rebuild", [hex]) => {
+            let outcome = table::rebuild(&mut table, &bytes_of(hex)?, items);
+            rebuild_answer(outcome, shown.then_some(&table))
+        }
         _ => return None,
     })
 }

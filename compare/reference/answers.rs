@@ -6,6 +6,7 @@ use crate::reference::message::*;
 use crate::reference::octets::*;
 use crate::reference::salvage::Salvaged;
 use crate::reference::streams;
+use crate::reference::table::{Record, Table};
 use crate::reference::told::Told;
 
 fn push_hex(out: &mut String, bytes: &[u8]) {
@@ -223,7 +224,7 @@ pub fn bundle_answer(outcome: Result<Vec<Entry>, Refusal>) -> String {
     out
 }
 
-pub fn append_answer(buffer: &[u8], used: u64, outcome: Result<Appended, Refusal>, items: Items) -> String {
+pub fn append_answer(buffer: &[u8], used: u64, outcome: Result<Appended, Refusal>, table: Option<&Table>, items: Items) -> String {
     let appended = match outcome {
         Err(refusal) => return refused(refusal),
         Ok(appended) => appended,
@@ -233,7 +234,34 @@ pub fn append_answer(buffer: &[u8], used: u64, outcome: Result<Appended, Refusal
     push_long(&mut out, items, appended.long);
     out.push_str("\"n\":0,");
     push_hex_member(&mut out, "out", &bundle);
+    push_table(&mut out, table);
     out.push_str(&format!(",\"used\":{}}}", bundle.len()));
+    out
+}
+
+/// A table that was told.
+fn push_table(out: &mut String, table: Option<&Table>) {
+    if let Some(table) = table {
+        out.push_str(&format!(",\"table\":\"{}\"", table.text()));
+    }
+}
+
+pub fn totals_answer(outcome: Result<Record, Refusal>) -> String {
+    match outcome {
+        Err(refusal) => refused(refusal),
+        Ok(Record { entries, bytes, undelivered }) => {
+            format!("{{\"bytes\":{bytes},\"entries\":{entries},\"n\":0,\"undelivered\":{undelivered}}}")
+        }
+    }
+}
+
+pub fn rebuild_answer(outcome: Result<(), Refusal>, table: Option<&Table>) -> String {
+    if let Err(refusal) = outcome {
+        return refused(refusal);
+    }
+    let mut out = String::from("{\"n\":0");
+    push_table(&mut out, table);
+    out.push('}');
     out
 }
 

@@ -104,7 +104,7 @@ pub fn read(input: &[u8], items: Items) -> Result<Vec<Entry>, Refusal> {
 }
 
 /// "A flock asked for or appended outside 1 to 127 is 15 at 0".
-fn judge_flock(flock: u64) -> Result<(), Refusal> {
+pub fn judge_flock(flock: u64) -> Result<(), Refusal> {
     if flock == 0 || flock > FLOCK_MOST {
         return refuse(ENTRY, 0);
     }
@@ -125,6 +125,13 @@ pub struct Appended {
     pub entry: Vec<u8>,
     /// Item 8: "The appender gives its input's total".
     pub long: usize,
+}
+
+impl Appended {
+    /// The length of the message as written.
+    pub fn message_length(&self) -> usize {
+        self.entry.len() - HEAD
+    }
 }
 
 /// "The appender makes undelivered entries and judges the bundle (its own

@@ -40,6 +40,7 @@ pub const OTHER_SCHEME: u32 = 14;
 
 // Those of document 02
 pub const ENTRY: u32 = 15;
+pub const TABLE: u32 = 16;
 pub const EDITION: u32 = 17;
 
 /// A refusal (or, with number 1, the call for more bytes) and its place.

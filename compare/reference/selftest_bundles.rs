@@ -12,6 +12,7 @@ const CL: &str = "0e636f6e74656e742d6c656e677468";
 pub fn run(t: &mut Tests) {
     bundle(t);
     salvage(t);
+    table(t);
 }
 
 fn entries(list: &str) -> String {
@@ -151,4 +152,52 @@ fn salvage(t: &mut Tests) {
     t.says("text of nothing", "salvage_text -", &text("kept 0 0 left 0 stop 0"));
     t.says("text of 65,536", &format!("salvage_text {}{}", figure, "00".repeat(65_484)), &text("kept 1 52 left 65484 stop 15"));
     t.says("text of 65,537", &format!("salvage_text {}{}", figure, "00".repeat(65_485)), &text("kept 0 0 left 65536 stop 8"));
+}
+
+/// Item 6: how many rows for this flock?
+fn table(t: &mut Tests) {
+    let figure = format!("0a400030{FIGURE_13}"); // 52 bytes, flock 5
+    let post = format!("ff000016{P5}"); // 26 bytes, flock 127, delivered
+    let small = format!("02400006{SMALL}"); // 10 bytes, flock 1
+    t.items = Items::up_to(Item::Connection);
+    t.says("totals, before its item", "totals 5", "{\"error\":\"not built\"}");
+    t.says("rebuild, before its item", "rebuild -", "{\"error\":\"not built\"}");
+    t.says("table=, before its item", &format!("append table=127 5 0 - {SMALL}"), "{\"error\":\"bad command\"}");
+
+    t.items = Items::up_to(Item::Table);
+    let free = "ff".repeat(52);
+    let append = |table: &str, flock: u32| format!("append table={table} {flock} 0 {free} {FIGURE_13}");
+    let answer = |out: &str, table: &str| format!("{{\"n\":0,\"out\":\"{out}\",\"table\":\"{table}\",\"used\":{}}}", out.len() / 2);
+    t.says("append", &append("127", 5), &answer(&figure, "127/5:1:48:1"));
+    t.says("append without a table", &append("127", 5).replace("table=127 ", ""), &appended(&figure));
+    let other = figure.replacen("0a40", "fe40", 1);
+    t.says("append, flock 127", &append("127/1:2:3:1/5:9:9:9", 127), &answer(&other, "127/1:2:3:1/5:9:9:9/127:1:48:1"));
+    t.says("on another table sums wrap", &append("127/5:4294967295:4294967250:4294967295", 5), &answer(&figure, "127/5:0:2:0"));
+    t.says("all wrap to zero", &append("127/5:4294967295:4294967248:4294967295", 5), &answer(&figure, "127"));
+    for count in [0, 1, 126, 128, 254, 100_000] {
+        t.says("16 before all else", &format!("append table={count} 0 9 - 04"), &refused(16, 0));
+        t.says("16 in totals", &format!("totals table={count} 0"), &refused(16, 0));
+        t.says("16 in rebuild", &format!("rebuild table={count} 00"), &refused(16, 0));
+    }
+    t.says("16, then 13", "append table=127 0 9 - 04", &refused(13, 0));
+    t.says("refused append", &format!("append table=127/5:1:1:1 5 0 - {SMALL}"), &refused(13, 0));
+
+    let totals = |entries: u64, bytes: u64, undelivered: u64| format!("{{\"bytes\":{bytes},\"entries\":{entries},\"n\":0,\"undelivered\":{undelivered}}}");
+    t.says("totals", "totals table=127/5:2:96:1/6:7:8:9 5", &totals(2, 96, 1));
+    t.says("totals of none", "totals table=127/5:2:96:1 4", &totals(0, 0, 0));
+    t.says("totals without a table", "totals 127", &totals(0, 0, 0));
+    t.says("totals, last", "totals table=127/127:4294967295:1:0 127", &totals(4_294_967_295, 1, 0));
+    for flock in ["0", "128", "256", "4294967295"] {
+        t.says("totals, flock", &format!("totals {flock}"), &refused(15, 0));
+    }
+
+    let all = format!("{figure}{small}{figure}{post}");
+    let rebuilt = |table: &str| format!("{{\"n\":0,\"table\":\"{table}\"}}");
+    t.says("rebuild", &format!("rebuild table=127 {all}"), &rebuilt("127/1:1:6:1/5:2:96:2/127:1:22:0"));
+    t.says("rebuild writes all records", "rebuild table=127/3:1:1:1 -", &rebuilt("127"));
+    t.says("rebuild without a table", &format!("rebuild {all}"), "{\"n\":0}");
+    t.says("rebuild, the bundle's own", &format!("rebuild table=127/3:1:1:1 {all}00"), &refused(9, 140));
+    for line in ["totals table= 5", "totals table=x 5", "totals table=127/0:1:1:1 5", "totals table=127/128:1:1:1 5", "totals table=127/5:1:1 5", "bundle table=127 -"] {
+        t.says(line, line, "{\"error\":\"bad command\"}");
+    }
 }

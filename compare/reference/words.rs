@@ -3,6 +3,7 @@
 use crate::reference::items::*;
 use crate::reference::message::Scheme;
 use crate::reference::octets::decimal;
+use crate::reference::table::{Record, Table};
 use crate::reference::told::Told;
 
 pub fn bytes_of(word: &[u8]) -> Option<Vec<u8>> {
@@ -43,17 +44,29 @@ pub fn number_of(word: &[u8]) -> Option<u64> {
 }
 
 /// Each option, and the item it comes with.
-const OPTIONS: [(&str, Item); 4] =
-    [("head", Item::Head), ("closed", Item::Closed), ("former", Item::Former), ("edition", Item::Draft)];
+const OPTIONS: [(&str, Item); 5] = [
+    ("head", Item::Head),
+    ("closed", Item::Closed),
+    ("former", Item::Former),
+    ("edition", Item::Draft),
+    ("table", Item::Table),
+];
 
-/// What the words `key=value` in front of the others tell, and the others. None: an option is unknown, not taken by this
-/// command (`taken` are), not there yet, told twice, or no number.
-pub fn options<'a>(items: Items, taken: &[&str], words: &'a [&'a [u8]]) -> Option<(Told, &'a [&'a [u8]])> {
-    let mut told = Told::nothing(items);
+/// What the words `key=value` tell and lend.
+pub struct Options {
+    pub told: Told,
+    /// A table that is lent.
+    pub table: Option<Table>,
+}
+
+/// The options in front of the other words, and those. None: an option is unknown, not taken by this command (`taken` are), not
+/// there yet, told twice, or no number.
+pub fn options<'a>(items: Items, taken: &[&str], words: &'a [&'a [u8]]) -> Option<(Options, &'a [&'a [u8]])> {
+    let mut options = Options { told: Told::nothing(items), table: None };
     let mut seen: Vec<&[u8]> = Vec::new();
     for (i, word) in words.iter().enumerate() {
         let Some(equals) = word.iter().position(|&b| b == b'=') else {
-            return Some((told, &words[i..]));
+            return Some((options, &words[i..]));
         };
         let (key, value) = (&word[..equals], &word[equals + 1..]);
         let (name, item) = OPTIONS.iter().find(|(name, _)| name.as_bytes() == key)?;
@@ -61,7 +74,25 @@ pub fn options<'a>(items: Items, taken: &[&str], words: &'a [&'a [u8]]) -> Optio
             return None;
         }
         seen.push(key);
-        told.tell(name, number_of(value)?);
+        if *name == "table" {
+            options.table = Some(table_of(value)?);
+        } else {
+            options.told.tell(name, number_of(value)?);
+        }
     }
-    Some((told, &[]))
+    Some((options, &[]))
+}
+
+/// `COUNT` followed by `/FLOCK:ENTRIES:BYTES:UNDELIVERED` for records that are not all zero.
+fn table_of(word: &[u8]) -> Option<Table> {
+    let mut parts = word.split(|&b| b == b'/');
+    let count = number_of(parts.next()?).filter(|&count| count <= 100_000)?;
+    let mut table = Table::of(count as usize);
+    for part in parts {
+        let numbers: Vec<u64> = part.split(|&b| b == b':').map(number_of).collect::<Option<_>>()?;
+        let [flock, entries, bytes, undelivered] = numbers[..] else { return None };
+        let record = table.records.get_mut((flock as usize).checked_sub(1)?)?;
+        *record = Record { entries: entries as u32, bytes: bytes as u32, undelivered: undelivered as u32 };
+    }
+    Some(table)
 }
