@@ -37,6 +37,8 @@ mod reference;
 mod salvage;
 #[path = "generate/streams.rs"]
 mod streams;
+#[path = "generate/sweeps.rs"]
+mod sweeps;
 #[path = "generate/tables.rs"]
 mod tables;
 #[path = "generate/targets.rs"]
@@ -147,7 +149,7 @@ fn turn_case(maker: &mut Maker) -> String {
 /// The set of an item: its name, the item, its random cases and its fixed ones.
 type ItemSet = (&'static str, Item, fn(&mut Maker) -> String, fn(&mut Cases));
 
-const ITEM_SETS: [ItemSet; 10] = [
+const ITEM_SETS: [ItemSet; 11] = [
     ("head", Item::Head, head::case, head::cases),
     ("bundle", Item::Bundle, bundles::case, bundles::cases),
     ("salvage", Item::Salvage, salvage::case, salvage::cases),
@@ -158,6 +160,7 @@ const ITEM_SETS: [ItemSet; 10] = [
     ("target", Item::Target, targets::case, targets::cases),
     ("connection", Item::Connection, connections::case, connections::cases),
     ("table", Item::Table, tables::case, tables::cases),
+    ("sweep", Item::Sweep, sweeps::case, sweeps::cases),
 ];
 
 fn usage() -> ! {

@@ -23,12 +23,12 @@ use answers::*;
 use reference::items::*;
 use reference::octets::decimal;
 use reference::table::{self, Table};
-use reference::{binary, bundle, http1, salvage, writing};
+use reference::{binary, bundle, http1, salvage, sweep, writing};
 use std::io::{self, BufRead, BufReader, BufWriter, Write};
 use words::*;
 
 /// Each command, the item it comes with (None: the base), and the options it takes.
-const COMMANDS: [(&str, Option<Item>, &[&str]); 19] = [
+const COMMANDS: [(&str, Option<Item>, &[&str]); 21] = [
     ("h1req", None, &[]),
     ("h1resp", None, &["head", "closed"]),
     ("bin", None, &["head", "edition"]),
@@ -48,6 +48,8 @@ const COMMANDS: [(&str, Option<Item>, &[&str]); 19] = [
     ("salvage_text", Some(Item::Salvage), &[]),
     ("totals", Some(Item::Table), &["table"]),
     ("rebuild", Some(Item::Table), &["table"]),
+    ("mark", Some(Item::Sweep), &["table"]),
+    ("sweep", Some(Item::Sweep), &["table"]),
 ];
 
 /// The answer to one command line; None if it is no command.
@@ -117,6 +119,15 @@ fn command(items: Items, line: &[u8]) -> Option<String> {
         ("rebuild", [hex]) => {
             let outcome = table::rebuild(&mut table, &bytes_of(hex)?, items);
             rebuild_answer(outcome, shown.then_some(&table))
+        }
+        ("mark", [entry, used, buffer]) => {
+            let (entry, used, buffer) = (number_of(entry)?, number_of(used)?, bytes_of(buffer)?);
+            let outcome = sweep::mark(&mut table, &buffer, used, entry, items);
+            buffer_answer(outcome.map(|out| (out, None)), shown.then_some(&table))
+        }
+        ("sweep", [used, buffer]) => {
+            let outcome = sweep::sweep(&mut table, &bytes_of(buffer)?, number_of(used)?, items);
+            buffer_answer(outcome.map(|(out, used)| (out, Some(used))), shown.then_some(&table))
         }
         _ => return None,
     })

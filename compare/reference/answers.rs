@@ -232,11 +232,29 @@ pub fn append_answer(buffer: &[u8], used: u64, outcome: Result<Appended, Refusal
     let bundle = [&buffer[..used as usize], &appended.entry].concat();
     let mut out = String::from("{");
     push_long(&mut out, items, appended.long);
-    out.push_str("\"n\":0,");
-    push_hex_member(&mut out, "out", &bundle);
-    push_table(&mut out, table);
-    out.push_str(&format!(",\"used\":{}}}", bundle.len()));
+    push_buffer(&mut out, &bundle, Some(bundle.len()), table);
     out
+}
+
+/// A call that leaves these bytes and, if it says so, this used length.
+pub fn buffer_answer(outcome: Result<(Vec<u8>, Option<usize>), Refusal>, table: Option<&Table>) -> String {
+    let (bytes, used) = match outcome {
+        Err(refusal) => return refused(refusal),
+        Ok(outcome) => outcome,
+    };
+    let mut out = String::from("{");
+    push_buffer(&mut out, &bytes, used, table);
+    out
+}
+
+fn push_buffer(out: &mut String, bytes: &[u8], used: Option<usize>, table: Option<&Table>) {
+    out.push_str("\"n\":0,");
+    push_hex_member(out, "out", bytes);
+    push_table(out, table);
+    if let Some(used) = used {
+        out.push_str(&format!(",\"used\":{used}"));
+    }
+    out.push('}');
 }
 
 /// A table that was told.

@@ -112,7 +112,7 @@ pub fn judge_flock(flock: u64) -> Result<(), Refusal> {
 }
 
 /// The bundle in the first `used` bytes of a buffer: "a used length past the buffer is 13 first".
-fn used_part(buffer: &[u8], used: u64) -> Result<&[u8], Refusal> {
+pub fn used_part(buffer: &[u8], used: u64) -> Result<&[u8], Refusal> {
     if used > buffer.len() as u64 {
         return refuse(ROOM, 0);
     }

@@ -16,6 +16,7 @@ pub mod message;
 pub mod octets;
 pub mod salvage;
 pub mod streams;
+pub mod sweep;
 pub mod table;
 pub mod target;
 pub mod told;

@@ -13,6 +13,7 @@ pub fn run(t: &mut Tests) {
     bundle(t);
     salvage(t);
     table(t);
+    sweep(t);
 }
 
 fn entries(list: &str) -> String {
@@ -200,4 +201,45 @@ fn table(t: &mut Tests) {
     for line in ["totals table= 5", "totals table=x 5", "totals table=127/0:1:1:1 5", "totals table=127/128:1:1:1 5", "totals table=127/5:1:1 5", "bundle table=127 -"] {
         t.says(line, line, "{\"error\":\"bad command\"}");
     }
+}
+
+/// Item 11: room back in the bundle.
+fn sweep(t: &mut Tests) {
+    t.items = Items::up_to(Item::Table);
+    t.says("mark, before its item", "mark 0 0 -", "{\"error\":\"not built\"}");
+    t.says("sweep, before its item", "sweep 0 -", "{\"error\":\"not built\"}");
+
+    t.items = Items::up_to(Item::Sweep);
+    let figure = format!("0a400030{FIGURE_13}"); // 52 bytes, flock 5
+    let sent = figure.replacen("0a", "0b", 1);
+    let post = format!("ff000016{P5}"); // 26 bytes, flock 127, delivered
+    let small = format!("02400006{SMALL}"); // 10 bytes, flock 1
+    let marked = |out: &str, table: &str| format!("{{\"n\":0,\"out\":\"{out}\",\"table\":\"{table}\"}}");
+    let bundle = format!("{figure}{post}{small}"); // 88 bytes
+    let table = "127/1:1:6:1/5:1:48:1/127:1:22:0";
+    t.says("mark", &format!("mark table={table} 0 88 {bundle}"), &marked(&format!("{sent}{post}{small}"), "127/1:1:6:1/5:1:48:0/127:1:22:0"));
+    t.says("mark the last, in a longer buffer", &format!("mark 2 88 {bundle}ee"), &wrote(&format!("{figure}{post}{}", small.replacen("02", "03", 1))));
+    t.says("mark again", &format!("mark table={table} 1 88 {bundle}"), &marked(&bundle, table));
+    t.says("mark on another table", &format!("mark table=127 0 88 {bundle}"), &marked(&format!("{sent}{post}{small}"), "127/5:0:0:4294967295"));
+    for (name, line, number, place) in [
+        ("16 first", format!("mark table=126 9 99 {bundle}00"), 16, 0),
+        ("used past the buffer", format!("mark 9 89 {bundle}"), 13, 0),
+        ("the bundle's own", format!("mark 9 87 {bundle}"), 9, 78),
+        ("no such entry", format!("mark 3 88 {bundle}"), 18, 0),
+        ("no such entry, large", format!("mark 4294967295 88 {bundle}"), 18, 0),
+        ("no entry at all", "mark 0 0 -".to_string(), 18, 0),
+        ("sweep: 16 first", format!("sweep table=128 99 {bundle}"), 16, 0),
+        ("sweep: used past the buffer", format!("sweep 89 {bundle}"), 13, 0),
+        ("sweep: the bundle's own", format!("sweep 87 {bundle}"), 9, 78),
+    ] {
+        t.says(name, &line, &refused(number, place));
+    }
+    let swept = |out: &str, table: &str, used: usize| format!("{{\"n\":0,\"out\":\"{out}\",\"table\":\"{table}\",\"used\":{used}}}");
+    // post goes, small moves to 52; behind the new end at 62 stand the old bytes
+    let after = format!("{figure}{small}{}ee", &bundle[124..]);
+    t.says("sweep", &format!("sweep table={table} 88 {bundle}ee"), &swept(&after, "127/1:1:6:1/5:1:48:1", 62));
+    t.says("sweep of none", "sweep 0 ee", "{\"n\":0,\"out\":\"ee\",\"used\":0}");
+    t.says("sweep that keeps all", &format!("sweep 52 {figure}"), &appended(&figure));
+    t.says("sweep that keeps none", &format!("sweep table=127/5:1:48:0 52 {sent}"), &swept(&sent, "127", 0));
+    t.says("sweep on another table", &format!("sweep table=127 52 {sent}"), &swept(&sent, "127/5:4294967295:4294967248:0", 0));
 }

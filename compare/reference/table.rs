@@ -19,6 +19,17 @@ impl Record {
         self.bytes = self.bytes.wrapping_add(length as u32);
         self.undelivered = self.undelivered.wrapping_add(!delivered as u32);
     }
+
+    /// Item 11: an undelivered entry is marked.
+    pub fn mark(&mut self) {
+        self.undelivered = self.undelivered.wrapping_sub(1);
+    }
+
+    /// Item 11: a delivered entry is swept.
+    pub fn take_off(&mut self, length: usize) {
+        self.entries = self.entries.wrapping_sub(1);
+        self.bytes = self.bytes.wrapping_sub(length as u32);
+    }
 }
 
 /// "a table of flock records, one per flock, in a list lent by the caller": the record of flock f is the f-th.
@@ -55,7 +66,7 @@ impl Table {
         out
     }
 
-    fn record(&mut self, flock: u64) -> &mut Record {
+    pub fn record(&mut self, flock: u64) -> &mut Record {
         &mut self.records[flock as usize - 1]
     }
 
