@@ -35,6 +35,8 @@ mod questions;
 mod reference;
 #[path = "generate/salvage.rs"]
 mod salvage;
+#[path = "generate/steps.rs"]
+mod steps;
 #[path = "generate/streams.rs"]
 mod streams;
 #[path = "generate/sweeps.rs"]
@@ -149,7 +151,7 @@ fn turn_case(maker: &mut Maker) -> String {
 /// The set of an item: its name, the item, its random cases and its fixed ones.
 type ItemSet = (&'static str, Item, fn(&mut Maker) -> String, fn(&mut Cases));
 
-const ITEM_SETS: [ItemSet; 11] = [
+const ITEM_SETS: [ItemSet; 12] = [
     ("head", Item::Head, head::case, head::cases),
     ("bundle", Item::Bundle, bundles::case, bundles::cases),
     ("salvage", Item::Salvage, salvage::case, salvage::cases),
@@ -161,6 +163,7 @@ const ITEM_SETS: [ItemSet; 11] = [
     ("connection", Item::Connection, connections::case, connections::cases),
     ("table", Item::Table, tables::case, tables::cases),
     ("sweep", Item::Sweep, sweeps::case, sweeps::cases),
+    ("steps", Item::Steps, steps::case, steps::cases),
 ];
 
 fn usage() -> ! {

@@ -23,12 +23,12 @@ use answers::*;
 use reference::items::*;
 use reference::octets::decimal;
 use reference::table::{self, Table};
-use reference::{binary, bundle, http1, salvage, sweep, writing};
+use reference::{binary, bundle, http1, salvage, steps, sweep, writing};
 use std::io::{self, BufRead, BufReader, BufWriter, Write};
 use words::*;
 
 /// Each command, the item it comes with (None: the base), and the options it takes.
-const COMMANDS: [(&str, Option<Item>, &[&str]); 21] = [
+const COMMANDS: [(&str, Option<Item>, &[&str]); 22] = [
     ("h1req", None, &[]),
     ("h1resp", None, &["head", "closed"]),
     ("bin", None, &["head", "edition"]),
@@ -50,6 +50,7 @@ const COMMANDS: [(&str, Option<Item>, &[&str]); 21] = [
     ("rebuild", Some(Item::Table), &["table"]),
     ("mark", Some(Item::Sweep), &["table"]),
     ("sweep", Some(Item::Sweep), &["table"]),
+    ("steps", Some(Item::Steps), &[]),
 ];
 
 /// The answer to one command line; None if it is no command.
@@ -128,6 +129,10 @@ fn command(items: Items, line: &[u8]) -> Option<String> {
         ("sweep", [used, buffer]) => {
             let outcome = sweep::sweep(&mut table, &bytes_of(buffer)?, number_of(used)?, items);
             buffer_answer(outcome.map(|(out, used)| (out, Some(used))), shown.then_some(&table))
+        }
+        ("steps", [scheme, room, hex]) => {
+            let input = bytes_of(hex)?;
+            steps_answer(input.len(), steps::walk(&input, scheme_of(scheme)?, decimal(room)?, told))
         }
         _ => return None,
     })

@@ -124,6 +124,14 @@ fn turns(form: Form, binary_scheme: u64) -> Vec<(Turn, u64)> {
     }
 }
 
+/// A scheme number to be told with a request: mostly its target's.
+pub fn request_scheme(maker: &mut Maker, input: &[u8]) -> u64 {
+    if maker.random.chance(8) {
+        return scheme(&mut maker.random);
+    }
+    input.windows(8).take(48).any(|part| part.eq_ignore_ascii_case(b"https://")) as u64
+}
+
 /// A random command on a message of this form.
 pub fn case(maker: &mut Maker, options: Options, form: Form, input: &[u8]) -> String {
     match maker.random.below(8) {

@@ -11,7 +11,10 @@ pub fn case(maker: &mut Maker) -> String {
     maker.calm = !maker.random.chance(5);
     maker.answers_head = maker.random.chance(10);
     let (form, input) = match maker.random.below(3) {
-        0 => (Form::Request(0), maker.request_input()),
+        0 => {
+            let input = maker.request_input();
+            (Form::Request(commands::request_scheme(maker, &input)), input)
+        }
         1 => (Form::Response, maker.response_input()),
         _ => {
             let framing = maker.random.below(4) as u64;

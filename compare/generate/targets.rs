@@ -12,9 +12,7 @@ pub fn case(maker: &mut Maker) -> String {
     let line = match maker.random.below(12) {
         0..=7 => {
             let input = maker.request_input();
-            // Mostly told the target's scheme.
-            let https = input.windows(8).take(48).any(|part| part.eq_ignore_ascii_case(b"https://"));
-            let scheme = if maker.random.chance(8) { crate::scheme(&mut maker.random) } else { https as u64 };
+            let scheme = commands::request_scheme(maker, &input);
             commands::case(maker, &[], Form::Request(scheme), &input)
         }
         8 => format!("listing {}", hex(&maker.stream_input())),

@@ -5,6 +5,7 @@ use crate::reference::items::*;
 use crate::reference::message::*;
 use crate::reference::octets::*;
 use crate::reference::salvage::Salvaged;
+use crate::reference::steps::Walked;
 use crate::reference::streams;
 use crate::reference::table::{Record, Table};
 use crate::reference::told::Told;
@@ -292,4 +293,18 @@ pub fn salvage_answer(outcome: Result<Salvaged, Refusal>) -> String {
     push_hex_member(&mut out, "out", &kept);
     out.push_str(&format!(",\"stop\":{stop}}}"));
     out
+}
+
+pub fn steps_answer(bytes: usize, walked: Walked) -> String {
+    match walked {
+        None => format!("{{\"n\":1,\"steps\":{bytes}}}"),
+        Some((steps, Err(refusal))) => format!("{{\"at\":{},\"n\":{},\"steps\":{steps}}}", refusal.place, refusal.number),
+        Some((steps, Ok(message))) => format!(
+            "{{\"content\":{},\"fields\":{},\"len\":{},\"n\":0,\"steps\":{steps},\"trailers\":{}}}",
+            message.content_length(),
+            message.headers.len(),
+            message.length,
+            message.trailers.len()
+        ),
+    }
 }

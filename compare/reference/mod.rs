@@ -15,6 +15,7 @@ pub mod items;
 pub mod message;
 pub mod octets;
 pub mod salvage;
+pub mod steps;
 pub mod streams;
 pub mod sweep;
 pub mod table;

@@ -43,6 +43,7 @@ pub const ENTRY: u32 = 15;
 pub const TABLE: u32 = 16;
 pub const EDITION: u32 = 17;
 pub const NO_ENTRY: u32 = 18;
+pub const STEP_ROOM: u32 = 19;
 
 /// A refusal (or, with number 1, the call for more bytes) and its place.
 #[derive(Clone, Copy, PartialEq, Eq, Debug)]

@@ -29,6 +29,7 @@ pub fn run(t: &mut Tests) {
     long(t);
     target(t);
     connection(t);
+    steps(t);
 }
 
 impl Tests {
@@ -480,4 +481,53 @@ fn connection(t: &mut Tests) {
     t.says("listing", &line("Connection: x\r\nx: 1\r\nb: c\r\n").replace("h1req 0", "listing"), listed);
     // named fields count toward 64
     t.req("65th line", &format!("GET / HTTP/1.1\r\nHost: a\r\nconnection: x\r\n{}", "x:\r\n".repeat(63)), 8, 16 + 9 + 15 + 62 * 4);
+}
+
+/// Item 13: a reader for the tag itself.
+fn steps(t: &mut Tests) {
+    t.items = Items::up_to(Item::Sweep);
+    t.says("steps, before its item", "steps 0 8192 -", "{\"error\":\"not built\"}");
+
+    t.items = Items::up_to(Item::Steps);
+    let refused_at = |number: u32, place: usize, steps: usize| format!("{{\"at\":{place},\"n\":{number},\"steps\":{steps}}}");
+    let more = |steps: usize| format!("{{\"n\":1,\"steps\":{steps}}}");
+    let end = |steps: usize, fields: usize, content: usize, trailers: usize| {
+        format!("{{\"content\":{content},\"fields\":{fields},\"len\":{steps},\"n\":0,\"steps\":{steps},\"trailers\":{trailers}}}")
+    };
+    t.says("begun with too little room", "steps 0 8191 4154", &refused_at(19, 0, 0));
+    t.says("room before scheme", "steps 7 0 4154", &refused_at(19, 0, 0));
+    t.says("scheme", "steps 7 8192 4154", &refused_at(4, 0, 0));
+    t.says("no byte", "steps 0 8192 -", &more(0));
+
+    let head = |lines: &str| format!("POST /s HTTP/1.1\r\nHost: a\r\n{lines}\r\n"); // 18 + 9 + lines + 2
+    let filler = "x".repeat(8_192 - 18 - 9 - 4);
+    let chunked = head("transfer-encoding: chunked\r\n"); // 57
+    for (name, input, wanted) in [
+        ("one byte", "P".to_string(), more(1)),
+        ("whole", head("b: c\r\n"), end(35, 1, 0, 0)),
+        ("with bytes behind", format!("{}xyz", head("b: c\r\n")), end(35, 1, 0, 0)),
+        ("one byte short", head("b: c\r\n")[..34].to_string(), more(34)),
+        ("a content", format!("{}abcd", head("content-length: 3\r\n")), end(51, 0, 3, 0)),
+        ("a content of 0", head("content-length: 0\r\n"), end(48, 0, 0, 0)),
+        ("a refusal in the request line", "POST  /s HTTP/1.1\r\nHost".to_string(), refused_at(2, 0, 19)),
+        ("a bare LF", "GET /\n".to_string(), refused_at(2, 0, 6)),
+        ("a refusal behind the head", head("Host: a\r\n"), refused_at(6, 38, 38)),
+        ("two lengths", format!("{}x", head("content-length: 1\r\ncontent-length: 1\r\n")), refused_at(7, 67, 67)),
+        ("a content too large", head("content-length: 32769\r\n"), refused_at(8, 27, 52)),
+        ("an allowance used up exactly", format!("POST /s HTTP/1.1\r\nHost: a\r\nb:{filler}\r\n\r\n"), refused_at(8, 8_192, 8_192)),
+        ("no LF in the allowance", "x".repeat(8_200), refused_at(8, 0, 8_192)),
+        ("chunks and trailers", format!("{chunked}1\r\na\r\n2\r\nbc\r\n0\r\nte: x\r\nt: u\r\n\r\nz"), end(57 + 6 + 7 + 3 + 7 + 6 + 2, 0, 3, 1)),
+        ("a wrong chunk end, with its second byte", format!("{chunked}1\r\nabc"), refused_at(2, 61, 63)),
+        ("a wrong chunk end, its first byte", format!("{chunked}1\r\nab"), more(62)),
+        ("a chunk too large", format!("{chunked}8001\r\nx"), refused_at(8, 57, 63)),
+        // items 2, 3 and 5
+        ("absolute-form", "HEAD http://a HTTP/1.1\r\nHost:\r\n\r\n".to_string(), end(33, 0, 0, 0)),
+        ("another scheme", "GET https://a HTTP/1.1\r\nHost:\r\n\r\n".to_string(), refused_at(14, 0, 24)),
+        ("Connection", head("x: 1\r\nConnection: X, z\r\ny: 2\r\nz: 3\r\nX: 4\r\n"), end(29 + 18 + 24, 1, 0, 0)),
+    ] {
+        t.says(name, &format!("steps 0 8192 {}", hex(input.as_bytes())), &wanted);
+    }
+    for line in ["steps", "steps 0 8192", "steps 0 x 00", "steps head=1 0 8192 00"] {
+        t.says(line, line, BAD);
+    }
 }
