@@ -48,7 +48,7 @@ mod targets;
 
 pub use commands::{needed, turn_line, Turn};
 use fixed::Cases;
-use messages::Maker;
+use messages::{Maker, Manner};
 use reference::items::*;
 use reference::told::Told;
 use std::io::{self, BufWriter, Write};
@@ -129,13 +129,11 @@ fn turn_case(maker: &mut Maker) -> String {
     let turn = [Turn::RequestToBinary, Turn::ResponseToBinary, Turn::BinaryToHttp1, Turn::BinaryToHttp1, Turn::BinaryToBinary]
         [maker.random.below(5)];
     // Few faults here: the readers are met by the other sets, the writers need accepted messages.
-    maker.calm = true;
-    let input = match turn {
+    let input = maker.with(Manner { calm: true, ..Manner::default() }, |maker| match turn {
         Turn::RequestToBinary => maker.request_input(),
         Turn::ResponseToBinary => maker.response_input(),
         _ => maker.binary_input(),
-    };
-    maker.calm = false;
+    });
     let told = Told::nothing(maker.items);
     let mut scheme = scheme(&mut maker.random);
     // A turning that is refused with 14 tells little: mostly tell the scheme that fits.

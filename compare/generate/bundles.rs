@@ -3,7 +3,7 @@
 use crate::commands::room;
 use crate::fixed::*;
 use crate::hex;
-use crate::messages::{push_form, Maker};
+use crate::messages::{push_form, Maker, Manner};
 use crate::reference::bundle;
 use crate::reference::figures::*;
 use crate::reference::told::Told;
@@ -29,12 +29,10 @@ pub fn small_messages() -> Vec<Vec<u8>> {
 
 /// A message as it is written.
 pub fn written(maker: &mut Maker) -> Vec<u8> {
-    maker.small = true;
     maker.faults = 0;
     maker.sharp_faults = 0;
     let framing = maker.random.below(4) as u64;
-    let input = maker.binary_of(framing, None);
-    maker.small = false;
+    let input = maker.with(Manner { small: true, ..Manner::default() }, |maker| maker.binary_of(framing, None));
     writing::binary_to_binary(&input, u128::MAX, &Told::nothing(maker.items)).unwrap_or_else(|_| unhex(FIGURE_13))
 }
 
@@ -126,10 +124,7 @@ pub fn append_words(maker: &mut Maker) -> String {
     let message = if maker.random.chance(3) {
         written(maker)
     } else {
-        maker.calm = true;
-        let message = maker.binary_input();
-        maker.calm = false;
-        message
+        maker.with(Manner { calm: true, ..Manner::default() }, Maker::binary_input)
     };
     let anew = writing::binary_to_binary(&message, u128::MAX, &Told::nothing(maker.items));
     let free = room(maker, anew.ok().map(|written| 4 + written.len()));

@@ -2,21 +2,21 @@
 
 use crate::commands::{self, Form, Options};
 use crate::fixed::*;
-use crate::messages::Maker;
+use crate::messages::{Maker, Manner};
 
 // ---------------------------------------------------------------------------------------- random
 
 pub fn case(maker: &mut Maker) -> String {
-    maker.calm = !maker.random.chance(5);
-    maker.answers_head = maker.random.chance(8);
-    maker.without_length = !maker.random.chance(4);
-    let input = maker.response_input();
+    let manner = Manner {
+        calm: !maker.random.chance(5),
+        answers_head: maker.random.chance(8),
+        without_length: !maker.random.chance(4),
+        ..Manner::default()
+    };
+    let input = maker.with(manner, Maker::response_input);
     let closed = [0, 1, 1, 1, 1, 256][maker.random.below(6)];
-    let told = [("closed", closed), ("head", maker.answers_head as u64)];
-    maker.calm = false;
-    maker.answers_head = false;
-    maker.without_length = false;
-    let options = if told[1].1 == 0 { &told[..1] } else { &told };
+    let told = [("closed", closed), ("head", 1)];
+    let options = if manner.answers_head { &told[..] } else { &told[..1] };
     commands::case(maker, options, Form::Response, &input)
 }
 

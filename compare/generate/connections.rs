@@ -1,16 +1,15 @@
 //! Cases of item 3: fields named by Connection.
 
-use crate::commands::{self, Form};
+use crate::commands::{self, Form, Options};
 use crate::fixed::*;
 use crate::hex;
-use crate::messages::Maker;
+use crate::messages::{Maker, Manner};
 
 // ---------------------------------------------------------------------------------------- random
 
 pub fn case(maker: &mut Maker) -> String {
-    maker.calm = !maker.random.chance(5);
-    maker.answers_head = maker.random.chance(10);
-    let (form, input) = match maker.random.below(3) {
+    let manner = Manner { calm: !maker.random.chance(5), answers_head: maker.random.chance(10), ..Manner::default() };
+    let (form, input) = maker.with(manner, |maker| match maker.random.below(3) {
         0 => {
             let input = maker.request_input();
             (Form::Request(commands::request_scheme(maker, &input)), input)
@@ -20,11 +19,8 @@ pub fn case(maker: &mut Maker) -> String {
             let framing = maker.random.below(4) as u64;
             (Form::Binary, maker.binary_input_of(framing))
         }
-    };
-    let options = [("head", 1)];
-    let options = if maker.answers_head { &options[..] } else { &[] };
-    maker.calm = false;
-    maker.answers_head = false;
+    });
+    let options: Options = if manner.answers_head { &[("head", 1)] } else { &[] };
     if let (Form::Request(_), true) = (form, maker.random.chance(8)) {
         return format!("listing {}", hex(&input));
     }

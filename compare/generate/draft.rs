@@ -2,33 +2,33 @@
 
 use crate::commands::{self, Form, Options};
 use crate::fixed::*;
-use crate::messages::Maker;
+use crate::messages::{Maker, Manner};
 use crate::reference::figures::*;
 
 // ---------------------------------------------------------------------------------------- random
 
 pub fn case(maker: &mut Maker) -> String {
-    maker.calm = !maker.random.chance(4);
-    maker.draft = !maker.random.chance(5);
-    maker.answers_head = maker.random.chance(8);
+    let manner = Manner {
+        calm: !maker.random.chance(4),
+        draft: !maker.random.chance(5),
+        answers_head: maker.random.chance(8),
+        ..Manner::default()
+    };
     let framing = maker.random.below(4) as u64;
-    let input = maker.binary_input_of(framing);
+    let input = maker.with(manner, |maker| maker.binary_input_of(framing));
     // Mostly told what the message is.
     let edition = match maker.random.below(30) {
         0 => [2, 3, 255, 256, 257, 65_536, 4_294_967_295][maker.random.below(7)],
-        1..=3 => !maker.draft as u64,
-        _ => maker.draft as u64,
+        1..=3 => !manner.draft as u64,
+        _ => manner.draft as u64,
     };
     let mut options = vec![("edition", edition)];
-    if maker.answers_head {
+    if manner.answers_head {
         options.push(("head", 1));
     }
     if maker.random.chance(8) {
         options.insert(0, ("former", 1));
     }
-    maker.calm = false;
-    maker.draft = false;
-    maker.answers_head = false;
     commands::case(maker, &options, Form::Binary, &input)
 }
 

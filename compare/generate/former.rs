@@ -2,7 +2,7 @@
 
 use crate::commands::{self, Turn};
 use crate::fixed::*;
-use crate::messages::Maker;
+use crate::messages::{Maker, Manner};
 use crate::reference::told::Told;
 use crate::streams;
 use crate::{hex, needed, turn_line};
@@ -14,12 +14,9 @@ pub fn case(maker: &mut Maker) -> String {
     if maker.random.chance(6) {
         return streams::case(maker);
     }
-    maker.calm = true;
-    maker.empty = !maker.random.chance(5);
+    let manner = Manner { calm: true, empty: !maker.random.chance(5), ..Manner::default() };
     let framing = [0, 0, 2, 2, 1][maker.random.below(5)];
-    let input = maker.binary_input_of(framing);
-    maker.calm = false;
-    maker.empty = false;
+    let input = maker.with(manner, |maker| maker.binary_input_of(framing));
     let options = [("former", [0, 1, 1, 2, 256][maker.random.below(5)])];
     let options = if maker.random.chance(3) { &[] } else { &options[..] };
     let told = Told::by(maker.items, options);

@@ -2,7 +2,7 @@
 
 use crate::commands::{self, Form, Options};
 use crate::fixed::*;
-use crate::messages::Maker;
+use crate::messages::{Maker, Manner};
 use crate::reference::message::Scheme;
 use crate::reference::told::Told;
 use crate::reference::writing;
@@ -13,23 +13,20 @@ const YES: [u64; 5] = [1, 2, 256, 65_536, 4_294_967_295];
 // ---------------------------------------------------------------------------------------- random
 
 pub fn case(maker: &mut Maker) -> String {
-    maker.calm = !maker.random.chance(4);
-    maker.answers_head = !maker.random.chance(3);
+    let manner = Manner { calm: !maker.random.chance(4), answers_head: !maker.random.chance(3), ..Manner::default() };
     // Mostly told what the message is.
-    let yes = maker.answers_head != maker.random.chance(8);
+    let yes = manner.answers_head != maker.random.chance(8);
     let number = if yes { YES[maker.random.below(YES.len())] } else { 0 };
     let options = [("head", number)];
     let options: Options = if yes || maker.random.chance(2) { &options } else { &[] };
-    let (form, input) = match maker.random.below(10) {
+    let (form, input) = maker.with(manner, |maker| match maker.random.below(10) {
         0 => (Form::Request(0), maker.request_input()),
         1..=4 => (Form::Response, maker.response_input()),
         _ => {
             let framing = [1, 1, 3, 3, 0, 2][maker.random.below(6)];
             (Form::Binary, maker.binary_input_of(framing))
         }
-    };
-    maker.calm = false;
-    maker.answers_head = false;
+    });
     commands::case(maker, options, form, &input)
 }
 

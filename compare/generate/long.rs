@@ -1,24 +1,23 @@
 //! Cases of item 8: who writes long integers?
 
 use crate::bundles;
-use crate::commands::{self, Form};
+use crate::commands::{self, Form, Options};
 use crate::fixed::*;
 use crate::hex;
-use crate::messages::{push_form, Maker};
+use crate::messages::{push_form, Maker, Manner};
 
 // ---------------------------------------------------------------------------------------- random
 
 pub fn case(maker: &mut Maker) -> String {
-    maker.calm = !maker.random.chance(6);
-    maker.draft = maker.random.chance(6);
-    maker.long_forms = !maker.random.chance(4);
+    let manner = Manner {
+        calm: !maker.random.chance(6),
+        draft: maker.random.chance(6),
+        long_forms: !maker.random.chance(4),
+        ..Manner::default()
+    };
     let framing = maker.random.below(4) as u64;
-    let input = maker.binary_input_of(framing);
-    let options = [("edition", maker.draft as u64)];
-    let options = if maker.draft { &options[..] } else { &[] };
-    maker.calm = false;
-    maker.draft = false;
-    maker.long_forms = false;
+    let input = maker.with(manner, |maker| maker.binary_input_of(framing));
+    let options: Options = if manner.draft { &[("edition", 1)] } else { &[] };
     if maker.random.chance(4) {
         let bundle = bundles::bundle(maker, 20);
         let buffer = [&bundle[..], &vec![0; input.len() + 40]].concat();

@@ -3,24 +3,30 @@
 use crate::reference::items::*;
 use crate::Random;
 
-pub struct Maker {
-    pub random: Random,
-    /// The items of document 02 that the messages may show something of.
-    pub items: Items,
-    /// The response being made answers a HEAD.
-    pub answers_head: bool,
-    /// The response being made has no length line: its content ends with the input.
-    pub without_length: bool,
-    /// The Binary message being made has no content and no trailers that are kept.
-    pub empty: bool,
-    /// The Binary message being made is one of the 2021 draft.
-    pub draft: bool,
-    /// The Binary message being made has many long integers.
-    pub long_forms: bool,
+/// The manner of the messages being made.
+#[derive(Clone, Copy, Default)]
+pub struct Manner {
     /// Most messages valid, for the cases that need accepted ones.
     pub calm: bool,
     /// Short contents and values, many of them looking like the framing of HTTP/1.1: for the lists of `stream`.
     pub small: bool,
+    /// Responses answer a HEAD.
+    pub answers_head: bool,
+    /// Responses in HTTP/1.1 have no length line: their content ends with the input.
+    pub without_length: bool,
+    /// Binary messages have no content and no trailers that are kept.
+    pub empty: bool,
+    /// Binary messages are those of the 2021 draft.
+    pub draft: bool,
+    /// Binary messages have many long integers.
+    pub long_forms: bool,
+}
+
+pub struct Maker {
+    pub random: Random,
+    /// The items of document 02 that the messages may show something of.
+    pub items: Items,
+    manner: Manner,
     /// How many of 1000 decisions go wrong in the message being made.
     pub faults: usize,
     /// The same for those that touch framing and meaning only: lengths, codings, hosts, chunk sizes, trailer names.
@@ -36,7 +42,15 @@ const DROPPED_NAMES: [&str; 5] = ["connection", "keep-alive", "proxy-connection"
 
 impl Maker {
     pub fn new(random: Random, items: Items) -> Maker {
-        Maker { random, items, answers_head: false, without_length: false, empty: false, draft: false, long_forms: false, calm: false, small: false, faults: 0, sharp_faults: 0 }
+        Maker { random, items, manner: Manner::default(), faults: 0, sharp_faults: 0 }
+    }
+
+    /// What is made in this manner.
+    pub fn with<T>(&mut self, manner: Manner, make: impl FnOnce(&mut Maker) -> T) -> T {
+        let before = std::mem::replace(&mut self.manner, manner);
+        let made = make(self);
+        self.manner = before;
+        made
     }
 
     fn bad(&mut self) -> bool {
@@ -49,7 +63,7 @@ impl Maker {
     }
 
     fn choose_faults(&mut self) {
-        let calm = self.calm;
+        let calm = self.manner.calm;
         self.faults = match self.random.below(20) {
             0..=7 => 0,
             8..=14 => if calm { 0 } else { 25 },
@@ -188,7 +202,7 @@ impl Maker {
             return self.random.pick(&bad).to_vec();
         }
         match self.random.below(10) {
-            0 if self.draft => b"v".to_vec(),
+            0 if self.manner.draft => b"v".to_vec(),
             0 => Vec::new(),
             1 => {
                 let size = 1 + self.random.below(30);
@@ -205,7 +219,7 @@ impl Maker {
                 }
                 out
             }
-            2 if !self.small => {
+            2 if !self.manner.small => {
                 let size = [62, 63, 64, 65, 100, 127, 128, 255, 256, 300][self.random.below(10)];
                 vec![b'v'; size]
             }
@@ -239,7 +253,7 @@ impl Maker {
                 if self.items.has(Item::Connection) && self.random.chance(4) {
                     return (b"connection".to_vec(), self.connection_value());
                 }
-                if self.small && self.random.chance(5) {
+                if self.manner.small && self.random.chance(5) {
                     return self.framing_look();
                 }
                 let name = match self.random.below(10) {
@@ -299,7 +313,7 @@ impl Maker {
     }
 
     fn content(&mut self) -> Vec<u8> {
-        if self.small {
+        if self.manner.small {
             return self.framing_content();
         }
         match self.random.below(8) {
@@ -351,7 +365,7 @@ impl Maker {
     }
 
     fn damage(&mut self, bytes: &mut Vec<u8>) {
-        let rare = if self.calm { 5 } else { 1 };
+        let rare = if self.manner.calm { 5 } else { 1 };
         if self.random.below(100) < 15 / rare {
             self.mutate(bytes);
         }
@@ -492,7 +506,7 @@ impl Maker {
 
     /// Whether the length line of this reply would only state a length.
     fn states_length(&self, status: u64) -> bool {
-        self.items.has(Item::Head) && status != 204 && (status == 304 || self.answers_head)
+        self.items.has(Item::Head) && status != 204 && (status == 304 || self.manner.answers_head)
     }
 
     /// A stated length: about 15 digits, at times behind zeros.
@@ -546,7 +560,7 @@ impl Maker {
             };
         }
         let mut text = format!("{:x}", size);
-        if self.random.chance(if self.draft { 40 } else { 5 }) {
+        if self.random.chance(if self.manner.draft { 40 } else { 5 }) {
             let zeros = [1, 3, 15, 16, 19, 39][self.random.below(6)];
             text = format!("{}{}", "0".repeat(zeros), text);
         }
@@ -693,9 +707,10 @@ impl Maker {
         }
         let mut body = Vec::new();
         let bodiless = status == b"204" || status == b"304";
-        if self.states_length(if status == b"204" { 204 } else if status == b"304" { 304 } else { 200 }) {
-            fields.extend(self.stated_fields(self.answers_head));
-        } else if self.without_length && !bodiless {
+        let number = String::from_utf8_lossy(&status).parse().unwrap_or(0);
+        if self.states_length(number) {
+            fields.extend(self.stated_fields(self.manner.answers_head));
+        } else if self.manner.without_length && !bodiless {
             body = self.content();
         } else if bodiless == self.bad_framing() {
             let (framing, bytes) = self.framing(false);
@@ -860,7 +875,7 @@ impl Maker {
 
     fn integer(&mut self, out: &mut Vec<u8>, value: u64) {
         let mut form = if value < 1 << 6 { 0 } else if value < 1 << 14 { 1 } else if value < 1 << 30 { 2 } else { 3 };
-        if self.random.chance(if self.long_forms { 2 } else { 8 }) {
+        if self.random.chance(if self.manner.long_forms { 2 } else { 8 }) {
             form += self.random.below(4 - form);
         }
         push_form(out, value, form);
@@ -974,8 +989,8 @@ impl Maker {
                 fields.push((b"content-length".to_vec(), text.into_bytes()));
             }
         }
-        if self.random.chance(if self.small { 4 } else { 10 }) {
-            let value = if self.small && self.random.chance(2) { b"chunked".to_vec() } else { self.value() };
+        if self.random.chance(if self.manner.small { 4 } else { 10 }) {
+            let value = if self.manner.small && self.random.chance(2) { b"chunked".to_vec() } else { self.value() };
             fields.push((b"transfer-encoding".to_vec(), value));
         }
         fields
@@ -998,7 +1013,7 @@ impl Maker {
         let mut fields = Vec::new();
         let mut content = if self.random.chance(3) { Vec::new() } else { self.content() };
         let mut trailers = if self.random.chance(2) { self.other_fields(3) } else { Vec::new() };
-        if self.empty {
+        if self.manner.empty {
             content.clear();
             trailers.retain(|(name, _)| DROPPED_NAMES.iter().any(|d| d.as_bytes() == &name[..]));
         }
@@ -1080,7 +1095,7 @@ impl Maker {
                 fields.push((b"host".to_vec(), self.value()));
             }
         }
-        if self.draft && self.random.chance(6) {
+        if self.manner.draft && self.random.chance(6) {
             return out;
         }
         fields.extend(self.other_fields(4));
@@ -1101,7 +1116,7 @@ impl Maker {
         }
         self.binary_content(&mut out, &content, known);
         self.binary_section(&mut out, &trailers, known);
-        if self.random.chance(if self.draft { 40 } else { 5 }) {
+        if self.random.chance(if self.manner.draft { 40 } else { 5 }) {
             let zeros = 1 + self.random.below(20);
             out.extend(std::iter::repeat(0).take(zeros));
             if self.bad_framing() {

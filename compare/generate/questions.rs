@@ -2,7 +2,7 @@
 
 use crate::commands::{field_line, Form};
 use crate::fixed::{request_plan, response_plan, Cases, Plan};
-use crate::messages::Maker;
+use crate::messages::{Maker, Manner};
 use crate::{scheme, Random};
 
 fn line(form: Form, name: &[u8], default: &[u8], input: &[u8]) -> String {
@@ -25,14 +25,13 @@ fn name_of(random: &mut Random, input: &[u8]) -> Vec<u8> {
 }
 
 pub fn case(maker: &mut Maker) -> String {
-    maker.calm = !maker.random.chance(3);
+    let manner = Manner { calm: !maker.random.chance(3), ..Manner::default() };
     let form = [Form::Request(scheme(&mut maker.random)), Form::Response, Form::Binary][maker.random.below(3)];
-    let input = match form {
+    let input = maker.with(manner, |maker| match form {
         Form::Request(_) => maker.request_input(),
         Form::Response => maker.response_input(),
         Form::Binary => maker.binary_input(),
-    };
-    maker.calm = false;
+    });
     let random = &mut maker.random;
     let name = match random.below(16) {
         0 => Vec::new(),

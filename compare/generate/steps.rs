@@ -3,7 +3,7 @@
 use crate::commands::request_scheme;
 use crate::fixed::*;
 use crate::hex;
-use crate::messages::Maker;
+use crate::messages::{Maker, Manner};
 
 fn line(scheme: u64, room: usize, input: &[u8]) -> String {
     format!("steps {} {} {}", scheme, room, hex(input))
@@ -12,11 +12,8 @@ fn line(scheme: u64, room: usize, input: &[u8]) -> String {
 // ---------------------------------------------------------------------------------------- random
 
 pub fn case(maker: &mut Maker) -> String {
-    maker.calm = !maker.random.chance(3);
-    maker.small = maker.random.chance(2);
-    let input = if maker.random.chance(10) { maker.stream_input() } else { maker.request_input() };
-    maker.calm = false;
-    maker.small = false;
+    let manner = Manner { calm: !maker.random.chance(3), small: maker.random.chance(2), ..Manner::default() };
+    let input = maker.with(manner, |maker| if maker.random.chance(10) { maker.stream_input() } else { maker.request_input() });
     let room = match maker.random.below(40) {
         0 => [0, 1, 4_096, 8_191][maker.random.below(4)],
         1 => [8_193, 10_000, 65_536][maker.random.below(3)],

@@ -1,7 +1,7 @@
 //! The command `stream`: lists of calls of the HTTP/1.1 writer in one room, and octets behind what they wrote.
 
 use crate::fixed::*;
-use crate::messages::{push_form, Maker};
+use crate::messages::{push_form, Maker, Manner};
 use crate::reference::figures::*;
 use crate::reference::told::Told;
 use crate::{hex, needed, scheme, Turn};
@@ -100,10 +100,8 @@ fn tail(maker: &mut Maker) -> Vec<u8> {
     }
 }
 
-pub fn case(maker: &mut Maker) -> String {
-    let scheme = scheme(&mut maker.random);
-    let told = if scheme < 2 { scheme } else { maker.random.below(2) as u64 };
-    maker.small = true;
+/// The inputs of a list under a scheme, and the octets behind what they write.
+fn list(maker: &mut Maker, told: u64) -> (Vec<Vec<u8>>, Vec<u8>) {
     let count = maker.random.below(7);
     let mut inputs: Vec<Vec<u8>> = Vec::new();
     for _ in 0..count {
@@ -115,8 +113,13 @@ pub fn case(maker: &mut Maker) -> String {
         }
     }
     let tail = if count == 0 || maker.random.chance(30) { maker.stream_input() } else { tail(maker) };
-    maker.small = false;
+    (inputs, tail)
+}
 
+pub fn case(maker: &mut Maker) -> String {
+    let scheme = scheme(&mut maker.random);
+    let told = if scheme < 2 { scheme } else { maker.random.below(2) as u64 };
+    let (inputs, tail) = maker.with(Manner { small: true, ..Manner::default() }, |maker| list(maker, told));
     let sizes = sizes(&Told::nothing(maker.items), scheme, &inputs);
     let total: usize = sizes.iter().sum();
     let random = &mut maker.random;

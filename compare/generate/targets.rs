@@ -3,13 +3,13 @@
 use crate::commands::{self, Form};
 use crate::fixed::*;
 use crate::hex;
-use crate::messages::Maker;
+use crate::messages::{Maker, Manner};
 
 // ---------------------------------------------------------------------------------------- random
 
 pub fn case(maker: &mut Maker) -> String {
-    maker.calm = !maker.random.chance(4);
-    let line = match maker.random.below(12) {
+    let manner = Manner { calm: !maker.random.chance(4), ..Manner::default() };
+    maker.with(manner, |maker| match maker.random.below(12) {
         0..=7 => {
             let input = maker.request_input();
             let scheme = commands::request_scheme(maker, &input);
@@ -21,9 +21,7 @@ pub fn case(maker: &mut Maker) -> String {
             let input = maker.binary_input_of(framing);
             commands::case(maker, &[], Form::Binary, &input)
         }
-    };
-    maker.calm = false;
-    line
+    })
 }
 
 // ---------------------------------------------------------------------------------------- fixed
