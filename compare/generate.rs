@@ -1,24 +1,56 @@
 //! `generate SET COUNT SEED`: command lines of the comparing protocol, for `reference` and `probe` alike.
 //!
-//! SET is `h1`, `binary`, `turn`, `field`, `stream` or `all` (COUNT random cases, the same for the same SEED), or
-//! `fixed` (COUNT and SEED are not used; a further argument `h1`, `binary`, `turn`, `field` or `stream` picks a part).
+//! SET is `h1`, `binary`, `turn`, `field`, `stream` or `all` (COUNT random cases, the same for the same SEED), or the set of
+//! an item of document 02 (see ITEM_SETS), or `fixed` (COUNT and SEED are not used; a further argument picks a set: none gives
+//! those of document 01). `generate --items NUMBER,.. SET ..` tells items that have landed, for the rooms and for what the
+//! random messages show; the set of an item has it and those that land before it besides.
 //!
 //! Build: rustc -O -o target/compare/generate compare/generate.rs
 
 #[path = "generate/binary.rs"]
 mod binary;
+#[path = "generate/bundles.rs"]
+mod bundles;
+#[path = "generate/closed.rs"]
+mod closed;
+#[path = "generate/commands.rs"]
+mod commands;
+#[path = "generate/connections.rs"]
+mod connections;
+#[path = "generate/draft.rs"]
+mod draft;
 #[path = "generate/fixed.rs"]
 mod fixed;
+#[path = "generate/former.rs"]
+mod former;
+#[path = "generate/head.rs"]
+mod head;
+#[path = "generate/long.rs"]
+mod long;
 #[path = "generate/messages.rs"]
 mod messages;
 #[path = "generate/questions.rs"]
 mod questions;
 #[path = "reference/mod.rs"]
 mod reference;
+#[path = "generate/salvage.rs"]
+mod salvage;
+#[path = "generate/steps.rs"]
+mod steps;
 #[path = "generate/streams.rs"]
 mod streams;
+#[path = "generate/sweeps.rs"]
+mod sweeps;
+#[path = "generate/tables.rs"]
+mod tables;
+#[path = "generate/targets.rs"]
+mod targets;
 
-use messages::Maker;
+pub use commands::{needed, turn_line, Turn};
+use fixed::Cases;
+use messages::{Maker, Manner};
+use reference::items::*;
+use reference::told::Told;
 use std::io::{self, BufWriter, Write};
 
 pub struct Random(u64);
@@ -68,44 +100,6 @@ pub fn hex(bytes: &[u8]) -> String {
     out
 }
 
-/// The four forms of turning, and the size each would write for an accepted message.
-#[derive(Clone, Copy)]
-pub enum Turn {
-    RequestToBinary,
-    ResponseToBinary,
-    BinaryToHttp1,
-    BinaryToBinary,
-}
-
-pub fn told(scheme: u64) -> Option<reference::message::Scheme> {
-    match scheme {
-        0 => Some(reference::message::Scheme::Http),
-        1 => Some(reference::message::Scheme::Https),
-        _ => None,
-    }
-}
-
-pub fn needed(turn: Turn, scheme: u64, input: &[u8]) -> Option<usize> {
-    use reference::writing::*;
-    let most = u128::MAX;
-    let outcome = match turn {
-        Turn::RequestToBinary => http1_request_to_binary(input, told(scheme), most),
-        Turn::ResponseToBinary => http1_response_to_binary(input, most),
-        Turn::BinaryToHttp1 => binary_to_http1(input, told(scheme), most),
-        Turn::BinaryToBinary => binary_to_binary(input, most),
-    };
-    outcome.ok().map(|out| out.len())
-}
-
-pub fn turn_line(turn: Turn, scheme: u64, room: usize, input: &[u8]) -> String {
-    match turn {
-        Turn::RequestToBinary => format!("h1req2bin {} {} {}", scheme, room, hex(input)),
-        Turn::ResponseToBinary => format!("h1resp2bin {} {}", room, hex(input)),
-        Turn::BinaryToHttp1 => format!("bin2h1 {} {} {}", scheme, room, hex(input)),
-        Turn::BinaryToBinary => format!("bin2bin {} {}", room, hex(input)),
-    }
-}
-
 pub fn scheme(random: &mut Random) -> u64 {
     // numbers that would be 0 or 1 in a narrower type are among the others
     const OTHERS: [u64; 9] = [2, 3, 7, 10, 255, 256, 257, 65_536, 4_294_967_295];
@@ -135,70 +129,69 @@ fn turn_case(maker: &mut Maker) -> String {
     let turn = [Turn::RequestToBinary, Turn::ResponseToBinary, Turn::BinaryToHttp1, Turn::BinaryToHttp1, Turn::BinaryToBinary]
         [maker.random.below(5)];
     // Few faults here: the readers are met by the other sets, the writers need accepted messages.
-    maker.calm = true;
-    let input = match turn {
+    let input = maker.with(Manner { calm: true, ..Manner::default() }, |maker| match turn {
         Turn::RequestToBinary => maker.request_input(),
         Turn::ResponseToBinary => maker.response_input(),
         _ => maker.binary_input(),
-    };
-    maker.calm = false;
+    });
+    let told = Told::nothing(maker.items);
     let mut scheme = scheme(&mut maker.random);
     // A turning that is refused with 14 tells little: mostly tell the scheme that fits.
     if let Turn::BinaryToHttp1 = turn {
-        if scheme < 2 && needed(turn, scheme, &input).is_none() && !maker.random.chance(4) {
+        if scheme < 2 && needed(&told, turn, scheme, &input).is_none() && !maker.random.chance(4) {
             scheme = 1 - scheme;
         }
     }
-    let random = &mut maker.random;
-    let room = match needed(turn, scheme, &input) {
-        Some(size) => match random.below(10) {
-            0 => 0,
-            1 | 2 => size - 1,
-            3 | 4 => size + 1,
-            5 => size + random.below(300),
-            6 => random.below(size),
-            _ => size,
-        },
-        None => match random.below(3) {
-            0 => 0,
-            1 => random.below(200),
-            _ => 1_000 + random.below(2_000),
-        },
-    };
-    turn_line(turn, scheme, room, &input)
+    let room = commands::room(maker, needed(&told, turn, scheme, &input));
+    turn_line(&[], turn, scheme, room, &input)
 }
 
+/// The set of an item: its name, the item, its random cases and its fixed ones.
+type ItemSet = (&'static str, Item, fn(&mut Maker) -> String, fn(&mut Cases));
+
+const ITEM_SETS: [ItemSet; 12] = [
+    ("head", Item::Head, head::case, head::cases),
+    ("bundle", Item::Bundle, bundles::case, bundles::cases),
+    ("salvage", Item::Salvage, salvage::case, salvage::cases),
+    ("closed", Item::Closed, closed::case, closed::cases),
+    ("former", Item::Former, former::case, former::cases),
+    ("draft", Item::Draft, draft::case, draft::cases),
+    ("long", Item::Long, long::case, long::cases),
+    ("target", Item::Target, targets::case, targets::cases),
+    ("connection", Item::Connection, connections::case, connections::cases),
+    ("table", Item::Table, tables::case, tables::cases),
+    ("sweep", Item::Sweep, sweeps::case, sweeps::cases),
+    ("steps", Item::Steps, steps::case, steps::cases),
+];
+
 fn usage() -> ! {
-    eprintln!("usage: generate h1|binary|turn|field|stream|all COUNT SEED | generate fixed 0 0 [h1|binary|turn|field|stream]");
+    let names: String = ITEM_SETS.iter().map(|(name, ..)| format!("|{name}")).collect();
+    eprintln!("usage: generate [--items NUMBER,..] h1|binary|turn|field|stream|all{names} COUNT SEED");
+    eprintln!("       generate [--items NUMBER,..] fixed 0 0 [h1|binary|turn|field|stream{names}]");
     std::process::exit(2);
 }
 
-fn main() {
-    let arguments: Vec<String> = std::env::args().skip(1).collect();
-    if arguments.len() < 3 {
+/// The fixed cases of one set; of all sets of document 01 where none is named.
+fn fixed_cases(items: Items, set: Option<&str>) -> Vec<String> {
+    if let Some((_, item, _, cases)) = ITEM_SETS.iter().find(|(name, ..)| Some(*name) == set) {
+        let mut out = Cases::new(items.or(Items::up_to(*item)));
+        cases(&mut out);
+        return out.lines;
+    }
+    if !matches!(set, None | Some("h1" | "binary" | "turn" | "field" | "stream")) {
         usage();
     }
-    let count: u64 = arguments[1].parse().unwrap_or_else(|_| usage());
-    let seed: u64 = arguments[2].parse().unwrap_or_else(|_| usage());
-    let mut out = BufWriter::with_capacity(1 << 18, io::stdout());
+    let mut lines = fixed::cases(items);
+    lines.retain(|line| set.is_none() || set == Some(part_of(line)));
+    lines
+}
 
-    if arguments[0] == "fixed" {
-        let part = arguments.get(3).map(|s| s.as_str());
-        if !matches!(part, None | Some("h1" | "binary" | "turn" | "field" | "stream")) {
-            usage();
-        }
-        for line in fixed::cases() {
-            if part.is_none() || part == Some(part_of(&line)) {
-                if writeln!(out, "{}", line).is_err() {
-                    return;
-                }
-            }
-        }
-        let _ = out.flush();
-        return;
+/// What makes the random cases of a set, and the items it makes them under.
+fn random_cases(items: Items, set: &str) -> (fn(&mut Maker) -> String, Items) {
+    if let Some((_, item, case, _)) = ITEM_SETS.iter().find(|(name, ..)| *name == set) {
+        return (*case, items.or(Items::up_to(*item)));
     }
-
-    let case: fn(&mut Maker) -> String = match arguments[0].as_str() {
+    let case: fn(&mut Maker) -> String = match set {
         "h1" => h1_case,
         "binary" => binary_case,
         "turn" => turn_case,
@@ -213,14 +206,37 @@ fn main() {
         },
         _ => usage(),
     };
-    let mut maker = Maker::new(Random::new(seed));
-    for _ in 0..count {
-        let line = case(&mut maker);
-        if writeln!(out, "{}", line).is_err() {
-            return;
-        }
+    (case, items)
+}
+
+fn print(lines: impl Iterator<Item = String>) -> io::Result<()> {
+    let mut out = BufWriter::with_capacity(1 << 18, io::stdout());
+    for line in lines {
+        writeln!(out, "{}", line)?;
     }
-    let _ = out.flush();
+    out.flush()
+}
+
+fn main() {
+    let arguments: Vec<String> = std::env::args().skip(1).collect();
+    let mut words: Vec<&str> = arguments.iter().map(|word| word.as_str()).collect();
+    let mut items = Items::none();
+    if let ["--items", list, ..] = words[..] {
+        items = Items::parse(list).unwrap_or_else(|| usage());
+        words.drain(..2);
+    }
+    let [set, count, seed, part @ ..] = &words[..] else { usage() };
+    let count: u64 = count.parse().unwrap_or_else(|_| usage());
+    let seed: u64 = seed.parse().unwrap_or_else(|_| usage());
+
+    // What reads the lines may close early.
+    let _ = if *set == "fixed" {
+        print(fixed_cases(items, part.first().copied()).into_iter())
+    } else {
+        let (case, items) = random_cases(items, set);
+        let mut maker = Maker::new(Random::new(seed), items);
+        print((0..count).map(|_| case(&mut maker)))
+    };
 }
 
 /// The set a command belongs to.

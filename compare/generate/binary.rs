@@ -21,10 +21,6 @@ pub fn cases(out: &mut Cases) {
     rooms(out);
 }
 
-fn pair(name: &str, value: &str) -> (Vec<u8>, Vec<u8>) {
-    (name.as_bytes().to_vec(), value.as_bytes().to_vec())
-}
-
 fn encode(plan: &Plan, known: bool) -> Vec<u8> {
     if known {
         plan.known()
@@ -37,8 +33,8 @@ fn encode(plan: &Plan, known: bool) -> Vec<u8> {
 fn read_and_turn(out: &mut Cases, input: &[u8]) {
     out.push(format!("bin {}", hex(input)));
     for turn in [Turn::BinaryToHttp1, Turn::BinaryToBinary] {
-        let room = needed(turn, 0, input).unwrap_or(500);
-        out.push(turn_line(turn, 0, room, input));
+        let room = needed(&out.told(), turn, 0, input).unwrap_or(500);
+        out.push(turn_line(&[], turn, 0, room, input));
     }
 }
 
@@ -452,7 +448,7 @@ fn more_truncations(out: &mut Cases) {
     ] {
         let input = [text.as_bytes(), b"\r\n"].concat();
         for cut in 0..=input.len() {
-            out.push(turn_line(turn, scheme, 400, &input[..cut]));
+            out.push(turn_line(&[], turn, scheme, 400, &input[..cut]));
         }
     }
 }
@@ -502,9 +498,9 @@ fn rooms(out: &mut Cases) {
         list.push((Turn::BinaryToBinary, 0, input));
     }
     for (turn, scheme, input) in list {
-        let size = needed(turn, scheme, &input).unwrap_or(0);
+        let size = needed(&out.told(), turn, scheme, &input).unwrap_or(0);
         for room in 0..=size + 2 {
-            out.push(turn_line(turn, scheme, room, &input));
+            out.push(turn_line(&[], turn, scheme, room, &input));
         }
     }
     // the largest of each turning
@@ -525,9 +521,9 @@ fn rooms(out: &mut Cases) {
         list.push((Turn::BinaryToBinary, input));
     }
     for (turn, input) in list {
-        let size = needed(turn, 0, &input).unwrap_or(0);
+        let size = needed(&out.told(), turn, 0, &input).unwrap_or(0);
         for room in [0, 1, 64, size / 2, size.saturating_sub(1), size, size + 1, size + 1_000] {
-            out.push(turn_line(turn, 0, room, &input));
+            out.push(turn_line(&[], turn, 0, room, &input));
         }
     }
 }

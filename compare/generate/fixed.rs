@@ -5,14 +5,16 @@ use crate::binary;
 use crate::messages::push_form;
 use crate::questions;
 use crate::reference::figures::*;
+use crate::reference::items::Items;
+use crate::reference::told::Told;
 use crate::streams;
 use crate::{hex, needed, turn_line, Turn};
 
 pub const A: &[u8] = b"POST /s HTTP/1.1\r\nHost: a\r\nContent-Length: 3\r\n\r\nabc";
 pub const P5: &str = "0004504f535404687474700161022f73000361626300";
 
-pub fn cases() -> Vec<String> {
-    let mut out = Cases { lines: Vec::new() };
+pub fn cases(items: Items) -> Vec<String> {
+    let mut out = Cases::new(items);
     figures(&mut out);
     examples(&mut out);
     http1_sizes(&mut out);
@@ -38,22 +40,33 @@ pub fn unhex(text: &str) -> Vec<u8> {
 
 pub struct Cases {
     pub lines: Vec<String>,
+    /// The items that have landed: the rooms of turnings are made by them.
+    pub items: Items,
 }
 
 impl Cases {
+    pub fn new(items: Items) -> Cases {
+        Cases { lines: Vec::new(), items }
+    }
+
+    /// What a call without options is told.
+    pub fn told(&self) -> Told {
+        Told::nothing(self.items)
+    }
+
     pub fn push(&mut self, line: String) {
         self.lines.push(line);
     }
 
     /// A turning with rooms around what it needs.
     pub fn turn(&mut self, turn: Turn, scheme: u64, input: &[u8]) {
-        let rooms = match needed(turn, scheme, input) {
+        let rooms = match needed(&self.told(), turn, scheme, input) {
             Some(size) if size > 10_000 => vec![size - 1, size],
             Some(size) => vec![0, 1, size - 1, size, size + 1, size + 100],
             None => vec![0, 300],
         };
         for room in rooms {
-            self.push(turn_line(turn, scheme, room, input));
+            self.push(turn_line(&[], turn, scheme, room, input));
         }
     }
 
@@ -153,6 +166,10 @@ pub fn empty_fields(count: usize) -> Vec<(Vec<u8>, Vec<u8>)> {
 
 pub fn field(name: &str, size: usize) -> (Vec<u8>, Vec<u8>) {
     (name.as_bytes().to_vec(), vec![b'v'; size])
+}
+
+pub fn pair(name: &str, value: &str) -> (Vec<u8>, Vec<u8>) {
+    (name.as_bytes().to_vec(), value.as_bytes().to_vec())
 }
 
 impl Plan {
@@ -626,7 +643,6 @@ const RESPONSES: [&str; 10] = [
 ];
 
 fn binary_samples() -> Vec<Vec<u8>> {
-    let pair = |name: &str, value: &str| (name.as_bytes().to_vec(), value.as_bytes().to_vec());
     let request = Plan {
         method: b"POST".to_vec(),
         authority: b"a".to_vec(),

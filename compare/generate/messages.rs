@@ -1,13 +1,32 @@
 //! Random messages of both forms: valid, damaged and hostile.
 
+use crate::reference::items::*;
 use crate::Random;
 
-pub struct Maker {
-    pub random: Random,
+/// The manner of the messages being made.
+#[derive(Clone, Copy, Default)]
+pub struct Manner {
     /// Most messages valid, for the cases that need accepted ones.
     pub calm: bool,
     /// Short contents and values, many of them looking like the framing of HTTP/1.1: for the lists of `stream`.
     pub small: bool,
+    /// Responses answer a HEAD.
+    pub answers_head: bool,
+    /// Responses in HTTP/1.1 have no length line: their content ends with the input.
+    pub without_length: bool,
+    /// Binary messages have no content and no trailers that are kept.
+    pub empty: bool,
+    /// Binary messages are those of the 2021 draft.
+    pub draft: bool,
+    /// Binary messages have many long integers.
+    pub long_forms: bool,
+}
+
+pub struct Maker {
+    pub random: Random,
+    /// The items of document 02 that the messages may show something of.
+    pub items: Items,
+    manner: Manner,
     /// How many of 1000 decisions go wrong in the message being made.
     pub faults: usize,
     /// The same for those that touch framing and meaning only: lengths, codings, hosts, chunk sizes, trailer names.
@@ -22,8 +41,16 @@ const COMMON_NAMES: [&str; 12] = [
 const DROPPED_NAMES: [&str; 5] = ["connection", "keep-alive", "proxy-connection", "te", "upgrade"];
 
 impl Maker {
-    pub fn new(random: Random) -> Maker {
-        Maker { random, calm: false, small: false, faults: 0, sharp_faults: 0 }
+    pub fn new(random: Random, items: Items) -> Maker {
+        Maker { random, items, manner: Manner::default(), faults: 0, sharp_faults: 0 }
+    }
+
+    /// What is made in this manner.
+    pub fn with<T>(&mut self, manner: Manner, make: impl FnOnce(&mut Maker) -> T) -> T {
+        let before = std::mem::replace(&mut self.manner, manner);
+        let made = make(self);
+        self.manner = before;
+        made
     }
 
     fn bad(&mut self) -> bool {
@@ -36,7 +63,7 @@ impl Maker {
     }
 
     fn choose_faults(&mut self) {
-        let calm = self.calm;
+        let calm = self.manner.calm;
         self.faults = match self.random.below(20) {
             0..=7 => 0,
             8..=14 => if calm { 0 } else { 25 },
@@ -85,6 +112,12 @@ impl Maker {
             ];
             return self.random.pick(&bad).to_vec();
         }
+        if self.items.has(Item::Target) && self.random.chance(5) {
+            return b"OPTIONS".to_vec();
+        }
+        if self.items.has(Item::Head) && self.random.chance(5) {
+            return b"HEAD".to_vec();
+        }
         match self.random.below(10) {
             0 => self.token(32),
             1 => self.random.pick(&["head", "connect", "HEADS", "Connect", "HEA", "M-SEARCH", "A", "MMMMMMMMMMMMMMMMMMMMMMMMMMMMMMMM"]).as_bytes().to_vec(),
@@ -92,7 +125,36 @@ impl Maker {
         }
     }
 
+    /// A target in absolute-form, or nearly so.
+    fn absolute_target(&mut self) -> Vec<u8> {
+        let scheme = self.random.pick(&["http://", "http://", "https://", "HTTP://", "hTtPs://", "http://"]);
+        let scheme = if self.bad() { self.random.pick(&["http:/", "http:", "ftp://", "httpx://", "//"]) } else { scheme };
+        let authority = if self.bad() { self.bad_authority() } else { self.authority() };
+        let rest = match self.random.below(5) {
+            0 => Vec::new(),
+            1 => b"?q=/r".to_vec(),
+            2 => b"?".to_vec(),
+            _ => self.origin_path(),
+        };
+        [scheme.as_bytes(), &authority, &rest].concat()
+    }
+
+    /// The target of a request line.
+    fn target(&mut self) -> Vec<u8> {
+        if self.items.has(Item::Target) && !self.random.chance(3) {
+            return self.absolute_target();
+        }
+        self.path()
+    }
+
     fn path(&mut self) -> Vec<u8> {
+        if self.items.has(Item::Target) && self.random.chance(10) {
+            return self.random.pick(&["*", "*", "*", "*x", "**"]).as_bytes().to_vec();
+        }
+        self.origin_path()
+    }
+
+    fn origin_path(&mut self) -> Vec<u8> {
         if self.bad() {
             let bad: [&[u8]; 14] = [
                 b"", b"*", b"s", b"http://a/s", b"/a#b", b"#", b"/a\x7f", b"/\x80", b"/a\tb", b"/a\x00", b"?q", b"\\", b"/a\x1f", b"/a\xff",
@@ -140,6 +202,7 @@ impl Maker {
             return self.random.pick(&bad).to_vec();
         }
         match self.random.below(10) {
+            0 if self.manner.draft => b"v".to_vec(),
             0 => Vec::new(),
             1 => {
                 let size = 1 + self.random.below(30);
@@ -156,7 +219,7 @@ impl Maker {
                 }
                 out
             }
-            2 if !self.small => {
+            2 if !self.manner.small => {
                 let size = [62, 63, 64, 65, 100, 127, 128, 255, 256, 300][self.random.below(10)];
                 vec![b'v'; size]
             }
@@ -164,11 +227,33 @@ impl Maker {
         }
     }
 
+    /// A list of names, most of them of fields that messages have.
+    fn connection_value(&mut self) -> Vec<u8> {
+        let mut out = Vec::new();
+        let count = 1 + self.random.below(4);
+        for i in 0..count {
+            if i > 0 {
+                out.extend_from_slice(self.random.pick(&[",", ", ", " ,", "\t,  ", ",,"]).as_bytes());
+            }
+            let member = match self.random.below(12) {
+                0 => self.random.pick(&["close", "keep-alive", "host", "content-length", "transfer-encoding", "connection"]).as_bytes().to_vec(),
+                1 => self.random.pick(&["\"a\"", "a b", "x-a;q", "(b)", "\u{e9}", "a=b"]).as_bytes().to_vec(),
+                2 => self.token(6),
+                _ => self.common_name().as_bytes().to_vec(),
+            };
+            out.extend(self.mixed_case(&member));
+        }
+        out
+    }
+
     fn other_fields(&mut self, most: usize) -> Vec<Pair> {
         let count = self.random.below(most + 1);
         (0..count)
             .map(|_| {
-                if self.small && self.random.chance(5) {
+                if self.items.has(Item::Connection) && self.random.chance(4) {
+                    return (b"connection".to_vec(), self.connection_value());
+                }
+                if self.manner.small && self.random.chance(5) {
                     return self.framing_look();
                 }
                 let name = match self.random.below(10) {
@@ -228,7 +313,7 @@ impl Maker {
     }
 
     fn content(&mut self) -> Vec<u8> {
-        if self.small {
+        if self.manner.small {
             return self.framing_content();
         }
         match self.random.below(8) {
@@ -280,7 +365,7 @@ impl Maker {
     }
 
     fn damage(&mut self, bytes: &mut Vec<u8>) {
-        let rare = if self.calm { 5 } else { 1 };
+        let rare = if self.manner.calm { 5 } else { 1 };
         if self.random.below(100) < 15 / rare {
             self.mutate(bytes);
         }
@@ -419,6 +504,40 @@ impl Maker {
         (fields, body)
     }
 
+    /// Whether the length line of this reply would only state a length.
+    fn states_length(&self, status: u64) -> bool {
+        self.items.has(Item::Head) && status != 204 && (status == 304 || self.manner.answers_head)
+    }
+
+    /// A stated length: about 15 digits, at times behind zeros.
+    fn stated_digits(&mut self) -> String {
+        let count = [1, 1, 2, 5, 14, 15, 15][self.random.below(7)] + if self.bad_framing() { 1 } else { 0 };
+        let digits: String = (0..count).map(|i| char::from(b'0' + self.random.below(10) as u8).max(if i == 0 { '1' } else { '0' })).collect();
+        let zeros = if self.random.chance(4) { 1 + self.random.below(20) } else { 0 };
+        format!("{}{}", "0".repeat(zeros), digits)
+    }
+
+    /// The length lines of a reply without content.
+    fn stated_fields(&mut self, may_be_chunked: bool) -> Vec<Pair> {
+        let chunked = (b"transfer-encoding".to_vec(), self.mixed_case(b"chunked"));
+        let mut fields = match self.random.below(6) {
+            0 => Vec::new(),
+            1 if may_be_chunked => vec![chunked.clone()],
+            2 => vec![(b"content-length".to_vec(), b"000".to_vec())],
+            _ => vec![(b"content-length".to_vec(), self.stated_digits().into_bytes())],
+        };
+        if self.bad_framing() {
+            let more: [Pair; 4] = [
+                chunked,
+                (b"content-length".to_vec(), b"5".to_vec()),
+                (b"transfer-encoding".to_vec(), b"gzip".to_vec()),
+                (b"content-length".to_vec(), b"1234567890123456x".to_vec()),
+            ];
+            fields.push(more[self.random.below(4)].clone());
+        }
+        fields
+    }
+
     fn chunk_size(&mut self, size: usize) -> String {
         if self.bad_framing() {
             return match self.random.below(16) {
@@ -441,7 +560,7 @@ impl Maker {
             };
         }
         let mut text = format!("{:x}", size);
-        if self.random.chance(5) {
+        if self.random.chance(if self.manner.draft { 40 } else { 5 }) {
             let zeros = [1, 3, 15, 16, 19, 39][self.random.below(6)];
             text = format!("{}{}", "0".repeat(zeros), text);
         }
@@ -501,7 +620,7 @@ impl Maker {
         }
         out.extend_from_slice(&self.method());
         out.extend_from_slice(self.space());
-        out.extend_from_slice(&self.path());
+        out.extend_from_slice(&self.target());
         out.extend_from_slice(self.space());
         out.extend_from_slice(self.version());
         out.extend_from_slice(self.line_end());
@@ -588,7 +707,12 @@ impl Maker {
         }
         let mut body = Vec::new();
         let bodiless = status == b"204" || status == b"304";
-        if bodiless == self.bad_framing() {
+        let number = String::from_utf8_lossy(&status).parse().unwrap_or(0);
+        if self.states_length(number) {
+            fields.extend(self.stated_fields(self.manner.answers_head));
+        } else if self.manner.without_length && !bodiless {
+            body = self.content();
+        } else if bodiless == self.bad_framing() {
             let (framing, bytes) = self.framing(false);
             fields.extend(framing);
             body = bytes;
@@ -618,20 +742,14 @@ impl Maker {
         self.choose_faults();
         let mut out = if self.random.chance(80) { self.big_http1(true) } else { self.request() };
         self.behind(&mut out);
-        if out.len() < 5_000 || self.random.chance(4) {
-            self.damage(&mut out);
-        }
-        out
+        self.damaged_at_times(out)
     }
 
     pub fn response_input(&mut self) -> Vec<u8> {
         self.choose_faults();
         let mut out = if self.random.chance(80) { self.big_http1(false) } else { self.response() };
         self.behind(&mut out);
-        if out.len() < 5_000 || self.random.chance(4) {
-            self.damage(&mut out);
-        }
-        out
+        self.damaged_at_times(out)
     }
 
     pub fn stream_input(&mut self) -> Vec<u8> {
@@ -757,7 +875,7 @@ impl Maker {
 
     fn integer(&mut self, out: &mut Vec<u8>, value: u64) {
         let mut form = if value < 1 << 6 { 0 } else if value < 1 << 14 { 1 } else if value < 1 << 30 { 2 } else { 3 };
-        if self.random.chance(8) {
+        if self.random.chance(if self.manner.long_forms { 2 } else { 8 }) {
             form += self.random.below(4 - form);
         }
         push_form(out, value, form);
@@ -871,8 +989,8 @@ impl Maker {
                 fields.push((b"content-length".to_vec(), text.into_bytes()));
             }
         }
-        if self.random.chance(if self.small { 4 } else { 10 }) {
-            let value = if self.small && self.random.chance(2) { b"chunked".to_vec() } else { self.value() };
+        if self.random.chance(if self.manner.small { 4 } else { 10 }) {
+            let value = if self.manner.small && self.random.chance(2) { b"chunked".to_vec() } else { self.value() };
             fields.push((b"transfer-encoding".to_vec(), value));
         }
         fields
@@ -895,6 +1013,10 @@ impl Maker {
         let mut fields = Vec::new();
         let mut content = if self.random.chance(3) { Vec::new() } else { self.content() };
         let mut trailers = if self.random.chance(2) { self.other_fields(3) } else { Vec::new() };
+        if self.manner.empty {
+            content.clear();
+            trailers.retain(|(name, _)| DROPPED_NAMES.iter().any(|d| d.as_bytes() == &name[..]));
+        }
         if request {
             let method = self.method();
             self.string(&mut out, &method);
@@ -954,7 +1076,11 @@ impl Maker {
             }
             let status = self.binary_status(false);
             self.integer(&mut out, status);
-            if (status == 204 || status == 304) && !self.bad_framing() {
+            if self.states_length(status) && !self.bad_framing() {
+                content.clear();
+                trailers.clear();
+                fields.extend(self.stated_fields(true));
+            } else if (status == 204 || status == 304) && !self.bad_framing() {
                 content.clear();
                 if !self.bad_framing() {
                     trailers.retain(|(name, _)| DROPPED_NAMES.iter().any(|d| d.as_bytes() == &name[..]));
@@ -968,6 +1094,9 @@ impl Maker {
             if self.random.chance(8) {
                 fields.push((b"host".to_vec(), self.value()));
             }
+        }
+        if self.manner.draft && self.random.chance(6) {
+            return out;
         }
         fields.extend(self.other_fields(4));
         self.shuffle(&mut fields);
@@ -987,7 +1116,7 @@ impl Maker {
         }
         self.binary_content(&mut out, &content, known);
         self.binary_section(&mut out, &trailers, known);
-        if self.random.chance(5) {
+        if self.random.chance(if self.manner.draft { 40 } else { 5 }) {
             let zeros = 1 + self.random.below(20);
             out.extend(std::iter::repeat(0).take(zeros));
             if self.bad_framing() {
@@ -1016,7 +1145,18 @@ impl Maker {
 
     pub fn binary_input(&mut self) -> Vec<u8> {
         self.choose_faults();
-        let mut out = if self.random.chance(60) { self.big_binary() } else { self.binary() };
+        let out = if self.random.chance(60) { self.big_binary() } else { self.binary() };
+        self.damaged_at_times(out)
+    }
+
+    /// A message of this framing, damaged at times.
+    pub fn binary_input_of(&mut self, framing: u64) -> Vec<u8> {
+        self.choose_faults();
+        let out = self.binary_of(framing, None);
+        self.damaged_at_times(out)
+    }
+
+    fn damaged_at_times(&mut self, mut out: Vec<u8>) -> Vec<u8> {
         if out.len() < 5_000 || self.random.chance(4) {
             self.damage(&mut out);
         }

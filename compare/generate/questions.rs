@@ -1,23 +1,12 @@
 //! Random and fixed cases of the field question.
 
+use crate::commands::{field_line, Form};
 use crate::fixed::{request_plan, response_plan, Cases, Plan};
-use crate::messages::Maker;
-use crate::{hex, scheme, Random};
-
-#[derive(Clone, Copy)]
-enum Form {
-    Request(u64),
-    Response,
-    Binary,
-}
+use crate::messages::{Maker, Manner};
+use crate::{scheme, Random};
 
 fn line(form: Form, name: &[u8], default: &[u8], input: &[u8]) -> String {
-    let words = format!("{} {} {}", hex(name), hex(default), hex(input));
-    match form {
-        Form::Request(scheme) => format!("field_h1req {} {}", scheme, words),
-        Form::Response => format!("field_h1resp {}", words),
-        Form::Binary => format!("field_bin {}", words),
-    }
+    field_line(&[], form, name, default, input)
 }
 
 // ---------------------------------------------------------------------------------------- random
@@ -36,14 +25,13 @@ fn name_of(random: &mut Random, input: &[u8]) -> Vec<u8> {
 }
 
 pub fn case(maker: &mut Maker) -> String {
-    maker.calm = !maker.random.chance(3);
+    let manner = Manner { calm: !maker.random.chance(3), ..Manner::default() };
     let form = [Form::Request(scheme(&mut maker.random)), Form::Response, Form::Binary][maker.random.below(3)];
-    let input = match form {
+    let input = maker.with(manner, |maker| match form {
         Form::Request(_) => maker.request_input(),
         Form::Response => maker.response_input(),
         Form::Binary => maker.binary_input(),
-    };
-    maker.calm = false;
+    });
     let random = &mut maker.random;
     let name = match random.below(16) {
         0 => Vec::new(),

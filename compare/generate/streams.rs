@@ -1,8 +1,9 @@
 //! The command `stream`: lists of calls of the HTTP/1.1 writer in one room, and octets behind what they wrote.
 
 use crate::fixed::*;
-use crate::messages::{push_form, Maker};
+use crate::messages::{push_form, Maker, Manner};
 use crate::reference::figures::*;
+use crate::reference::told::Told;
 use crate::{hex, needed, scheme, Turn};
 
 fn line(scheme: u64, room: usize, tail: &[u8], inputs: &[Vec<u8>]) -> String {
@@ -15,8 +16,8 @@ fn line(scheme: u64, room: usize, tail: &[u8], inputs: &[Vec<u8>]) -> String {
 }
 
 /// What the calls write that are not refused in any room, one size for each.
-fn sizes(scheme: u64, inputs: &[Vec<u8>]) -> Vec<usize> {
-    inputs.iter().filter_map(|input| needed(Turn::BinaryToHttp1, scheme, input)).collect()
+fn sizes(told: &Told, scheme: u64, inputs: &[Vec<u8>]) -> Vec<usize> {
+    inputs.iter().filter_map(|input| needed(told, Turn::BinaryToHttp1, scheme, input)).collect()
 }
 
 // ---------------------------------------------------------------------------------------- random cases
@@ -99,10 +100,8 @@ fn tail(maker: &mut Maker) -> Vec<u8> {
     }
 }
 
-pub fn case(maker: &mut Maker) -> String {
-    let scheme = scheme(&mut maker.random);
-    let told = if scheme < 2 { scheme } else { maker.random.below(2) as u64 };
-    maker.small = true;
+/// The inputs of a list under a scheme, and the octets behind what they write.
+fn list(maker: &mut Maker, told: u64) -> (Vec<Vec<u8>>, Vec<u8>) {
     let count = maker.random.below(7);
     let mut inputs: Vec<Vec<u8>> = Vec::new();
     for _ in 0..count {
@@ -114,9 +113,14 @@ pub fn case(maker: &mut Maker) -> String {
         }
     }
     let tail = if count == 0 || maker.random.chance(30) { maker.stream_input() } else { tail(maker) };
-    maker.small = false;
+    (inputs, tail)
+}
 
-    let sizes = sizes(scheme, &inputs);
+pub fn case(maker: &mut Maker) -> String {
+    let scheme = scheme(&mut maker.random);
+    let told = if scheme < 2 { scheme } else { maker.random.below(2) as u64 };
+    let (inputs, tail) = maker.with(Manner { small: true, ..Manner::default() }, |maker| list(maker, told));
+    let sizes = sizes(&Told::nothing(maker.items), scheme, &inputs);
     let total: usize = sizes.iter().sum();
     let random = &mut maker.random;
     let room = match random.below(16) {
@@ -138,10 +142,6 @@ pub fn case(maker: &mut Maker) -> String {
 }
 
 // ---------------------------------------------------------------------------------------- fixed cases
-
-fn pair(name: &str, value: &str) -> (Vec<u8>, Vec<u8>) {
-    (name.as_bytes().to_vec(), value.as_bytes().to_vec())
-}
 
 fn post(content: &str) -> Plan {
     Plan { method: b"POST".to_vec(), path: b"/s".to_vec(), chunks: vec![content.as_bytes().to_vec()], ..request_plan() }
@@ -223,7 +223,7 @@ pub fn cases(out: &mut Cases) {
     for first in &all {
         for second in &all {
             let inputs = [first.to_vec(), second.to_vec()];
-            let sizes = sizes(0, &inputs);
+            let sizes = sizes(&out.told(), 0, &inputs);
             let total: usize = sizes.iter().sum();
             let mut rooms = vec![0, total.saturating_sub(1), total, total + 1];
             if let [first, second] = sizes[..] {
@@ -241,7 +241,7 @@ pub fn cases(out: &mut Cases) {
     let six = [written[1].clone(), others[0].clone(), written[0].clone(), written[1].clone(), others[4].clone(), written[9].clone()];
     let responses = [written[1].clone(), others[15].clone(), others[16].clone(), written[1].clone()];
     for list in [&three[..], &six[..], &responses[..]] {
-        let total: usize = sizes(0, list).iter().sum();
+        let total: usize = sizes(&out.told(), 0, list).iter().sum();
         for room in 0..=total + 2 {
             out.push(line(0, room, b"GET", list));
         }
@@ -251,7 +251,7 @@ pub fn cases(out: &mut Cases) {
         let forwards: Vec<Vec<u8>> = (0..6).map(|i| written[(step + i) % written.len()].clone()).collect();
         let backwards: Vec<Vec<u8>> = forwards.iter().rev().cloned().collect();
         for list in [forwards, backwards] {
-            let sizes = sizes(0, &list);
+            let sizes = sizes(&out.told(), 0, &list);
             let mut room = 0;
             for size in &sizes {
                 room += size;
@@ -335,7 +335,7 @@ fn large(out: &mut Cases) {
     let plans = [head(8_192), head(8_193), trailer(2_048), trailer(2_049), lines(62), lines(63)];
     for known in [true, false] {
         let list: Vec<Vec<u8>> = plans.iter().map(|plan| if known { plan.known() } else { plan.indeterminate() }).collect();
-        let total: usize = sizes(0, &list).iter().sum();
+        let total: usize = sizes(&out.told(), 0, &list).iter().sum();
         for tail in &tails {
             for room in [0, 8_191, 8_192, total - 1, total, 70_000] {
                 out.push(line(0, room, tail, &list));
@@ -346,7 +346,7 @@ fn large(out: &mut Cases) {
     let full = content(32_768);
     let chunked = Plan { trailers: vec![pair("t", "u")], ..full.clone() };
     let list = vec![full.known(), full.indeterminate(), content(32_769).known(), chunked.known(), content(32_769).indeterminate(), chunked.indeterminate()];
-    let total: usize = sizes(0, &list).iter().sum();
+    let total: usize = sizes(&out.told(), 0, &list).iter().sum();
     for room in [0, total - 1, total, total + 1] {
         out.push(line(0, room, b"GET / HTTP/1.1\r\nhost: a\r\n\r\n", &list));
     }

@@ -1,7 +1,10 @@
 //! The reader of HTTP/1.1 requests and responses: the first message of a stream.
 
+use super::items::Item;
 use super::message::*;
 use super::octets::*;
+use super::target::{judge_target, Target};
+use super::told::Told;
 
 /// A line without its CRLF: input[start..end]; the next one begins at `next`.
 struct Line {
@@ -81,8 +84,9 @@ fn field_section(input: &[u8], start: usize, allowed: usize) -> Result<(Vec<Fiel
 /// How the content is framed.
 enum Framing {
     Absent,
-    Length { number: u128, line: usize },
+    Length(Field),
     Chunked,
+    UntilClosed { closed: bool },
 }
 
 /// "At most one Content-Length line, ... At most one Transfer-Encoding line, its value `chunked` in any case of
@@ -95,7 +99,7 @@ fn framing(input: &[u8], fields: &[Field], after: usize) -> Result<Framing, Refu
     }
     if let Some(field) = lengths.first() {
         return match decimal(field.value.of(input)) {
-            Some(number) => Ok(Framing::Length { number, line: field.line }),
+            Some(_) => Ok(Framing::Length((*field).clone())),
             None => refuse(LENGTH, after),
         };
     }
@@ -116,20 +120,33 @@ fn has_framing(fields: &[Field]) -> bool {
 fn body(input: &[u8], at: usize, framing: Framing) -> Result<(Vec<Span>, Vec<Field>, usize), Refusal> {
     match framing {
         Framing::Absent => Ok((Vec::new(), Vec::new(), at)),
-        Framing::Length { number, line } => {
+        Framing::Length(field) => {
             // "then content size 8 at its line"
-            if number > CONTENT_MOST as u128 {
-                return refuse(SIZE, line);
-            }
-            let size = number as usize;
+            let size = match decimal(field.value.of(input)) {
+                Some(number) if number <= CONTENT_MOST as u128 => number as usize,
+                _ => return refuse(SIZE, field.line),
+            };
             if input.len() - at < size {
                 return refuse(MORE, input.len());
             }
-            let chunks = if size == 0 { Vec::new() } else { vec![Span { start: at, len: size }] };
-            Ok((chunks, Vec::new(), at + size))
+            Ok((one_chunk(at, size), Vec::new(), at + size))
         }
         Framing::Chunked => chunked(input, at),
+        Framing::UntilClosed { closed } => until_closed(input, at, closed),
     }
+}
+
+/// Item 10: "takes all remaining bytes as content ...; the message is as long as the input"; "open it is 1, or 8 once more
+/// than 32,768 content bytes are in; closed with more is 8; both 8s at the content's first byte".
+fn until_closed(input: &[u8], at: usize, closed: bool) -> Result<(Vec<Span>, Vec<Field>, usize), Refusal> {
+    let size = input.len() - at;
+    if size > CONTENT_MOST {
+        return refuse(SIZE, at);
+    }
+    if !closed {
+        return refuse(MORE, input.len());
+    }
+    Ok((one_chunk(at, size), Vec::new(), input.len()))
 }
 
 fn chunked(input: &[u8], start: usize) -> Result<(Vec<Span>, Vec<Field>, usize), Refusal> {
@@ -184,7 +201,7 @@ fn chunk_size(line: &[u8]) -> Option<u128> {
 }
 
 /// The first request of the stream. `scheme` None: another number was told.
-pub fn read_request(input: &[u8], scheme: Option<Scheme>) -> Result<Message, Refusal> {
+pub fn read_request(input: &[u8], scheme: Option<Scheme>, told: &Told) -> Result<Message, Refusal> {
     // "any call told another number is 4 at 0, first"
     let scheme = match scheme {
         Some(scheme) => scheme,
@@ -192,51 +209,63 @@ pub fn read_request(input: &[u8], scheme: Option<Scheme>) -> Result<Message, Ref
     };
 
     let line = take_line(input, 0, HEADS_MOST)?;
-    let (method, path) = request_line(input, &line)?;
+    let (method, target) = request_line(input, &line, scheme, told)?;
 
     let (fields, after) = field_section(input, line.next, HEADS_MOST)?;
 
     // "After a head: 6, 7, then content size 8 at its line."
-    let hosts = all_named(&fields, "host");
-    if hosts.len() != 1 || !good_host(hosts[0].value.of(input)) {
-        return refuse(HOST, after);
-    }
-    let authority = hosts[0].value;
+    let authority = authority_of(input, &target, &fields, after)?;
     let framing = framing(input, &fields, after)?;
     let (chunks, trailers, length) = body(input, after, framing)?;
 
     Ok(Message {
         length,
-        control: Control::Request { method, scheme, authority, path },
-        headers: keep_headers(fields, true),
+        control: Control::Request { method, scheme, authority, path: target.path, before: target.before },
+        headers: keep_headers(input, fields, true, told.items),
         chunks,
         trailers,
+        stated: None,
+        long: 0,
     })
 }
 
 /// "Request line: shape 2 (exactly two spaces), version 3, method 2, 8, 4, path 4, 2, 8." All at the line.
-fn request_line(input: &[u8], line: &Line) -> Result<(Span, Span), Refusal> {
+fn request_line(input: &[u8], line: &Line, connection: Scheme, told: &Told) -> Result<(Span, Target), Refusal> {
     let spaces: Vec<usize> = (line.start..line.end).filter(|&i| input[i] == SP).collect();
     if spaces.len() != 2 {
         return refuse(SYNTAX, line.start);
     }
     let method = Span::new(line.start, spaces[0]);
-    let path = Span::new(spaces[0] + 1, spaces[1]);
+    let target = Span::new(spaces[0] + 1, spaces[1]);
     let version = Span::new(spaces[1] + 1, line.end);
     if version.of(input) != b"HTTP/1.1" {
         return refuse(VERSION, line.start);
     }
-    if let Some(number) = judge_method(method.of(input)) {
+    if let Some(number) = judge_method(method.of(input), told.items) {
         return refuse(number, line.start);
     }
-    if let Some(number) = judge_path(path.of(input)) {
-        return refuse(number, line.start);
+    match judge_target(input, method.of(input), target, connection, told.items) {
+        Ok(target) => Ok((method, target)),
+        Err(number) => refuse(number, line.start),
     }
-    Ok((method, path))
+}
+
+/// "Host stands exactly once in a request; it is the authority". Item 2, in absolute-form: "authority is the target's, Host
+/// must stand once and is otherwise ignored".
+fn authority_of(input: &[u8], target: &Target, fields: &[Field], after: usize) -> Result<Span, Refusal> {
+    let hosts = all_named(fields, "host");
+    if hosts.len() != 1 {
+        return refuse(HOST, after);
+    }
+    match target.authority {
+        Some(authority) => Ok(authority),
+        None if good_host(hosts[0].value.of(input)) => Ok(hosts[0].value),
+        None => refuse(HOST, after),
+    }
 }
 
 /// The first response of the stream.
-pub fn read_response(input: &[u8]) -> Result<Message, Refusal> {
+pub fn read_response(input: &[u8], told: &Told) -> Result<Message, Refusal> {
     let mut informational: Vec<Informational> = Vec::new();
     let mut at = 0;
     loop {
@@ -254,30 +283,57 @@ pub fn read_response(input: &[u8]) -> Result<Message, Refusal> {
             if has_framing(&fields) {
                 return refuse(LENGTH, after);
             }
-            informational.push(Informational { status, fields: keep_headers(fields, false) });
+            informational.push(Informational { status, fields: keep_headers(input, fields, false, told.items) });
             continue;
         }
 
-        // "A final response needs one (H), except 204 and 304; these ... have neither (H)."
-        let framing = if status == 204 || status == 304 {
-            if has_framing(&fields) {
-                return refuse(LENGTH, after);
-            }
-            Framing::Absent
-        } else {
-            match framing(input, &fields, after)? {
-                Framing::Absent => return refuse(LENGTH, after),
-                framing => framing,
-            }
-        };
+        let stated = stated_length(input, &fields, status, after, told)?;
+        let framing = final_framing(input, &fields, status, after, told)?;
         let (chunks, trailers, length) = body(input, after, framing)?;
         return Ok(Message {
             length,
             control: Control::Response { informational, status },
-            headers: keep_headers(fields, false),
+            headers: keep_headers(input, fields, false, told.items),
             chunks,
             trailers,
+            stated,
+            long: 0,
         });
+    }
+}
+
+/// Item 5: "A HEAD reply may announce chunked, which is dropped, or have neither line"; "Two length statements still
+/// clash". A 304 that is not told HEAD has no Transfer-Encoding line, as in 01 (S24).
+fn stated_length(input: &[u8], fields: &[Field], status: u64, after: usize, told: &Told) -> Result<Option<u64>, Refusal> {
+    if !states_length(status, told) {
+        return Ok(None);
+    }
+    match framing(input, fields, after)? {
+        Framing::Absent => Ok(None),
+        Framing::Length(field) => Ok(Some(stated_by(input, &field)?)),
+        Framing::Chunked if told.head => Ok(None),
+        _ => refuse(LENGTH, after),
+    }
+}
+
+/// How the content of a final reply is framed.
+fn final_framing(input: &[u8], fields: &[Field], status: u64, after: usize, told: &Told) -> Result<Framing, Refusal> {
+    // "no content or trailers follow"
+    if states_length(status, told) {
+        return Ok(Framing::Absent);
+    }
+    // "A final response needs one (H), except 204 and 304; these ... have neither (H)."
+    if status == 204 || status == 304 {
+        if has_framing(fields) {
+            return refuse(LENGTH, after);
+        }
+        return Ok(Framing::Absent);
+    }
+    match framing(input, fields, after)? {
+        // Item 10: "this case leaves 7"
+        Framing::Absent if told.has(Item::Closed) => Ok(Framing::UntilClosed { closed: told.closed }),
+        Framing::Absent => refuse(LENGTH, after),
+        framing => Ok(framing),
     }
 }
 

@@ -1,5 +1,9 @@
 //! A message as a reader hands it out: its length and ranges into the input; and "Fields that do not travel".
 
+use super::items::*;
+use super::octets::*;
+use super::told::Told;
+
 #[derive(Clone, Copy, PartialEq, Eq, Debug)]
 pub struct Span {
     pub start: usize,
@@ -59,7 +63,8 @@ pub struct Informational {
 
 #[derive(Clone, Debug)]
 pub enum Control {
-    Request { method: Span, scheme: Scheme, authority: Span, path: Span },
+    /// `before` is what item 2 puts before the bytes of the path's range.
+    Request { method: Span, scheme: Scheme, authority: Span, path: Span, before: &'static str },
     Response { informational: Vec<Informational>, status: u64 },
 }
 
@@ -73,6 +78,38 @@ pub struct Message {
     pub chunks: Vec<Span>,
     /// Kept fields only.
     pub trailers: Vec<Field>,
+    /// Item 5: "A message record gains a stated length, which may be missing."
+    pub stated: Option<u64>,
+    /// Item 8: how many of its integers were not in their shortest form; 0 in HTTP/1.1.
+    pub long: usize,
+}
+
+/// The whole path.
+pub fn whole_path(input: &[u8], before: &str, path: Span) -> Vec<u8> {
+    [before.as_bytes(), path.of(input)].concat()
+}
+
+/// A content in one piece: one chunk, or none where it is empty.
+pub fn one_chunk(start: usize, len: usize) -> Vec<Span> {
+    if len == 0 {
+        return Vec::new();
+    }
+    vec![Span { start, len }]
+}
+
+/// Item 5: "For a HEAD's final reply and for 304, Content-Length fills [the stated length] ... no content or trailers
+/// follow". A 204 has no length line, told HEAD or not (S23).
+pub fn states_length(status: u64, told: &Told) -> bool {
+    told.has(Item::Head) && status >= 200 && status != 204 && (status == 304 || told.head)
+}
+
+/// The stated length of a field that is digits: "more than 15 digits is 8 at its line after the head's 7".
+pub fn stated_by(input: &[u8], field: &Field) -> Result<u64, Refusal> {
+    let digits = field.value.of(input);
+    match decimal(digits) {
+        Some(number) if within_stated_digits(digits) => Ok(number as u64),
+        _ => refuse(SIZE, field.line),
+    }
 }
 
 impl Message {
@@ -90,7 +127,9 @@ impl Message {
 
 /// "In both forms these are dropped after they are judged: connection, keep-alive, proxy-connection, te,
 /// transfer-encoding, upgrade, content-length, and host in requests."
-pub fn keep_headers(fields: Vec<Field>, request: bool) -> Vec<Field> {
+///
+/// Item 3: "in both forms drop from the same header section each field that a Connection value names".
+pub fn keep_headers(input: &[u8], fields: Vec<Field>, request: bool, items: Items) -> Vec<Field> {
     let dropped = [
         "connection",
         "keep-alive",
@@ -100,10 +139,33 @@ pub fn keep_headers(fields: Vec<Field>, request: bool) -> Vec<Field> {
         "upgrade",
         "content-length",
     ];
+    let named = if items.has(Item::Connection) { connection_members(input, &fields) } else { Vec::new() };
     fields
         .into_iter()
-        .filter(|f| !dropped.iter().any(|name| f.is(name)) && !(request && f.is("host")))
+        .filter(|f| !dropped.iter().any(|name| f.is(name)) && !(request && f.is("host")) && !named.contains(&f.lower))
         .collect()
+}
+
+/// What the Connection lines of a section name: "comma list, space and tab trimmed, compared in lower case. Members that are
+/// no tokens name nothing." Every comma splits, quotes protect nothing (S20).
+fn connection_members(input: &[u8], fields: &[Field]) -> Vec<Vec<u8>> {
+    let mut members = Vec::new();
+    for field in all_named(fields, "connection") {
+        for member in field.value.of(input).split(|&b| b == b',') {
+            let member = trimmed(member);
+            if all_of(member, is_token) {
+                members.push(member.to_ascii_lowercase());
+            }
+        }
+    }
+    members
+}
+
+/// Without the spaces and tabs at its ends.
+fn trimmed(bytes: &[u8]) -> &[u8] {
+    let start = bytes.iter().take_while(|&&b| is_blank(b)).count();
+    let end = bytes.iter().rev().take_while(|&&b| is_blank(b)).count();
+    &bytes[start..bytes.len().max(start + end) - end]
 }
 
 /// "In trailers content-length, transfer-encoding and host are refused".

@@ -1,5 +1,7 @@
 //! What each octet may stand in, the sizes, and the numbers a call answers with.
 
+use super::items::*;
+
 pub const CR: u8 = 0x0d;
 pub const LF: u8 = 0x0a;
 pub const SP: u8 = 0x20;
@@ -17,6 +19,7 @@ pub const CHUNKS_MOST: usize = 256;
 pub const CONTENT_MOST: usize = 32_768;
 pub const BINARY_MOST: usize = 65_535;
 pub const INFORMATIONAL_MOST: usize = 4;
+pub const STATED_DIGITS_MOST: usize = 15;
 pub const LISTING_MOST: usize = 65_536;
 
 // "Numbers a call answers with"
@@ -34,6 +37,13 @@ pub const CROSSES: u32 = 11;
 pub const PADDING: u32 = 12;
 pub const ROOM: u32 = 13;
 pub const OTHER_SCHEME: u32 = 14;
+
+// Those of document 02
+pub const ENTRY: u32 = 15;
+pub const TABLE: u32 = 16;
+pub const EDITION: u32 = 17;
+pub const NO_ENTRY: u32 = 18;
+pub const STEP_ROOM: u32 = 19;
 
 /// A refusal (or, with number 1, the call for more bytes) and its place.
 #[derive(Clone, Copy, PartialEq, Eq, Debug)]
@@ -121,25 +131,35 @@ pub fn hexadecimal(value: &[u8]) -> Option<u128> {
     Some(n)
 }
 
+/// "A stated length has at most 15 digits after leading zeros."
+pub fn within_stated_digits(value: &[u8]) -> bool {
+    value.iter().skip_while(|&&b| b == b'0').count() <= STATED_DIGITS_MOST
+}
+
 /// The method's rule behind its shape: "method 2, 8, 4". Number of the refusal, if any.
 /// (Binary tests the size before it has the bytes; the order 2, 8 then never shows.)
-pub fn judge_method(method: &[u8]) -> Option<u32> {
+pub fn judge_method(method: &[u8], items: Items) -> Option<u32> {
     if !all_of(method, is_token) {
         return Some(SYNTAX);
     }
     if method.len() > METHOD_MOST {
         return Some(SIZE);
     }
-    if method == b"HEAD" || method == b"CONNECT" {
+    // Item 5: "HEAD leaves 4".
+    if method == b"CONNECT" || (method == b"HEAD" && !items.has(Item::Head)) {
         return Some(UNSUPPORTED);
     }
     None
 }
 
-/// "path 4, 2, 8"; "Empty method or path is 2".
-pub fn judge_path(path: &[u8]) -> Option<u32> {
+/// "path 4, 2, 8"; "Empty method or path is 2". Item 2: "Take `*` for OPTIONS only, in both forms"; "`*` with another
+/// method or with bytes behind is 4".
+pub fn judge_path(method: &[u8], path: &[u8], items: Items) -> Option<u32> {
     if path.is_empty() {
         return Some(SYNTAX);
+    }
+    if items.has(Item::Target) && path == b"*" && method == b"OPTIONS" {
+        return None;
     }
     if path[0] != b'/' {
         return Some(UNSUPPORTED);

@@ -1,18 +1,27 @@
 //! `reference --selftest`: 01's examples P1 to P13, the listing's example, the figures of document 001, and the
-//! readings' points with answers worked out by hand from the papers.
+//! readings' points with answers worked out by hand from the papers. The items of 02 have their own files.
 
 use crate::reference::binary::integer;
 use crate::reference::figures::*;
+use crate::reference::items::*;
+use crate::{selftest_bundles, selftest_messages};
 
 const A: &str = "POST /s HTTP/1.1\r\nHost: a\r\nContent-Length: 3\r\n\r\nabc";
-const P5: &str = "0004504f535404687474700161022f73000361626300";
-struct Tests {
-    answer: fn(&[u8]) -> String,
+pub const P5: &str = "0004504f535404687474700161022f73000361626300";
+pub struct Tests {
+    answer: fn(Items, &[u8]) -> String,
+    /// The items that have landed for the rows to come.
+    pub items: Items,
     passed: usize,
     failed: usize,
 }
 
-fn hex(bytes: &[u8]) -> String {
+/// The answer of a refusal.
+pub fn refused(number: u32, place: usize) -> String {
+    format!("{{\"at\":{place},\"n\":{number}}}")
+}
+
+pub fn hex(bytes: &[u8]) -> String {
     if bytes.is_empty() {
         return "-".to_string();
     }
@@ -20,7 +29,10 @@ fn hex(bytes: &[u8]) -> String {
 }
 
 impl Tests {
-    fn check(&mut self, name: &str, got: &str, wanted: &str) {
+    pub fn answer(&self, line: &str) -> String {
+        (self.answer)(self.items, line.as_bytes())
+    }
+    pub fn check(&mut self, name: &str, got: &str, wanted: &str) {
         if got == wanted {
             self.passed += 1;
         } else {
@@ -28,11 +40,11 @@ impl Tests {
             println!("FAILED {}\n  got    {}\n  wanted {}", name, got, wanted);
         }
     }
-    fn says(&mut self, name: &str, line: &str, wanted: &str) {
-        let got = (self.answer)(line.as_bytes());
+    pub fn says(&mut self, name: &str, line: &str, wanted: &str) {
+        let got = self.answer(line);
         self.check(name, &got, wanted);
     }
-    fn req(&mut self, name: &str, input: &str, number: u32, place: usize) {
+    pub fn req(&mut self, name: &str, input: &str, number: u32, place: usize) {
         let line = format!("h1req 0 {}", hex(input.as_bytes()));
         self.outcome(name, &line, number, place);
     }
@@ -40,25 +52,25 @@ impl Tests {
         let line = format!("h1resp {}", hex(input.as_bytes()));
         self.outcome(name, &line, number, place);
     }
-    fn bin(&mut self, name: &str, input: &str, number: u32, place: usize) {
+    pub fn bin(&mut self, name: &str, input: &str, number: u32, place: usize) {
         self.outcome(name, &format!("bin {}", input), number, place);
     }
     /// A refusal with its place; for number 0, accepted with that length.
-    fn outcome(&mut self, name: &str, line: &str, number: u32, place: usize) {
-        let got = (self.answer)(line.as_bytes());
+    pub fn outcome(&mut self, name: &str, line: &str, number: u32, place: usize) {
+        let got = self.answer(line);
         if number == 0 {
             let start = format!("{{\"len\":{},\"m\":", place);
             let good = got.starts_with(&start) && got.contains(",\"n\":0,\"r\":");
             let wanted = format!("{}...", start);
             self.check(name, if good { &wanted } else { &got }, &wanted);
         } else {
-            self.check(name, &got, &format!("{{\"at\":{},\"n\":{}}}", place, number));
+            self.check(name, &got, &refused(number, place));
         }
     }
 }
 
-pub fn run(answer: fn(&[u8]) -> String) -> usize {
-    let mut t = Tests { answer, passed: 0, failed: 0 };
+pub fn run(answer: fn(Items, &[u8]) -> String) -> usize {
+    let mut t = Tests { answer, items: Items::none(), passed: 0, failed: 0 };
     examples(&mut t);
     figures(&mut t);
     http1(&mut t);
@@ -66,14 +78,17 @@ pub fn run(answer: fn(&[u8]) -> String) -> usize {
     writing(&mut t);
     streams(&mut t);
     protocol(&mut t);
+    selftest_messages::run(&mut t);
+    selftest_bundles::run(&mut t);
     println!("{} passed, {} failed", t.passed, t.failed);
     t.failed
 }
 
 fn examples(t: &mut Tests) {
-    t.check("P1", &format!("{:?}", integer(&[0x25], 0)), "Some((37, 1))");
-    t.check("P2", &format!("{:?}", integer(&[0x40, 0x25], 0)), "Some((37, 2))");
-    t.check("P3", &format!("{:?}", integer(&[0x7b, 0xbd], 0)), "Some((15293, 2))");
+    let value = |bytes: &[u8]| format!("{:?}", integer(bytes, 0).map(|read| (read.value, read.next)));
+    t.check("P1", &value(&[0x25]), "Some((37, 1))");
+    t.check("P2", &value(&[0x40, 0x25]), "Some((37, 2))");
+    t.check("P3", &value(&[0x7b, 0xbd]), "Some((15293, 2))");
     t.check("A is 51 bytes", &A.len().to_string(), "51");
     t.says(
         "P4",
@@ -158,7 +173,7 @@ fn figures(t: &mut Tests) {
     t.req("Figure 7 without its empty line", FIGURE_7, 1, FIGURE_7.len());
     t.resp("Figure 10", FIGURE_10, 0, FIGURE_10.len());
     t.bin("Figure 11", FIGURE_11, 0, 368);
-    let ten = (t.answer)(format!("h1resp2bin 1000 {}", hex(FIGURE_10.as_bytes())).as_bytes());
+    let ten = t.answer(&format!("h1resp2bin 1000 {}", hex(FIGURE_10.as_bytes())));
     t.check("Figure 10 to Binary", ten.get(..13).unwrap_or(&ten), "{\"n\":0,\"out\":");
     t.says("Figure 11 anew is Figure 10 to Binary", &format!("bin2bin 1000 {}", FIGURE_11), &ten);
     let figure_12 = format!("{}\r\n", FIGURE_12);
