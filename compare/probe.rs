@@ -11,6 +11,9 @@
 //!   {"error":"room"}       with exactly enough space, or a refusal with none, the call answered something else
 //!   {"error":"range"}      a number that the header rules out: a part outside the input, a count above its size
 
+#[path = "probe/bundle.rs"]
+mod bundle;
+
 use std::io::{self, BufRead, BufReader, BufWriter, Write};
 
 // ---------------------------------------------------------------------------------------- the library
@@ -699,7 +702,7 @@ fn command(line: &[u8]) -> Option<Result<String, &'static str>> {
             let (name, default, input) = (octets(name)?, octets(default)?, octets(input)?);
             binary_field(&input, &name).and_then(|asked| field(input.len(), default.len(), asked))
         }
-        _ => return None,
+        (name, words) => return bundle::command(name, words),
     })
 }
 

@@ -1,4 +1,4 @@
-/* Ospirnar: the HTTP message layer, proved in Rattle. Link with libcapi.a (rt staticlib capi).
+/* Ospirnar: the HTTP message layer, proved in Rattle. Link with libcapi.a (rt staticlib capi); for bundles with libbundle_capi.a (rt staticlib bundle_capi) too.
  *
  * Slices. A slice is a pointer and a number of elements. The pointer is not null and is aligned for its element, also where the slice is empty
  * (any such pointer serves then). Nothing lent for writing overlaps anything else that is lent to the same call. The caller owns all that it lends; no
@@ -88,6 +88,51 @@ uint32_t ospirnar_response_field(const uint8_t *input, size_t input_len, const u
 
 /* To a Binary HTTP message: the whole input. */
 uint32_t ospirnar_binary_field(const uint8_t *input, size_t input_len, const uint8_t *name, size_t name_len, uint32_t *number, size_t *place, size_t *start, size_t *length);
+
+/* Bundles (document 02, item 1): entries one behind the other, at most 256, each a head of four octets and a Binary message as ospirnar_binary_to_binary writes it. The
+ * head is a number of 32 bits, most significant octet first: 7 bits flock (1 to 127), 1 bit delivered, 2 bits kind (0 request, 1 response), 22 bits length of the
+ * message. These calls answer by value. A call of them keeps 65,535 octets and some KB beside on the stack. */
+
+#define OSPIRNAR_ENTRIES_MOST 256 /* entries of a bundle */
+#define OSPIRNAR_ENTRY_NUMBERS 3  /* numbers that describe an entry: its head, and start and length of its message in the input */
+
+/* The parts of a head. */
+#define OSPIRNAR_FLOCK(head) ((uint32_t)(head) >> 25)
+#define OSPIRNAR_DELIVERED(head) ((uint32_t)(head) >> 24 & 1)
+#define OSPIRNAR_KIND(head) ((uint32_t)(head) >> 22 & 3)
+#define OSPIRNAR_LENGTH(head) ((uint32_t)(head) & 0x3fffff)
+
+/* number 0: `place` is the bundle's length, `count` the number of its entries. Otherwise a refusal: `place` is where it arose, `count` is 0. */
+struct ospirnar_bundle_answer {
+    uint32_t number;
+    size_t place, count;
+};
+
+/* number 0: `place` is 0, `used` the length of the bundle afterwards, `long_forms` is 0. Otherwise a refusal: `place` is where it arose, `used` is as it was told. */
+struct ospirnar_append_answer {
+    uint32_t number;
+    size_t place, used, long_forms;
+};
+
+/* number 0: `place` is 0, `len` the number of octets written. Otherwise a refusal: `place` is where it arose, `len` is 0. */
+struct ospirnar_list_answer {
+    uint32_t number;
+    size_t place, len;
+};
+
+/* The bundle that the input is: three numbers for each entry, in order, into `entries`; all behind them stays. Refusals, all placed at the entry's first octet: 9 for a cut head; 8 for a
+ * 257th entry; 15 for flock 0 or kind 2 or 3; 8 for a length above 65,535; 9 for a cut message; the message's own number; 15 for a kind other than the message's or a message that is
+ * not as we write it. Then 13 at 0 where the numbers do not fit (OSPIRNAR_ENTRIES_MOST * OSPIRNAR_ENTRY_NUMBERS are always enough). A refusal alters nothing. */
+struct ospirnar_bundle_answer ospirnar_read_bundle(const uint8_t *input, size_t input_len, uint32_t *entries, size_t entries_len);
+
+/* A Binary message behind the bundle that the first `used` octets of the buffer are, as an undelivered entry of the flock: written anew, straight into the room behind its head. Refusals: 13
+ * at 0 for a used length past the buffer; the bundle's own; 8 at 0 for a 257th entry; 15 at 0 for a flock outside 1 to 127; the message's own at its own place; 8 at 0 where it would be
+ * above 65,535 octets; 13 at 0 where there is no room. A refusal alters no octet of the buffer; an acceptance none before `used` and none behind the new used length. */
+struct ospirnar_append_answer ospirnar_append(uint8_t *buffer, size_t buffer_len, size_t used, uint32_t flock, const uint8_t *message, size_t message_len);
+
+/* The entries of one flock, heads and messages, delivered ones too, copied in order: itself a bundle. Refusals: the bundle's own; 15 at 0 for a flock outside 1 to 127; 13 at 0 where it does
+ * not fit. A refusal alters nothing. */
+struct ospirnar_list_answer ospirnar_flock_list(const uint8_t *input, size_t input_len, uint32_t flock, uint8_t *output, size_t output_len);
 
 #ifdef __cplusplus
 }

@@ -1,0 +1,84 @@
+/* The C example of bundles: takes HTTP/1.1 requests off standard input under http, turns each into Binary HTTP and gathers them in one bundle, each as an entry of the
+ * flock that its field `flock` names; then reads the bundle and gives each flock its list, as the service would hand it on.
+ *
+ *     target/box/bundle < file of requests
+ *
+ * A line for each entry, then one for each flock. Status 0; 1 where a request was refused, is not whole or names no flock; 2 where the input could not be read or
+ * a list is not the bundle that it must be.
+ */
+#include <stdbool.h>
+#include <stdint.h>
+#include <stdio.h>
+
+#include "ospirnar.h"
+
+enum { STREAM_MOST = 1 << 20, BINARY_MOST = 65536, BUNDLE_MOST = 1 << 20, FLOCKS = 127, NUMBERS = OSPIRNAR_ENTRIES_MOST * OSPIRNAR_ENTRY_NUMBERS };
+
+static uint8_t input[STREAM_MOST], binary[BINARY_MOST], bundle[BUNDLE_MOST], list[BUNDLE_MOST];
+static uint32_t ranges[OSPIRNAR_RANGES_MOST], entries[NUMBERS];
+
+static int stop(const char *what, uint32_t number, size_t place)
+{
+    printf("%s: %u at %zu\n", what, (unsigned)number, place);
+    return 1;
+}
+
+/* The number in the field `flock` of the request, or 0. */
+static uint32_t flock_of(const uint8_t *octets, size_t len)
+{
+    uint32_t number, flock = 0;
+    size_t place, start, length;
+    if (ospirnar_request_field(octets, len, 0, (const uint8_t *)"flock", 5, &number, &place, &start, &length) == 0)
+        return 0;
+    for (size_t i = 0; i < length && i < 4; i++)
+        if (octets[start + i] >= '0' && octets[start + i] <= '9')
+            flock = flock * 10 + (uint32_t)(octets[start + i] - '0');
+    return flock;
+}
+
+/* Appends the requests to the bundle; its length, or 0 with what was printed. */
+static bool gather(size_t len, size_t *used)
+{
+    size_t at = 0, place, binary_len;
+    for (*used = 0; at < len; at += place) {
+        uint32_t number = ospirnar_read_request(input + at, len - at, 0, ranges, OSPIRNAR_RANGES_MOST, &place);
+        if (number == 0)
+            number = ospirnar_request_to_binary(input + at, len - at, 0, binary, sizeof binary, &binary_len);
+        if (number != 0)
+            return stop("refused", number, at + place), false;
+        struct ospirnar_append_answer answer = ospirnar_append(bundle, sizeof bundle, *used, flock_of(input + at, len - at), binary, binary_len);
+        if (answer.number != 0)
+            return stop("not appended", answer.number, answer.place), false;
+        *used = answer.used;
+    }
+    return true;
+}
+
+int main(void)
+{
+    size_t len = fread(input, 1, sizeof input, stdin), used;
+    if (ferror(stdin) || (len == sizeof input && getchar() != EOF)) {
+        fprintf(stderr, "bundle: standard input cannot be read or passes %d octets\n", STREAM_MOST);
+        return 2;
+    }
+    if (!gather(len, &used))
+        return 1;
+    struct ospirnar_bundle_answer whole = ospirnar_read_bundle(bundle, used, entries, NUMBERS);
+    if (whole.number != 0 || whole.place != used)
+        return 2;
+    for (size_t i = 0; i < whole.count; i++) {
+        const uint32_t *entry = entries + i * OSPIRNAR_ENTRY_NUMBERS;
+        printf("entry %zu: flock %u, %s, %s, %u octets at %u\n", i, (unsigned)OSPIRNAR_FLOCK(entry[0]), OSPIRNAR_DELIVERED(entry[0]) ? "delivered" : "not delivered",
+               OSPIRNAR_KIND(entry[0]) ? "response" : "request", (unsigned)entry[2], (unsigned)entry[1]);
+    }
+    for (uint32_t flock = 1; flock <= FLOCKS; flock++) {
+        struct ospirnar_list_answer answer = ospirnar_flock_list(bundle, used, flock, list, sizeof list);
+        struct ospirnar_bundle_answer own = ospirnar_read_bundle(list, answer.len, entries, NUMBERS);
+        if (answer.number != 0 || own.number != 0)
+            return 2;
+        if (own.count != 0)
+            printf("flock %u: %zu entries, %zu octets\n", (unsigned)flock, own.count, answer.len);
+    }
+    printf("%zu entries, %zu octets\n", whole.count, used);
+    return 0;
+}
