@@ -18,7 +18,7 @@ use Rattle.messages.specs.Rules.{authorityFrom, authorityIn, framingFrom, binar
 use Rattle.messages.specs.Meaning.{request, Meaning, fieldMeans, contentOf, meaning}
 use Rattle.messages.specs.Valid.{isScheme}
 use Rattle.binary.specs.Reader.{_>>=_, integer, string}
-use Rattle.binary.specs.Read.{part, partWithin, ruledPart, schemeOf, schemePart, requestControl, knownLine, knownLines, bodyLines, knownSection, section, knownContent, content, contentRule, trailerRule, trailers, padding, afterHeaders, requestMessage, message, readBinary}
+use Rattle.binary.specs.Read.{part, partWithin, ruledPart, schemeOf, schemePart, afterScheme, requestControl, knownLine, knownLines, bodyLines, knownSection, section, knownContent, content, contentAgrees, contentRule, trailersAgree, trailerRule, trailers, padding, afterContent, afterHeaders, afterHead, afterControl, requestMessage, afterIndicator, message, readBinary}
 use Rattle.http1_writer.specs.Write.{fieldText, sectionText, requestLine, hostField, lengthField, lengthLine, headLines, headText, bodyText, http1Of, http1Fits, toHttp1}
 use Rattle.output.specs.Reply.{writtenOf, lentAfter}
 use Rattle.output.specs.declared.Written.the-variants.{Done, Refused}
@@ -26,7 +26,7 @@ use Rattle.turn.specs.Turn.{binaryToHttp1}
 use Rattle.demands.specs.Demand3.{Space, answerIn, call, entryIn, calls, entriesIn, entriesOf, NoResponse}
 
 unfoldable computing : Unit {0}
-unfolding isToken isValue isPath isAuthority classOf hasClass isBlank spanLen all lowerOf isLower sameText isEmpty push extraOf readMore readInt charOf moreOf countOf digits isUnsupported methodVerdict pathVerdict authorityVerdict isHost isLowerName isTrimmedValue isHopByHop kindOf lineKind sameKind linesOf kept areTrailers keptTrailers authorityFrom authorityIn framingFrom binaryFramingOf mayState fieldMeans contentOf meaning isScheme _>>=_ integer string part partWithin ruledPart schemeOf schemePart requestControl knownLine knownLines bodyLines knownSection section knownContent content contentRule trailerRule trailers padding afterHeaders requestMessage message readBinary fieldText sectionText requestLine hostField lengthField lengthLine headLines headText bodyText http1Of http1Fits toHttp1 writtenOf lentAfter binaryToHttp1 answerIn call entryIn calls entriesIn
+unfolding isToken isValue isPath isAuthority classOf hasClass isBlank spanLen all lowerOf isLower sameText isEmpty push extraOf readMore readInt charOf moreOf countOf digits isUnsupported methodVerdict pathVerdict authorityVerdict isHost isLowerName isTrimmedValue isHopByHop kindOf lineKind sameKind linesOf kept areTrailers keptTrailers authorityFrom authorityIn framingFrom binaryFramingOf mayState fieldMeans contentOf meaning isScheme _>>=_ integer string part partWithin ruledPart schemeOf schemePart afterScheme requestControl knownLine knownLines bodyLines knownSection section knownContent content contentAgrees contentRule trailersAgree trailerRule trailers padding afterContent afterHeaders afterHead afterControl requestMessage afterIndicator message readBinary fieldText sectionText requestLine hostField lengthField lengthLine headLines headText bodyText http1Of http1Fits toHttp1 writtenOf lentAfter binaryToHttp1 answerIn call entryIn calls entriesIn
 computing = tt
 
 abbrev http : Told
