@@ -6,7 +6,17 @@ use crate::messages::{Maker, Manner};
 
 // ---------------------------------------------------------------------------------------- random
 
+/// About 32,768 bytes behind the head.
+fn at_limit(maker: &mut Maker) -> String {
+    let input = format!("HTTP/1.1 200 \r\nb: c\r\n\r\n{}", "x".repeat(maker.near(32_768)));
+    let options = [("closed", maker.random.below(2) as u64)];
+    commands::case(maker, &options, Form::Response, input.as_bytes())
+}
+
 pub fn case(maker: &mut Maker) -> String {
+    if maker.random.chance(400) {
+        return at_limit(maker);
+    }
     let manner = Manner {
         calm: !maker.random.chance(5),
         answers_head: maker.random.chance(8),

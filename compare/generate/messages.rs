@@ -766,7 +766,7 @@ impl Maker {
     }
 
     /// A size at a limit, up to two below or above.
-    fn near(&mut self, limit: usize) -> usize {
+    pub fn near(&mut self, limit: usize) -> usize {
         limit + self.random.below(5) - 2
     }
 

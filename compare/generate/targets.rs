@@ -7,7 +7,22 @@ use crate::messages::{Maker, Manner};
 
 // ---------------------------------------------------------------------------------------- random
 
+/// An authority or a path about as long as it may be.
+fn at_limit(maker: &mut Maker) -> String {
+    let method = maker.random.pick(&["GET", "OPTIONS"]);
+    let scheme = maker.random.pick(&["http", "http", "HTTPS"]);
+    let behind = maker.random.pick(&["", "/", "?"]);
+    let (authority, rest) = if maker.random.chance(2) { (maker.near(255), 5) } else { (1, maker.near(4_096) - 1) };
+    let rest = if behind.is_empty() { 0 } else { rest };
+    let input = format!("{method} {scheme}://{}{behind}{} HTTP/1.1\r\nHost: b\r\n\r\n", "h".repeat(authority), "p".repeat(rest));
+    let told = commands::request_scheme(maker, input.as_bytes());
+    commands::case(maker, &[], Form::Request(told), input.as_bytes())
+}
+
 pub fn case(maker: &mut Maker) -> String {
+    if maker.random.chance(100) {
+        return at_limit(maker);
+    }
     let manner = Manner { calm: !maker.random.chance(4), ..Manner::default() };
     maker.with(manner, |maker| match maker.random.below(12) {
         0..=7 => {
