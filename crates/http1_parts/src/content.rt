@@ -112,7 +112,7 @@ fn next_chunk(t: &[u8; 256], s: &[u8], i: usize, count: usize, total: usize) -> 
                     if size == 0 {
                         return ChunkRead::Last { end: next };
                     }
-                    if Limits::CHUNKS <= count {
+                    if Limits::is_full(count, Limits::CHUNKS) {
                         return ChunkRead::Refused {
                             number: Refusals::TOO_LARGE,
                             place: i,

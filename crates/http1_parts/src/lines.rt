@@ -97,7 +97,7 @@ pub fn read_section(
                 len,
                 next,
             } => {
-                if Limits::LINES <= lines {
+                if Limits::is_full(lines, Limits::LINES) {
                     return Section::Refused {
                         number: Refusals::TOO_LARGE,
                         place: i,
@@ -123,7 +123,7 @@ pub fn read_section(
 fn no_field(lines: usize) -> u32
     ensures { λ r. ⌜ r ≡ noField lines ⌝ }
 {
-    if Limits::LINES <= lines {
+    if Limits::is_full(lines, Limits::LINES) {
         return Refusals::TOO_LARGE;
     }
     Refusals::BAD_SYNTAX

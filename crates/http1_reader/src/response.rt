@@ -137,7 +137,7 @@ fn next_head(
                 StatusLine::Of { status } => {
                     let rest = left - (next - i);
                     if is_informational(status as usize) {
-                        if Limits::INFORMATIONAL <= count {
+                        if Limits::is_full(count, Limits::INFORMATIONAL) {
                             return HeadRead::Refused {
                                 number: Refusals::TOO_LARGE,
                                 place: i,
