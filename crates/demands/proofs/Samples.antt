@@ -58,7 +58,7 @@ no-response = (refl, (refl, tt))
 
 -- what each call answers, where 51 octets are written, and where 102 are
 abbrev after : ℕ → Space
-after n = record { string = lent; written = n }
+after n = record { whole = lent; written = n }
 
 pub answered : (answerIn http (after 0) post ≡ Done 51) × (answerIn http (after 51) [] ≡ Refused cutOff 0) × (answerIn http (after 51) (4 ∷ []) ≡ Refused badIndicator 0)
     × (answerIn http (after 51) (postOf (5 ∷ ascii "https")) ≡ Refused otherScheme 0) × (answerIn http (after 102) post ≡ Refused noRoom 0)
