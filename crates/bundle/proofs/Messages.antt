@@ -122,17 +122,20 @@ module _ (kind : ℕ) (s : List ℕ) where
   unfolding messageVerdict
   verdict-refused h k p e = sym (ap (verdictOn kind s) (given-refusal (response-outcomed h) k p e))
 
-  module _ {r : Record} {hs ns cs ts : List ℕ} (h : IsHeld (readBinary s) s r hs ns cs ts) {k : ℕ} (ek : k ≡ kindNumber (r .response)) where
-    by-kind : messageVerdict kind s ≡ cond (eqb kind k) (cond (isWritten (toBinary (meaning (h .1))) s) 0 badEntry) badEntry
+  module _ {r : Record} {hs ns cs ts : List ℕ} (h : IsHeld (readBinary s) s r hs ns cs ts) {t : Bool} (et : t ≡ eqb kind (kindNumber (r .response))) where
+    by-kind : messageVerdict kind s ≡ cond t (cond (isWritten (toBinary (meaning (h .1))) s) 0 badEntry) badEntry
     unfolding messageVerdict
-    by-kind = ap (verdictOn kind s) (h .2) ∙ ap (λ (x : ℕ). cond (eqb kind x) (cond (isWritten (toBinary (meaning (h .1))) s) 0 badEntry) badEntry) (sym (ek ∙ ap kindNumber (is-response (h .3))))
+    by-kind =
+        ap (verdictOn kind s) (h .2)
+        ∙ ap (λ (x : Bool). cond (eqb kind (kindNumber x)) (cond (isWritten (toBinary (meaning (h .1))) s) 0 badEntry) badEntry) (sym (is-response (h .3)))
+        ∙ ap (λ (x : Bool). cond x (cond (isWritten (toBinary (meaning (h .1))) s) 0 badEntry) badEntry) (sym et)
 
-    pub verdict-other : (kind ≡ k → ⊥) → badEntry ≡ messageVerdict kind s
-    verdict-other n = sym (by-kind ∙ rw (ne-eqb kind k n))
+    pub verdict-other : t ≡ false → badEntry ≡ messageVerdict kind s
+    verdict-other n = sym (by-kind ∙ rw n)
 
-    module _ (q : kind ≡ k) {b : Bool} (f : b ≡ isWritten (toBinary (meaning (h .1))) s) where
+    module _ (q : t ≡ true) {b : Bool} (f : b ≡ isWritten (toBinary (meaning (h .1))) s) where
       pub verdict-good : b ≡ true → 0 ≡ messageVerdict kind s
-      verdict-good t = sym (by-kind ∙ rw (eq-eqb kind k q, sym f ∙ t))
+      verdict-good y = sym (by-kind ∙ rw (q, sym f ∙ y))
 
       pub verdict-formless : b ≡ false → badEntry ≡ messageVerdict kind s
-      verdict-formless t = sym (by-kind ∙ rw (eq-eqb kind k q, sym f ∙ t))
+      verdict-formless y = sym (by-kind ∙ rw (q, sym f ∙ y))

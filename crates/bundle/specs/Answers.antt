@@ -1,7 +1,7 @@
 -- What the code of the bundle reader promises, in terms of `walk` (Bundle; 02, item 1: "each entry's head and message range, in order").
-use Prim.Native.Nat.{ℕ, _+_}
+use Prim.Native.Nat.{ℕ, _+_, _≤_}
 use mathlib.Core.Path.{_≡_}
-use mathlib.Core.Bool.{Bool}
+use mathlib.Core.Bool.{Bool, false, cond}
 use mathlib.Core.List.{List, [], _∷_, _++_}
 use lib.ListN.{length}
 use Rattle.messages.specs.Answers.{padded}
@@ -10,8 +10,9 @@ use Rattle.messages.specs.Meaning.{meaning}
 use Rattle.messages.specs.declared.Record.{Record}
 use Rattle.ranges.specs.Ranges.{Held}
 use Rattle.binary_writer.specs.Write.{toBinary}
-use Rattle.output.specs.Splice.{splice}
-use Rattle.bundle.specs.Bundle.{Entry, wordOf, isWritten, Walk}
+use Rattle.octets.specs.Table.{classes}
+use Rattle.output.specs.Splice.{splice, part, liesWithin, Put, PutIf}
+use Rattle.bundle.specs.Bundle.{Entry, wordOf, isWritten, Walk, listOctets}
 use Rattle.bundle.specs.declared.Bundle.{Bundle}
 
 -- an entry at a place: its head, and start and length of its message
@@ -33,6 +34,19 @@ pub record Walked (w : Walk) (o o′ : List ℕ) (count end number : ℕ) : Type
   pub ended : end ≡ w .end
   pub stopped : number ≡ w .stop
   pub stored : o′ ≡ splice o 0 (numbersFrom 0 (w .entries))
+
+-- what is lent to judge a message: the table of classes, room for its ranges, and for what is written of it
+abbrev pub Lent : List ℕ → List ℕ → List ℕ → List ℕ → List ℕ → List ℕ → Type 0
+Lent t hs ns cs ts scratch =
+    (t ≡ classes) × (1280 ≤ length hs) × (8 ≤ length ns) × (512 ≤ length cs) × (256 ≤ length ts) × (65535 ≤ length scratch)
+
+-- n octets of s from a place on, put into o from w on if they are picked and there is room
+abbrev pub PickedPut : Bool → List ℕ → ℕ → ℕ → List ℕ → ℕ → List ℕ → ℕ → Type 0
+PickedPut picked s at n o w o′ r = PutIf (cond picked (cond (liesWithin s at n) (liesWithin o w n) false) false) o w (part s at n) n o′ r
+
+-- the list of a flock, put into o from its first octet on
+abbrev pub ListPut : ℕ → Walk → List ℕ → List ℕ → ℕ → Type 0
+ListPut f w o o′ r = Put o 0 (listOctets f w) (length (listOctets f w)) o′ r
 
 -- whatever message the record and the ranges hold: whether its octets s are in form
 pub record FormJudged (s : List ℕ) (r : Record) (hs ns cs ts : List ℕ) (b : Bool) : Type 0 where

@@ -1,5 +1,5 @@
--- The night's bundle (02, item 1): entries one behind the other, each a head of 32 bits and behind it a Binary message as 01 writes it. One walk over the octets
--- answers the entries, the place where it ends and the number that stopped it; the reader and a flock's list are read off it.
+-- The night's bundle (02, item 1): entries one behind the other, each a head of 32 bits and behind it a Binary message as 01 writes it. One walk over the
+-- octets answers the entries, the place where it ends and the number that stopped it; the reader and a flock's list are read off it.
 use Prim.Native.Nat.{ℕ, zero, suc, _+_, _*_, _/_, _%_}
 use mathlib.Core.Bool.{Bool, true, false, cond}
 use mathlib.Core.List.{List, [], _∷_, _++_}
@@ -124,8 +124,8 @@ nextAt left s =
 
 -- ---- the walk
 
--- the entries; the place behind the last of them, at which a refusal is placed ("all placed at the entry"); the number that stopped the walk, 0 at the end of the
--- octets
+-- the entries; the place behind the last of them, at which a refusal is placed ("all placed at the entry"); the number that stopped the walk, 0 at the end of
+-- the octets
 pub record Walk : Type 0 where
   pub entries : List Entry
   pub end : ℕ
@@ -173,9 +173,13 @@ unfoldable pub ofFlock : ℕ → List Entry → List Entry
 ofFlock f [] = []
 ofFlock f (e ∷ es) = pickIf (isOf f e) e (ofFlock f es)
 
--- "the copied bytes of one flock's entries": the bundle's own numbers at their place, then 15 at 0 for no flock; a short room is 13 at 0, last (output/Reply)
+-- "the copied bytes of one flock's entries"
+abbrev pub listOctets : ℕ → Walk → List ℕ
+listOctets f w = entriesOctets (ofFlock f (w .entries))
+
+-- the reply to a list: the bundle's own numbers at their place, then 15 at 0 for no flock; a short room is 13 at 0, last (output/Reply)
 abbrev pub listFrom : ℕ → Walk → Reply
-listFrom f w = cond (eqb (w .stop) 0) (cond (isFlock f) (writes (entriesOctets (ofFlock f (w .entries)))) (refuses badEntry 0)) (refuses (w .stop) (w .end))
+listFrom f w = cond (eqb (w .stop) 0) (cond (isFlock f) (writes (listOctets f w)) (refuses badEntry 0)) (refuses (w .stop) (w .end))
 
 -- of a bundle
 unfoldable pub flockList : ℕ → List ℕ → Reply

@@ -18,7 +18,7 @@ ghost use Rattle.octets.specs.Table.{classes};
 ghost use Rattle.messages.specs.Message.{Message};
 ghost use Rattle.ranges.specs.Ranges.{placesEnd, Held};
 ghost use Rattle.bundle.specs.Bundle.{wordOf, flockOf, kindOf, lengthOf, isFlock, kindNumber, messageVerdict, headed, nextAt};
-ghost use Rattle.bundle.specs.Answers.{FormJudged};
+ghost use Rattle.bundle.specs.Answers.{Lent, FormJudged};
 
 // Whether the number is a flock's.
 pub fn is_flock(f: u32) -> bool
@@ -49,14 +49,14 @@ pub fn word_at(s: &[u8], at: usize) -> u32
     ((a * 256 + b) * 256 + c) * 256 + d
 }
 
-// The kind of a message, as its head shows it.
-fn kind_number(response: bool) -> u32
-    ensures { λ r. ⌜ r ≡ kindNumber response ⌝ }
+// Whether the kind is that of a message.
+fn is_kind(kind: u32, response: bool) -> bool
+    ensures { λ r. ⌜ r ≡ eqb kind (kindNumber response) ⌝ }
 {
     if response {
-        return 1;
+        return kind == 1;
     }
-    0
+    kind == 0
 }
 
 // Whether the first n octets of `a` are s.
@@ -99,7 +99,7 @@ fn judge_message(
     trailers: &mut [u32],
     scratch: &mut [u8],
 ) -> u32
-    requires { ⌜ (now t ≡ classes) × (1280 ≤ length (now headers)) × (8 ≤ length (now heads)) × (512 ≤ length (now chunks)) × (256 ≤ length (now trailers)) × (65535 ≤ length (now scratch)) ⌝ }
+    requires { ⌜ Lent (now t) (now headers) (now heads) (now chunks) (now trailers) (now scratch) ⌝ }
     ensures { λ r. ⌜ r ≡ messageVerdict kind (now (s .entry)) ⌝ }
 {
     let o = binary_in(t, s, headers, heads, chunks, trailers);
@@ -107,7 +107,7 @@ fn judge_message(
         Outcome::More => return Refusals::MORE_NEEDED,
         Outcome::Refusal { number, place } => return number,
         Outcome::Message(r) => {
-            if kind == kind_number(r.response) {
+            if is_kind(kind, r.response) {
                 if in_form(s, r, headers, heads, chunks, trailers, scratch) {
                     return 0;
                 } else {

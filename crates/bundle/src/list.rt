@@ -6,12 +6,20 @@ use octets::Refusals;
 use output::Written;
 use output::put_part;
 ghost use mathlib.Core.Path.{_≡_};
-ghost use mathlib.Core.Bool.{cond, false};
+ghost use mathlib.Core.Bool.{cond};
 ghost use Prim.Native.Nat.{_+_, _≤_};
+ghost use lib.Dec.{eqb};
 ghost use lib.ListN.{length};
-ghost use Rattle.output.specs.Splice.{part, liesWithin, Put, PutIf};
 ghost use Rattle.output.specs.Reply.{writes, Served};
-ghost use Rattle.bundle.specs.Bundle.{walk, entriesOctets, ofFlock, flockList};
+ghost use Rattle.bundle.specs.Bundle.{flockOf, walk, listOctets, flockList};
+ghost use Rattle.bundle.specs.Answers.{PickedPut, ListPut};
+
+// Whether the entry of this head is the flock's, delivered or not.
+fn is_of(word: u32, flock: u32) -> bool
+    ensures { λ r. ⌜ r ≡ eqb (flockOf word) flock ⌝ }
+{
+    word / 33554432 == flock
+}
 
 // So much, if it is picked.
 fn size_if(picked: bool, n: usize) -> usize
@@ -25,7 +33,7 @@ fn size_if(picked: bool, n: usize) -> usize
 
 // The n octets of s from a place on, if they are picked.
 fn put_if(out: &mut [u8], o: usize, s: &[u8], at: usize, n: usize, picked: bool) -> usize
-    ensures { λ r. ⌜ PutIf (cond picked (cond (liesWithin (now (s .entry)) at n) (liesWithin (now (out .entry)) o n) false) false) (now (out .entry)) o (part (now (s .entry)) at n) n (now (out .exit)) r ⌝ }
+    ensures { λ r. ⌜ PickedPut picked (now (s .entry)) at n (now (out .entry)) o (now (out .exit)) r ⌝ }
 {
     if picked {
         return put_part(out, o, s, at, n);
@@ -36,7 +44,7 @@ fn put_if(out: &mut [u8], o: usize, s: &[u8], at: usize, n: usize, picked: bool)
 // How long the list is, of a bundle that has so many entries.
 fn list_size(s: &[u8], count: usize, flock: u32) -> usize
     requires { ⌜ count ≡ length (walk (now s) .entries) ⌝ }
-    ensures { λ r. ⌜ r ≡ length (entriesOctets (ofFlock flock (walk (now (s .entry)) .entries))) ⌝ }
+    ensures { λ r. ⌜ r ≡ length (listOctets flock (walk (now (s .entry)))) ⌝ }
 {
     let mut i = 0;
     let mut at = 0;
@@ -44,7 +52,7 @@ fn list_size(s: &[u8], count: usize, flock: u32) -> usize
     while i < count {
         let word = word_at(s, at);
         let n = 4 + (word % 4194304) as usize;
-        size += size_if(word / 33554432 == flock, n);
+        size += size_if(is_of(word, flock), n);
         at += n;
         i += 1;
     }
@@ -54,8 +62,8 @@ fn list_size(s: &[u8], count: usize, flock: u32) -> usize
 // The list into room for it.
 fn put_list(s: &[u8], count: usize, flock: u32, out: &mut [u8]) -> usize
     requires { ⌜ count ≡ length (walk (now s) .entries) ⌝ }
-    requires { ⌜ length (entriesOctets (ofFlock flock (walk (now s) .entries))) ≤ length (now out) ⌝ }
-    ensures { λ r. ⌜ Put (now (out .entry)) 0 (entriesOctets (ofFlock flock (walk (now (s .entry)) .entries))) (length (entriesOctets (ofFlock flock (walk (now (s .entry)) .entries)))) (now (out .exit)) r ⌝ }
+    requires { ⌜ length (listOctets flock (walk (now s))) ≤ length (now out) ⌝ }
+    ensures { λ r. ⌜ ListPut flock (walk (now (s .entry))) (now (out .entry)) (now (out .exit)) r ⌝ }
 {
     let mut i = 0;
     let mut at = 0;
@@ -63,7 +71,7 @@ fn put_list(s: &[u8], count: usize, flock: u32, out: &mut [u8]) -> usize
     while i < count {
         let word = word_at(s, at);
         let n = 4 + (word % 4194304) as usize;
-        o = put_if(out, o, s, at, n, word / 33554432 == flock);
+        o = put_if(out, o, s, at, n, is_of(word, flock));
         at += n;
         i += 1;
     }
@@ -73,7 +81,7 @@ fn put_list(s: &[u8], count: usize, flock: u32, out: &mut [u8]) -> usize
 // The list, or 13 at 0 where it does not fit.
 fn write_list(s: &[u8], count: usize, flock: u32, out: &mut [u8]) -> Written
     requires { ⌜ count ≡ length (walk (now s) .entries) ⌝ }
-    ensures { λ r. ⌜ Served (writes (entriesOctets (ofFlock flock (walk (now (s .entry)) .entries)))) (now (out .entry)) (now (out .exit)) r ⌝ }
+    ensures { λ r. ⌜ Served (writes (listOctets flock (walk (now (s .entry))))) (now (out .entry)) (now (out .exit)) r ⌝ }
 {
     let n = list_size(s, count, flock);
     if out.len() < n {

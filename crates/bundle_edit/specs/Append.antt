@@ -1,6 +1,7 @@
--- The appender of Binary messages (02, item 1): "judges the bundle (its own place), then count, flock and message, then written length, then room". It is a writer
--- into the buffer from the used length on: what it writes there is one entry, undelivered, of the message's kind and as long as what is written.
+-- The appender of Binary messages (02, item 1): "judges the bundle (its own place), then count, flock and message, then written length, then room". It is a
+-- writer into the buffer from the used length on: what it writes there is one entry, undelivered, of the message's kind and as long as what is written.
 use Prim.Native.Nat.{ℕ, _+_, _-_, _≤_}
+use mathlib.Core.Path.{_≡_}
 use mathlib.Core.Bool.{Bool, true, false, cond}
 use mathlib.Core.List.{List, [], _∷_, _++_}
 use lib.Dec.{leb, ltb, eqb}
@@ -49,8 +50,8 @@ appendReply b used f m = cond (leb used (length b)) (behindBundle b used f m) (r
 
 -- ---- the flat answer, and the buffer afterwards
 
--- whether a record of a table is to be changed, which one and by how many octets of message; number, place and the used length afterwards; and how many integers
--- of the message were not in their shortest form, which is 0 until item 8
+-- whether a record of a table is to be changed, which one and by how many octets of message; number, place and the used length afterwards; and how many
+-- integers of the message were not in their shortest form, which is 0 until item 8
 abbrev pub planOf : ℕ → ℕ → Written → Plan
 planOf used f (Done n) = record { go = true; index = f - 1; size = n - 4; number = 0; place = 0; used = used + n; long = 0 }
 planOf used f (Refused number place) = record { go = false; index = 0; size = 0; number = number; place = place; used = used; long = 0 }
@@ -62,6 +63,10 @@ appendPlan b used f m = planOf used f (writtenOf (appendReply b used f m) (lengt
 -- the buffer afterwards: a refusal alters no octet of it
 unfoldable pub appended : List ℕ → ℕ → ℕ → List ℕ → List ℕ
 appended b used f m = lentAfterAt (appendReply b used f m) used b
+
+-- an append to the buffer b answers r and leaves b′
+abbrev pub Planned : List ℕ → ℕ → ℕ → List ℕ → List ℕ → Plan → Type 0
+Planned b used f m b′ r = (r ≡ appendPlan b used f m) × (b′ ≡ appended b used f m)
 
 -- an answer that may be made into a plan without passing a number's width
 abbrev pub Fair : ℕ → ℕ → ℕ → Written → Type 0

@@ -16,7 +16,7 @@ ghost use Rattle.output.specs.Reply.{ServedAt};
 ghost use Rattle.turn.specs.Turn.{binaryToBinary};
 ghost use Rattle.bundle.specs.Bundle.{headOf, headOctets, isFlock, walk};
 ghost use Rattle.bundle.specs.Answers.{bundleOf};
-ghost use Rattle.bundle_edit.specs.Append.{messageEntry, behindBundle, planOf, appendPlan, appended, Fair};
+ghost use Rattle.bundle_edit.specs.Append.{messageEntry, behindBundle, planOf, Planned, Fair};
 
 // What a call that changes a bundle answers, flat: whether a table's record is to be changed, which one, by how many octets of message; number, place, the used
 // length afterwards; integers that were not in their shortest form.
@@ -151,7 +151,7 @@ fn append_entry(buf: &mut [u8], used: usize, flock: u32, message: &[u8]) -> Writ
 
 // A Binary message behind a bundle of `used` octets in the buffer, as an undelivered entry of the flock.
 pub fn append(buf: &mut [u8], used: usize, flock: u32, message: &[u8]) -> Plan
-    ensures { λ r. ⌜ (r ≡ appendPlan (now (buf .entry)) used flock (now (message .entry))) × (now (buf .exit) ≡ appended (now (buf .entry)) used flock (now (message .entry))) ⌝ }
+    ensures { λ r. ⌜ Planned (now (buf .entry)) used flock (now (message .entry)) (now (buf .exit)) r ⌝ }
 {
     let room = buf.len();
     if used <= room {

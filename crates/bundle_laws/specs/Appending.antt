@@ -1,5 +1,5 @@
--- An append (02, item 1): "The appender makes undelivered entries"; what it accepts is read back as the entries before it and the new one; what it refuses alters
--- nothing.
+-- An append (02, item 1): "The appender makes undelivered entries"; what it accepts is read back as the entries before it and the new one; what it refuses
+-- alters nothing.
 use Prim.Native.Nat.{ℕ, _+_, _-_, _≤_}
 use mathlib.Core.Path.{_≡_}
 use mathlib.Core.List.{List, [], _∷_, _++_}

@@ -36,8 +36,8 @@ unfoldable pub requestsOf : List Entry → List (List ℕ)
 requestsOf [] = []
 requestsOf (e ∷ es) = textIf (eqb (kindOf (wordOf (e .head))) 0) (e .text) (requestsOf es)
 
--- calls of the HTTP/1.1 writer, told t, in one lent space: on the requests of good entries, so on those of a bundle and of a flock's list, whatever selection of
--- them. What is left out by a refusal is said by `entriesOf` (demands/specs/Demand3)
+-- calls of the HTTP/1.1 writer, told t, in one lent space: on the requests of good entries, so on those of a bundle and of a flock's list, whatever selection
+-- of them. What is left out by a refusal is said by `entriesOf` (demands/specs/Demand3)
 pub record Requests (t : Told) : Type 0 where
   -- no response is among them
   pub none : (es : List Entry) → Each InForm es → (o : List ℕ) → NoResponse t o (requestsOf es)
@@ -46,7 +46,8 @@ pub record Requests (t : Told) : Type 0 where
       → takeOff (readMeaning t) (streamOf t o (requestsOf es) ++ behind) ≡ onto (entriesOf t o (requestsOf es)) (takeOff (readMeaning t) behind)
   -- what is then left is exactly the octets behind
   pub left : (es : List Entry) → Each InForm es → (o behind : List ℕ)
-      → takeF (readMeaning t) (length (entriesOf t o (requestsOf es))) (streamOf t o (requestsOf es) ++ behind) ≡ onto (entriesOf t o (requestsOf es)) (waits behind)
+      → takeF (readMeaning t) (length (entriesOf t o (requestsOf es))) (streamOf t o (requestsOf es) ++ behind)
+      ≡ onto (entriesOf t o (requestsOf es)) (waits behind)
   -- two lists give the same octets exactly when their accepted meanings are the same in number and order
   pub same : (es ds : List Entry) → Each InForm es → Each InForm ds → (o q : List ℕ)
       → (streamOf t o (requestsOf es) ≡ streamOf t q (requestsOf ds)) ↔ (meaningsOf t o (requestsOf es) ≡ meaningsOf t q (requestsOf ds))

@@ -12,8 +12,8 @@ use Rattle.sound.specs.Placed.{Each}
 use Rattle.binary_writer.specs.Write.{binaryOf}
 use Rattle.bundle.specs.Bundle.{wordOf, flockOf, kindOf, lengthOf, isFlock, Entry, entriesOctets, readMessage, kindNumber, Walk, walkFrom, walk}
 
--- a good entry: a head of four octets that names a flock, the message's kind and its length; a message that is read to its last octet and in form: its octets are
--- what the Binary writer writes for its meaning
+-- a good entry: a head of four octets that names a flock, the message's kind and its length; a message that is read to its last octet and in form: its octets
+-- are what the Binary writer writes for its meaning
 pub record InForm (e : Entry) : Type 0 where
   pub head : length (e .head) ≡ 4
   pub flock : isFlock (flockOf (wordOf (e .head))) ≡ true

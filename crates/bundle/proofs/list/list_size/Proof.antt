@@ -27,11 +27,14 @@ cast-n c = search needs
 add-n : tie.Need-add-n Inv-loop μ-loop
 add-n c = omega (arith, stood-small (c .before .before .loop .inv .0) (c .before .loop-test .taken) (c .word-at .ensures))
 
+is-of-requires : tie.Need-is-of-requires Inv-loop μ-loop
+is-of-requires c κs = search needs
+
 size-if-requires : tie.Need-size-if-requires Inv-loop μ-loop
 size-if-requires c κs = search needs
 
 add-size : tie.Need-add-size Inv-loop μ-loop
-add-size c = let z = sizing-next (c .before .before .before .loop .inv .0) (c .before .before .loop-test .taken) (c .before .word-at .ensures) (c .before .before .before .loop .inv .1) refl (c .size-if .ensures) in omega (arith, z .below, stood-small (c .before .before .before .loop .inv .0) (c .before .before .loop-test .taken) (c .before .word-at .ensures), c .before .before .before .loop .inv .0 .few, c .before .before .before .loop .inv .0 .below, c .before .before .before .loop .inv .1 .below)
+add-size c = let z = sizing-next (c .before .before .before .before .loop .inv .0) (c .before .before .before .loop-test .taken) (c .before .before .word-at .ensures) (c .before .before .before .before .loop .inv .1) (c .before .is-of .ensures) (c .size-if .ensures) in omega (arith, z .below, stood-small (c .before .before .before .before .loop .inv .0) (c .before .before .before .loop-test .taken) (c .before .before .word-at .ensures), c .before .before .before .before .loop .inv .0 .few, c .before .before .before .before .loop .inv .0 .below, c .before .before .before .before .loop .inv .1 .below)
 
 add-at : tie.Need-add-at Inv-loop μ-loop
 add-at c = search needs
@@ -43,7 +46,7 @@ loop-less : tie.Need-loop-less Inv-loop μ-loop
 loop-less c = search needs
 
 loop-again : tie.Need-loop-again Inv-loop μ-loop
-loop-again c = (passing-next (c .before .before .before .loop .inv .0) (c .before .before .loop-test .taken) (c .before .word-at .ensures), sizing-next (c .before .before .before .loop .inv .0) (c .before .before .loop-test .taken) (c .before .word-at .ensures) (c .before .before .before .loop .inv .1) refl (c .size-if .ensures))
+loop-again c = (passing-next (c .before .before .before .before .loop .inv .0) (c .before .before .before .loop-test .taken) (c .before .before .word-at .ensures), sizing-next (c .before .before .before .before .loop .inv .0) (c .before .before .before .loop-test .taken) (c .before .before .word-at .ensures) (c .before .before .before .before .loop .inv .1) (c .before .is-of .ensures) (c .size-if .ensures))
 
 returns : tie.Need-returns Inv-loop μ-loop
 returns c = sizing-end (c .before .loop .inv .0) (c .before .loop .inv .1) (c .loop-test .left)
@@ -58,6 +61,7 @@ list-size-spec =
     word-at-requires
     cast-n
     add-n
+    is-of-requires
     size-if-requires
     add-size
     add-at

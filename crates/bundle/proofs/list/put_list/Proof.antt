@@ -27,6 +27,9 @@ cast-n c = search needs
 add-n : tie.Need-add-n Inv-loop μ-loop
 add-n c = omega (arith, stood-small (c .before .before .loop .inv .0) (c .before .loop-test .taken) (c .word-at .ensures))
 
+is-of-requires : tie.Need-is-of-requires Inv-loop μ-loop
+is-of-requires c κs = search needs
+
 put-if-requires : tie.Need-put-if-requires Inv-loop μ-loop
 put-if-requires c κs = search needs
 
@@ -40,7 +43,7 @@ loop-less : tie.Need-loop-less Inv-loop μ-loop
 loop-less c = search needs
 
 loop-again : tie.Need-loop-again Inv-loop μ-loop
-loop-again c = (passing-next (c .before .before .before .before .before .before .loop .inv .0) (c .before .before .before .before .before .loop-test .taken) (c .before .before .before .before .word-at .ensures), listing-next (c .before .before .before .before .before .before .before .before .before .args .flock) (c .before .before .before .before .before .before .loop .inv .0) (c .before .before .before .before .before .loop-test .taken) (c .before .before .before .before .word-at .ensures) (c .before .before .before .before .before .before .loop .inv .1) (c .before .before .before .before .before .before .before .before .before .pre .1) refl (c .before .before .put-if .ensures))
+loop-again c = (passing-next (c .before .before .before .before .before .before .before .loop .inv .0) (c .before .before .before .before .before .before .loop-test .taken) (c .before .before .before .before .before .word-at .ensures), listing-next (c .before .before .before .before .before .before .before .before .before .before .args .flock) (c .before .before .before .before .before .before .before .loop .inv .0) (c .before .before .before .before .before .before .loop-test .taken) (c .before .before .before .before .before .word-at .ensures) (c .before .before .before .before .before .before .before .loop .inv .1) (c .before .before .before .before .before .before .before .before .before .before .pre .1) (c .before .before .before .is-of .ensures) (c .before .before .put-if .ensures))
 
 same-length : tie.Need-same-length Inv-loop μ-loop
 same-length c = omega (arith, c .before .loop .inv .1 .kept)
@@ -58,6 +61,7 @@ put-list-spec =
     word-at-requires
     cast-n
     add-n
+    is-of-requires
     put-if-requires
     add-at
     add-i
