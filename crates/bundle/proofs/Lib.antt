@@ -1,0 +1,4 @@
+pub mod Messages
+pub mod Heads
+pub mod Walks
+pub mod Lists

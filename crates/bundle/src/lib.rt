@@ -1,0 +1,18 @@
+// The night's bundle: its reader, and the list of one flock. Here and nowhere else: what an entry's head says and when its message is in form.
+pub mod entry; // entry.rt: one entry: its head, its message
+pub mod list; // list.rt: the list of one flock
+pub mod reader; // reader.rt: the walk over a bundle
+
+// What stands at a place of a bundle: an entry by its head, or where the walk stops and why; 0 is the end of the octets.
+pub enum Next {
+    Entry { word: u32 },
+    Stop { number: u32 },
+}
+
+// A walk over a bundle: how many entries there are, where it ends and what stopped it (0: nothing), and head, start and length of each entry.
+pub struct Bundle {
+    pub count: usize,
+    pub end: usize,
+    pub number: u32,
+    pub numbers: [u32; 768],
+}

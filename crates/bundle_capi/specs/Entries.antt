@@ -1,0 +1,63 @@
+-- What the C entries on bundles answer, by value, and what they leave in what they are lent (02, item 1), in terms of `walk`, `appendPlan` and `flockList`.
+use Prim.Native.Nat.{ℕ, _*_}
+use mathlib.Core.Path.{_≡_}
+use mathlib.Core.Bool.{Bool, true, false, cond}
+use mathlib.Core.List.{List}
+use lib.Dec.{leb, eqb}
+use lib.ListN.{length}
+use Rattle.octets.specs.Refusals.{noRoom}
+use Rattle.output.specs.Splice.{splice}
+use Rattle.output.specs.Reply.{Reply, writtenOf, lentAfter}
+use Rattle.output.specs.declared.Written.{Written}
+use Rattle.output.specs.declared.Written.the-variants.{Done, Refused}
+use Rattle.bundle.specs.Bundle.{Walk}
+use Rattle.bundle.specs.Answers.{numbersFrom}
+use Rattle.bundle_edit.specs.Append.{appendPlan, appended}
+use Rattle.bundle_edit.specs.declared.Plan.{Plan}
+use Rattle.bundle_capi.specs.declared.ReadAnswer.{ReadAnswer}
+use Rattle.bundle_capi.specs.declared.AppendAnswer.{AppendAnswer}
+use Rattle.bundle_capi.specs.declared.ListAnswer.{ListAnswer}
+
+-- ---- the reader
+
+-- a refusal has its number and its place, and no entries
+abbrev pub readRefused : ℕ → ℕ → ReadAnswer
+readRefused number place = record { number = number; place = place; entries = 0 }
+
+-- a bundle that was walked, where so many numbers are lent: three an entry; too few are 13 at 0, last
+unfoldable pub readAnswer : Walk → ℕ → ReadAnswer
+readAnswer w room =
+    cond (eqb (w .stop) 0)
+    (cond (leb (length (w .entries) * 3) room) (record { number = 0; place = 0; entries = length (w .entries) }) (readRefused noRoom 0))
+    (readRefused (w .stop) (w .end))
+
+-- the lent numbers afterwards: head, start and length of each entry, in order; a refusal alters none
+unfoldable pub readAfter : Walk → List ℕ → List ℕ
+readAfter w o = cond (eqb (w .stop) 0) (cond (leb (length (w .entries) * 3) (length o)) (splice o 0 (numbersFrom 0 (w .entries))) o) o
+
+-- the promise of the entry that was lent o
+pub record ReadEntered (w : Walk) (o o′ : List ℕ) (r : ReadAnswer) : Type 0 where
+  pub answer : r ≡ readAnswer w (length o)
+  pub after : o′ ≡ readAfter w o
+
+-- ---- the appender
+
+-- of its plan what C sees
+abbrev pub appendOf : Plan → AppendAnswer
+appendOf p = record { number = p .number; place = p .place; used = p .used; long = p .long }
+
+-- the promise of the entry that was lent the buffer b
+abbrev pub AppendEntered : List ℕ → ℕ → ℕ → List ℕ → List ℕ → AppendAnswer → Type 0
+AppendEntered b used f m b′ r = (r ≡ appendOf (appendPlan b used f m)) × (b′ ≡ appended b used f m)
+
+-- ---- the list
+
+-- the length written, or the refusal's number and place
+abbrev pub listOf : Written → ListAnswer
+listOf (Done n) = record { number = 0; place = 0; length = n }
+listOf (Refused number place) = record { number = number; place = place; length = 0 }
+
+-- the promise of the entry that was lent o
+pub record ListEntered (y : Reply) (o o′ : List ℕ) (r : ListAnswer) : Type 0 where
+  pub answer : r ≡ listOf (writtenOf y (length o))
+  pub after : o′ ≡ lentAfter y o

@@ -1,0 +1,74 @@
+-- The appender of Binary messages (02, item 1): "judges the bundle (its own place), then count, flock and message, then written length, then room". It is a
+-- writer into the buffer from the used length on: what it writes there is one entry, undelivered, of the message's kind and as long as what is written.
+use Prim.Native.Nat.{ℕ, _+_, _-_, _≤_}
+use mathlib.Core.Path.{_≡_}
+use mathlib.Core.Bool.{Bool, true, false, cond}
+use mathlib.Core.List.{List, [], _∷_, _++_}
+use lib.Dec.{leb, ltb, eqb}
+use lib.ListN.{length, take}
+use Rattle.octets.specs.Refusals.{tooLarge, noRoom, badEntry}
+use Rattle.messages.specs.Meaning.{Meaning}
+use Rattle.messages.specs.Valid.{ofResponse}
+use Rattle.binary_writer.specs.Write.{toBinary}
+use Rattle.output.specs.Reply.{Reply, writes, refuses, writtenOf, lentAfterAt}
+use Rattle.output.specs.declared.Written.{Written}
+use Rattle.output.specs.declared.Written.the-variants.{Done, Refused}
+use Rattle.turn.specs.Turn.{replyFrom}
+use Rattle.octets.specs.Limits.{entriesMost}
+use Rattle.bundle.specs.Bundle.{headOf, headOctets, isFlock, readMessage, kindNumber, Walk, walk}
+use Rattle.bundle_edit.specs.declared.Plan.{Plan}
+
+-- ---- what is written
+
+-- a message behind its head: of the flock, not delivered, of this kind; a refusal stands
+abbrev pub withHead : ℕ → ℕ → Reply → Reply
+withHead f kind (writes bs) = writes (headOctets (headOf f 0 kind (length bs)) ++ bs)
+withHead f kind (refuses number place) = refuses number place
+
+-- the entry of a meaning: "written length" is 8 at 0 (toBinary)
+abbrev pub entryFor : ℕ → Meaning → Reply
+entryFor f x = withHead f (kindNumber (ofResponse (x .control))) (toBinary x)
+
+-- the entry of a message, whose own numbers stand at its own places
+abbrev pub messageEntry : ℕ → List ℕ → Reply
+messageEntry f m = replyFrom (length m) (readMessage m) (entryFor f)
+
+-- behind the bundle that was walked: its own number at its place, 8 at 0 for a 257th entry, 15 at 0 for no flock, then the message
+abbrev pub behindWalk : Walk → ℕ → List ℕ → Reply
+behindWalk w f m =
+    cond (eqb (w .stop) 0)
+    (cond (ltb (length (w .entries)) entriesMost) (cond (isFlock f) (messageEntry f m) (refuses badEntry 0)) (refuses tooLarge 0))
+    (refuses (w .stop) (w .end))
+
+-- behind the bundle that the first `used` octets of the buffer are
+unfoldable pub behindBundle : List ℕ → ℕ → ℕ → List ℕ → Reply
+behindBundle b used f m = behindWalk (walk (take used b)) f m
+
+-- "a used length past the buffer is 13 first"
+unfoldable pub appendReply : List ℕ → ℕ → ℕ → List ℕ → Reply
+appendReply b used f m = cond (leb used (length b)) (behindBundle b used f m) (refuses noRoom 0)
+
+-- ---- the flat answer, and the buffer afterwards
+
+-- whether a record of a table is to be changed, which one and by how many octets of message; number, place and the used length afterwards; and how many
+-- integers of the message were not in their shortest form, which is 0 until item 8
+abbrev pub planOf : ℕ → ℕ → Written → Plan
+planOf used f (Done n) = record { go = true; index = f - 1; size = n - 4; number = 0; place = 0; used = used + n; long = 0 }
+planOf used f (Refused number place) = record { go = false; index = 0; size = 0; number = number; place = place; used = used; long = 0 }
+
+-- what an append answers: room is what is behind the used length, 13 at 0
+unfoldable pub appendPlan : List ℕ → ℕ → ℕ → List ℕ → Plan
+appendPlan b used f m = planOf used f (writtenOf (appendReply b used f m) (length b - used))
+
+-- the buffer afterwards: a refusal alters no octet of it
+unfoldable pub appended : List ℕ → ℕ → ℕ → List ℕ → List ℕ
+appended b used f m = lentAfterAt (appendReply b used f m) used b
+
+-- an append to the buffer b answers r and leaves b′
+abbrev pub Planned : List ℕ → ℕ → ℕ → List ℕ → List ℕ → Plan → Type 0
+Planned b used f m b′ r = (r ≡ appendPlan b used f m) × (b′ ≡ appended b used f m)
+
+-- an answer that may be made into a plan without passing a number's width
+abbrev pub Fair : ℕ → ℕ → ℕ → Written → Type 0
+Fair room used f (Done n) = (used + n ≤ room) × (4 ≤ n) × (n ≤ 65539) × (1 ≤ f)
+Fair room used f (Refused number place) = Unit {0}

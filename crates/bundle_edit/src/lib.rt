@@ -1,0 +1,170 @@
+// Appending to a bundle. Everything is judged before the head is written, so that a refused append alters no octet of the buffer.
+use bundle::Bundle;
+use bundle::entry::is_flock;
+use bundle::reader::read_bundle;
+use octets::Limits;
+use octets::Refusals;
+use output::Written;
+use turning::from_binary::binary_to_binary;
+ghost use mathlib.Core.Path.{_≡_};
+ghost use mathlib.Core.Bool.{cond, true};
+ghost use Prim.Native.Nat.{_+_, _≤_};
+ghost use lib.Dec.{leb};
+ghost use lib.ListN.{length, take};
+ghost use Rattle.output.specs.Splice.{splice};
+ghost use Rattle.output.specs.Reply.{ServedAt};
+ghost use Rattle.turn.specs.Turn.{binaryToBinary};
+ghost use Rattle.bundle.specs.Bundle.{headOf, headOctets, isFlock, walk};
+ghost use Rattle.bundle.specs.Answers.{bundleOf};
+ghost use Rattle.bundle_edit.specs.Append.{messageEntry, behindBundle, planOf, Planned, Fair};
+
+// What a call that changes a bundle answers, flat: whether a table's record is to be changed, which one, by how many octets of message; number, place, the used
+// length afterwards; integers that were not in their shortest form.
+pub struct Plan {
+    pub go: bool,
+    pub index: usize,
+    pub size: u32,
+    pub number: u32,
+    pub place: usize,
+    pub used: usize,
+    pub long: usize,
+}
+
+// The plan of a writer's answer.
+fn plan_of(room: usize, used: usize, flock: u32, w: Written) -> Plan
+    requires { ⌜ Fair room used flock w ⌝ }
+    ensures { λ r. ⌜ r ≡ planOf used flock w ⌝ }
+{
+    match w {
+        Written::Refused { number, place } => return Plan {
+            go: false,
+            index: 0,
+            size: 0,
+            number,
+            place,
+            used,
+            long: 0,
+        },
+        Written::Done(n) => return Plan {
+            go: true,
+            index: flock as usize - 1,
+            size: (n - 4) as u32,
+            number: 0,
+            place: 0,
+            used: used + n,
+            long: 0,
+        },
+    }
+}
+
+// The head of an undelivered entry.
+fn head_word(flock: u32, kind: u8, n: usize) -> u32
+    requires { ⌜ (flock ≤ 127) × (kind ≤ 1) × (n ≤ 65535) ⌝ }
+    ensures { λ r. ⌜ r ≡ headOf flock 0 kind n ⌝ }
+{
+    flock * 33554432 + kind as u32 * 4194304 + n as u32
+}
+
+// A head into the four octets from a place on.
+fn put_head(buf: &mut [u8], at: usize, word: u32)
+    requires { ⌜ at + 4 ≤ length (now buf) ⌝ }
+    ensures { λ _. ⌜ now (buf .exit) ≡ splice (now (buf .entry)) at (headOctets word) ⌝ }
+{
+    buf[at] = (word / 256 / 256 / 256 % 256) as u8;
+    buf[at + 1] = (word / 256 / 256 % 256) as u8;
+    buf[at + 1 + 1] = (word / 256 % 256) as u8;
+    buf[at + 1 + 1 + 1] = (word % 256) as u8;
+}
+
+// Where the message of an entry at `used` begins: behind its head, or at the end of a buffer that has no room for the head.
+fn behind_head(size: usize, used: usize) -> usize
+    requires { ⌜ used ≤ size ⌝ }
+    ensures { λ r. ⌜ r ≡ cond (leb (used + 4) size) (used + 4) size ⌝ }
+{
+    if size - used < 4 {
+        return size;
+    }
+    used + 4
+}
+
+// The message anew into the buffer from a place on: the only loan.
+fn lend_behind(message: &[u8], buf: &mut [u8], from: usize) -> Written
+    requires { ⌜ from ≤ length (now buf) ⌝ }
+    ensures { λ r. ⌜ ServedAt (binaryToBinary (now (message .entry))) from (now (buf .entry)) (now (buf .exit)) r ⌝ }
+{
+    binary_to_binary(message, &mut buf[from..])
+}
+
+// The message as an entry at `used`: written behind its head first, the head last.
+fn put_entry(buf: &mut [u8], used: usize, flock: u32, message: &[u8]) -> Written
+    requires { ⌜ (used ≤ length (now buf)) × (isFlock flock ≡ true) ⌝ }
+    ensures { λ r. ⌜ ServedAt (messageEntry flock (now (message .entry))) used (now (buf .entry)) (now (buf .exit)) r ⌝ }
+{
+    let from = behind_head(buf.len(), used);
+    let w = lend_behind(message, buf, from);
+    match w {
+        Written::Refused { number, place } => return Written::Refused { number, place },
+        Written::Done(n) => {
+            let kind = buf[from];
+            let word = head_word(flock, kind, n);
+            put_head(buf, used, word);
+            return Written::Done(n + 4);
+        }
+    }
+}
+
+// The bundle that the first octets of a buffer are.
+fn front_bundle(buf: &[u8], used: usize) -> Bundle
+    requires { ⌜ used ≤ length (now buf) ⌝ }
+    ensures { λ r. ⌜ r ≡ bundleOf (walk (take used (now (buf .entry)))) ⌝ }
+{
+    read_bundle(&buf[..used])
+}
+
+// Bundle, count and flock judged, then the entry put.
+fn append_entry(buf: &mut [u8], used: usize, flock: u32, message: &[u8]) -> Written
+    requires { ⌜ used ≤ length (now buf) ⌝ }
+    ensures { λ r. ⌜ ServedAt (behindBundle (now (buf .entry)) used flock (now (message .entry))) used (now (buf .entry)) (now (buf .exit)) r ⌝ }
+{
+    let b = front_bundle(buf, used);
+    if b.number == 0 {
+        if b.count < Limits::ENTRIES {
+            if is_flock(flock) {
+                return put_entry(buf, used, flock, message);
+            } else {
+                return Written::Refused {
+                    number: Refusals::BAD_ENTRY,
+                    place: 0,
+                };
+            }
+        }
+        return Written::Refused {
+            number: Refusals::TOO_LARGE,
+            place: 0,
+        };
+    }
+    Written::Refused {
+        number: b.number,
+        place: b.end,
+    }
+}
+
+// A Binary message behind a bundle of `used` octets in the buffer, as an undelivered entry of the flock.
+pub fn append(buf: &mut [u8], used: usize, flock: u32, message: &[u8]) -> Plan
+    ensures { λ r. ⌜ Planned (now (buf .entry)) used flock (now (message .entry)) (now (buf .exit)) r ⌝ }
+{
+    let room = buf.len();
+    if used <= room {
+        let w = append_entry(buf, used, flock, message);
+        return plan_of(room, used, flock, w);
+    }
+    plan_of(
+        room,
+        used,
+        flock,
+        Written::Refused {
+            number: Refusals::NO_ROOM,
+            place: 0,
+        },
+    )
+}

@@ -1,0 +1,5 @@
+pub mod Reading
+pub mod Appending
+pub mod Listing
+pub mod Demands
+pub mod Table

@@ -1,0 +1,88 @@
+-- A small table of bundles (02, item 1), by computation: "For Figure 13, flock 5, not delivered, the head is `0a 40 00 30`", and what each refusal looks like.
+use Prim.Native.Nat.{ℕ}
+use mathlib.Core.Path.{_≡_}
+use mathlib.Core.List.{List, [], _∷_, _++_}
+use lib.ListN.{length}
+use Rattle.numbers.specs.Places.{push}
+use Rattle.output.specs.Reply.{Reply, writes, refuses}
+use Rattle.examples.specs.Examples.{hex, figure13, postBinary}
+use Rattle.bundle.specs.Bundle.{wordOf, headOf, headOctets, entriesOctets, messageVerdict, headed, nextAt, walkFrom, walk, ofFlock, flockList}
+use Rattle.bundle_edit.specs.Append.{behindBundle, appendReply}
+
+-- ---- what a row says
+
+pub data Row : Type 0 where
+  -- a head of flock, delivered, kind and length has these octets
+  heads : ℕ → ℕ → ℕ → ℕ → List ℕ → Row
+  -- these octets are walked: so many entries, the end's place, the number that stopped it
+  walks : List ℕ → ℕ → ℕ → ℕ → Row
+  -- an append to the first `used` octets of a buffer, of a flock and a message, replies so
+  appends : List ℕ → ℕ → ℕ → List ℕ → Reply → Row
+  -- the list of a flock of these octets
+  lists : ℕ → List ℕ → Reply → Row
+
+-- it holds
+abbrev pub Holds : Row → Type 0
+Holds (heads f d k n l) = headOctets (headOf f d k n) ≡ l
+Holds (walks s count end stop) = (length (walk s .entries) ≡ count) × (walk s .end ≡ end) × (walk s .stop ≡ stop)
+Holds (appends b used f m y) = appendReply b used f m ≡ y
+Holds (lists f s y) = flockList f s ≡ y
+
+-- all rows hold
+abbrev pub All : List Row → Type 0
+All [] = Unit {0}
+All (r ∷ rs) = Holds r × All rs
+
+-- ---- the table
+
+-- Figure 13 as an entry of flock 5, not delivered; delivered
+unfoldable pub entry13 : List ℕ
+entry13 = hex "0a400030" ++ figure13
+
+-- the same, delivered
+unfoldable pub delivered13 : List ℕ
+delivered13 = hex "0b400030" ++ figure13
+
+-- P5's Binary as an entry of flock 6
+unfoldable pub entryP5 : List ℕ
+entryP5 = hex "0c000016" ++ postBinary
+
+-- the rows, by 02's order
+unfoldable pub table : List Row
+table =
+    heads 5 0 1 48 (hex "0a400030")
+    ∷ appends [] 0 5 figure13 (writes entry13)
+    -- "an empty one is accepted"
+    ∷ walks [] 0 0 0
+    ∷ walks entry13 1 52 0
+    ∷ walks (entry13 ++ delivered13) 2 104 0
+    -- cut head: 9 at the entry
+    ∷ walks (entry13 ++ hex "0a4000") 1 52 9
+    -- flock 0, kind 2: 15, before the length and before a cut message
+    ∷ walks (hex "007fffff") 0 0 15
+    ∷ walks (hex "0abfffff") 0 0 15
+    -- a length above 65,535: 8; a cut message: 9
+    ∷ walks (hex "0a410000") 0 0 8
+    ∷ walks (hex "0a400030 01") 0 0 9
+    -- the message's own: an empty message is 9
+    ∷ walks (hex "0a400000") 0 0 9
+    -- a kind other than the message's; a padded message: 15
+    ∷ walks (hex "0a000030" ++ figure13) 0 0 15
+    ∷ walks (hex "0a400031" ++ figure13 ++ hex "00") 0 0 15
+    -- the appender: behind another entry; a used length past the buffer; no flock; the message's own at its own place
+    ∷ appends (entry13 ++ hex "ffff") 52 6 postBinary (writes entryP5)
+    ∷ appends entry13 53 5 figure13 (refuses 13 0)
+    ∷ appends entry13 51 5 figure13 (refuses 9 0)
+    ∷ appends entry13 52 128 figure13 (refuses 15 0)
+    ∷ appends entry13 52 5 (figure13 ++ hex "01") (refuses 12 48)
+    -- lists: delivered entries too; an empty one; no flock, behind the bundle's own
+    ∷ lists 5 (entry13 ++ entryP5 ++ delivered13) (writes (entry13 ++ delivered13))
+    ∷ lists 7 entry13 (writes [])
+    ∷ lists 0 entry13 (refuses 15 0)
+    ∷ lists 0 (hex "0a") (refuses 9 0)
+    ∷ []
+
+-- opens the definitions of bundles, so that the rows are proved by computation
+unfoldable pub opened : Unit {0}
+unfolding push wordOf headOctets entriesOctets messageVerdict headed nextAt walkFrom walk ofFlock flockList behindBundle appendReply
+opened = tt
