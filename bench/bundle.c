@@ -15,8 +15,8 @@ static struct message whole, all_but_one, post; /* the bundle, the same without 
 
 static void read_bundle(const struct message *message, struct found *found)
 {
-    struct ospirnar_read_answer answer = ospirnar_read_bundle(message->octets, message->len, entries, ENTRIES * OSPIRNAR_ENTRY_NUMBERS);
-    *found = (struct found){.taken = answer.number == 0 ? message->len : 0, .fields = answer.entries};
+    struct ospirnar_bundle_answer answer = ospirnar_read_bundle(message->octets, message->len, entries, ENTRIES * OSPIRNAR_ENTRY_NUMBERS);
+    *found = (struct found){.taken = answer.number == 0 ? answer.place : 0, .fields = answer.count};
 }
 
 static void read_messages(const struct message *message, struct found *found)

@@ -63,22 +63,22 @@ int main(void)
     }
     if (!gather(len, &used))
         return 1;
-    struct ospirnar_read_answer whole = ospirnar_read_bundle(bundle, used, entries, NUMBERS);
-    if (whole.number != 0)
+    struct ospirnar_bundle_answer whole = ospirnar_read_bundle(bundle, used, entries, NUMBERS);
+    if (whole.number != 0 || whole.place != used)
         return 2;
-    for (size_t i = 0; i < whole.entries; i++) {
+    for (size_t i = 0; i < whole.count; i++) {
         const uint32_t *entry = entries + i * OSPIRNAR_ENTRY_NUMBERS;
         printf("entry %zu: flock %u, %s, %s, %u octets at %u\n", i, (unsigned)OSPIRNAR_FLOCK(entry[0]), OSPIRNAR_DELIVERED(entry[0]) ? "delivered" : "not delivered",
                OSPIRNAR_KIND(entry[0]) ? "response" : "request", (unsigned)entry[2], (unsigned)entry[1]);
     }
     for (uint32_t flock = 1; flock <= FLOCKS; flock++) {
         struct ospirnar_list_answer answer = ospirnar_flock_list(bundle, used, flock, list, sizeof list);
-        struct ospirnar_read_answer own = ospirnar_read_bundle(list, answer.length, entries, NUMBERS);
+        struct ospirnar_bundle_answer own = ospirnar_read_bundle(list, answer.len, entries, NUMBERS);
         if (answer.number != 0 || own.number != 0)
             return 2;
-        if (own.entries != 0)
-            printf("flock %u: %zu entries, %zu octets\n", (unsigned)flock, own.entries, answer.length);
+        if (own.count != 0)
+            printf("flock %u: %zu entries, %zu octets\n", (unsigned)flock, own.count, answer.len);
     }
-    printf("%zu entries, %zu octets\n", whole.entries, used);
+    printf("%zu entries, %zu octets\n", whole.count, used);
     return 0;
 }

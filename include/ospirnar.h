@@ -102,10 +102,10 @@ uint32_t ospirnar_binary_field(const uint8_t *input, size_t input_len, const uin
 #define OSPIRNAR_KIND(head) ((uint32_t)(head) >> 22 & 3)
 #define OSPIRNAR_LENGTH(head) ((uint32_t)(head) & 0x3fffff)
 
-/* number 0: `place` is 0, `entries` how many there are. Otherwise a refusal: `place` is where it arose, `entries` is 0. */
-struct ospirnar_read_answer {
+/* number 0: `place` is the bundle's length, `count` the number of its entries. Otherwise a refusal: `place` is where it arose, `count` is 0. */
+struct ospirnar_bundle_answer {
     uint32_t number;
-    size_t place, entries;
+    size_t place, count;
 };
 
 /* number 0: `place` is 0, `used` the length of the bundle afterwards, `long_forms` is 0. Otherwise a refusal: `place` is where it arose, `used` is as it was told. */
@@ -114,16 +114,16 @@ struct ospirnar_append_answer {
     size_t place, used, long_forms;
 };
 
-/* number 0: `place` is 0, `length` the number of octets written. Otherwise a refusal: `place` is where it arose, `length` is 0. */
+/* number 0: `place` is 0, `len` the number of octets written. Otherwise a refusal: `place` is where it arose, `len` is 0. */
 struct ospirnar_list_answer {
     uint32_t number;
-    size_t place, length;
+    size_t place, len;
 };
 
-/* The bundle that the octets are: three numbers for each entry, in order, into `numbers`; all behind them stays. Refusals, all placed at the entry's first octet: 9 for a cut head; 8 for a
+/* The bundle that the input is: three numbers for each entry, in order, into `entries`; all behind them stays. Refusals, all placed at the entry's first octet: 9 for a cut head; 8 for a
  * 257th entry; 15 for flock 0 or kind 2 or 3; 8 for a length above 65,535; 9 for a cut message; the message's own number; 15 for a kind other than the message's or a message that is
  * not as we write it. Then 13 at 0 where the numbers do not fit (OSPIRNAR_ENTRIES_MOST * OSPIRNAR_ENTRY_NUMBERS are always enough). A refusal alters nothing. */
-struct ospirnar_read_answer ospirnar_read_bundle(const uint8_t *bundle, size_t bundle_len, uint32_t *numbers, size_t numbers_len);
+struct ospirnar_bundle_answer ospirnar_read_bundle(const uint8_t *input, size_t input_len, uint32_t *entries, size_t entries_len);
 
 /* A Binary message behind the bundle that the first `used` octets of the buffer are, as an undelivered entry of the flock: written anew, straight into the room behind its head. Refusals: 13
  * at 0 for a used length past the buffer; the bundle's own; 8 at 0 for a 257th entry; 15 at 0 for a flock outside 1 to 127; the message's own at its own place; 8 at 0 where it would be
@@ -132,7 +132,7 @@ struct ospirnar_append_answer ospirnar_append(uint8_t *buffer, size_t buffer_len
 
 /* The entries of one flock, heads and messages, delivered ones too, copied in order: itself a bundle. Refusals: the bundle's own; 15 at 0 for a flock outside 1 to 127; 13 at 0 where it does
  * not fit. A refusal alters nothing. */
-struct ospirnar_list_answer ospirnar_flock_list(const uint8_t *bundle, size_t bundle_len, uint32_t flock, uint8_t *output, size_t output_len);
+struct ospirnar_list_answer ospirnar_flock_list(const uint8_t *input, size_t input_len, uint32_t flock, uint8_t *output, size_t output_len);
 
 #ifdef __cplusplus
 }

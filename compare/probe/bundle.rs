@@ -7,10 +7,10 @@ use super::{hex, judge_room, list, number, octets, ranges, refused, room, write_
 mod entries {
     //! As in include/ospirnar.h, line for line.
     #[repr(C)]
-    pub struct ReadAnswer {
+    pub struct BundleAnswer {
         pub number: u32,
         pub place: usize,
-        pub entries: usize,
+        pub count: usize,
     }
     #[repr(C)]
     pub struct AppendAnswer {
@@ -23,13 +23,13 @@ mod entries {
     pub struct ListAnswer {
         pub number: u32,
         pub place: usize,
-        pub length: usize,
+        pub len: usize,
     }
     #[link(name = "bundle_capi", kind = "static")]
     extern "C" {
-        pub fn ospirnar_read_bundle(bundle: *const u8, bundle_len: usize, numbers: *mut u32, numbers_len: usize) -> ReadAnswer;
+        pub fn ospirnar_read_bundle(input: *const u8, input_len: usize, entries: *mut u32, entries_len: usize) -> BundleAnswer;
         pub fn ospirnar_append(buffer: *mut u8, buffer_len: usize, used: usize, flock: u32, message: *const u8, message_len: usize) -> AppendAnswer;
-        pub fn ospirnar_flock_list(bundle: *const u8, bundle_len: usize, flock: u32, output: *mut u8, output_len: usize) -> ListAnswer;
+        pub fn ospirnar_flock_list(input: *const u8, input_len: usize, flock: u32, output: *mut u8, output_len: usize) -> ListAnswer;
     }
 }
 
@@ -38,12 +38,12 @@ const ENTRIES_MOST: usize = 256;
 /// An answer that the header rules out.
 const OUT_OF_RANGE: Answer = Answer { number: u32::MAX, place: usize::MAX };
 
-/// The reader's answer and the number of entries: accepted, its place is 0; a refusal counts no entry.
+/// The bundle's answer: accepted it is as long as the input; a refusal counts no entry.
 fn read_bundle(input: &[u8], lent: &mut Lent<u32>) -> (Answer, usize) {
     let (pointer, room) = lent.lend();
     let answer = unsafe { entries::ospirnar_read_bundle(input.as_ptr(), input.len(), pointer, room) };
-    let good = if answer.number == 0 { answer.place == 0 && answer.entries <= ENTRIES_MOST } else { answer.entries == 0 };
-    (if good { Answer { number: answer.number, place: answer.place } } else { OUT_OF_RANGE }, answer.entries)
+    let good = if answer.number == 0 { answer.place == input.len() && answer.count <= ENTRIES_MOST } else { answer.count == 0 };
+    (if good { Answer { number: answer.number, place: answer.place } } else { OUT_OF_RANGE }, answer.count)
 }
 
 pub fn bundle(input: &[u8]) -> Result<String, &'static str> {
@@ -125,9 +125,9 @@ fn flock_list(input: &[u8], flock: u32, out: &mut Lent<u8>) -> Answer {
     let (pointer, room) = out.lend();
     let answer = unsafe { entries::ospirnar_flock_list(input.as_ptr(), input.len(), flock, pointer, room) };
     match answer.number {
-        0 if answer.place == 0 => Answer { number: 0, place: answer.length },
+        0 if answer.place == 0 => Answer { number: 0, place: answer.len },
         0 => OUT_OF_RANGE,
-        _ if answer.length == 0 => Answer { number: answer.number, place: answer.place },
+        _ if answer.len == 0 => Answer { number: answer.number, place: answer.place },
         _ => OUT_OF_RANGE,
     }
 }
