@@ -1,5 +1,5 @@
 -- What the code of the bundle reader promises, in terms of `walk` (Bundle; 02, item 1: "each entry's head and message range, in order").
-use Prim.Native.Nat.{ℕ, _+_, _≤_}
+use Prim.Native.Nat.{ℕ, _+_, _*_, _≤_}
 use mathlib.Core.Path.{_≡_}
 use mathlib.Core.Bool.{Bool, false, cond}
 use mathlib.Core.List.{List, [], _∷_, _++_}
@@ -10,6 +10,7 @@ use Rattle.messages.specs.Meaning.{meaning}
 use Rattle.messages.specs.declared.Record.{Record}
 use Rattle.ranges.specs.Ranges.{Held}
 use Rattle.binary_writer.specs.Write.{toBinary}
+use Rattle.octets.specs.Limits.{binaryMost, entriesMost}
 use Rattle.octets.specs.Table.{classes}
 use Rattle.output.specs.Splice.{splice, part, liesWithin, Put, PutIf}
 use Rattle.bundle.specs.Bundle.{Entry, wordOf, isWritten, Walk, listOctets}
@@ -24,9 +25,13 @@ unfoldable pub numbersFrom : ℕ → List Entry → List ℕ
 numbersFrom at [] = []
 numbersFrom at (e ∷ es) = entryNumbers at e ++ numbersFrom (at + (4 + length (e .text))) es
 
+-- how many numbers all entries of a bundle take
+abbrev pub entriesRoom : ℕ
+entriesRoom = entriesMost * 3
+
 -- a walk by value: how many entries it has and where, where it ends, and the number that stopped it
 abbrev pub bundleOf : Walk → Bundle
-bundleOf w = record { count = length (w .entries); end = w .end; number = w .stop; numbers = padded 768 (numbersFrom 0 (w .entries)) }
+bundleOf w = record { count = length (w .entries); end = w .end; number = w .stop; numbers = padded entriesRoom (numbersFrom 0 (w .entries)) }
 
 -- a walk that was lent o leaves o′ and answers so many entries, an end and a number
 pub record Walked (w : Walk) (o o′ : List ℕ) (count end number : ℕ) : Type 0 where
@@ -38,7 +43,7 @@ pub record Walked (w : Walk) (o o′ : List ℕ) (count end number : ℕ) : Type
 -- what is lent to judge a message: the table of classes, room for its ranges, and for what is written of it
 abbrev pub Lent : List ℕ → List ℕ → List ℕ → List ℕ → List ℕ → List ℕ → Type 0
 Lent t hs ns cs ts scratch =
-    (t ≡ classes) × (1280 ≤ length hs) × (8 ≤ length ns) × (512 ≤ length cs) × (256 ≤ length ts) × (65535 ≤ length scratch)
+    (t ≡ classes) × (1280 ≤ length hs) × (8 ≤ length ns) × (512 ≤ length cs) × (256 ≤ length ts) × (binaryMost ≤ length scratch)
 
 -- n octets of s from a place on, put into o from w on if they are picked and there is room
 abbrev pub PickedPut : Bool → List ℕ → ℕ → ℕ → List ℕ → ℕ → List ℕ → ℕ → Type 0

@@ -25,25 +25,35 @@ use Rattle.bundle.specs.declared.Next.the-variants as next
 unfoldable pub wordOf : List ℕ → ℕ
 wordOf h = ((getD h 0 0 * 256 + getD h 1 0) * 256 + getD h 2 0) * 256 + getD h 3 0
 
+-- what one flock, the mark of delivery and one kind count; lengths are below one kind
+abbrev pub flockUnit : ℕ
+flockUnit = 33554432
+
+abbrev pub deliveredUnit : ℕ
+deliveredUnit = 16777216
+
+abbrev pub kindUnit : ℕ
+kindUnit = 4194304
+
 -- "7 bits flock"
 abbrev pub flockOf : ℕ → ℕ
-flockOf w = w / 33554432
+flockOf w = w / flockUnit
 
 -- "1 bit delivered"
 abbrev pub deliveredOf : ℕ → ℕ
-deliveredOf w = w / 16777216 % 2
+deliveredOf w = w / deliveredUnit % 2
 
 -- "2 bits kind (0 request, 1 response)"
 abbrev pub kindOf : ℕ → ℕ
-kindOf w = w / 4194304 % 4
+kindOf w = w / kindUnit % 4
 
 -- "22 bits length of the message"
 abbrev pub lengthOf : ℕ → ℕ
-lengthOf w = w % 4194304
+lengthOf w = w % kindUnit
 
 -- the head of these parts
 abbrev pub headOf : ℕ → ℕ → ℕ → ℕ → ℕ
-headOf flock delivered kind n = flock * 33554432 + delivered * 16777216 + kind * 4194304 + n
+headOf flock delivered kind n = flock * flockUnit + delivered * deliveredUnit + kind * kindUnit + n
 
 -- a head as four octets
 unfoldable pub headOctets : ℕ → List ℕ

@@ -1,4 +1,5 @@
 // One entry of a bundle: its head, then its message.
+use crate::Head;
 use crate::Next;
 use binary_reader::whole::binary_in;
 use binary_writer::write_message;
@@ -14,6 +15,7 @@ ghost use Prim.Native.Nat.{ℕ, _+_, _≤_, _<_};
 ghost use lib.Dec.{leb, eqb};
 ghost use lib.ListN.{length, take, drop};
 ghost use Rattle.octets.specs.Text.{sameText};
+ghost use Rattle.octets.specs.Limits.{binaryMost};
 ghost use Rattle.octets.specs.Table.{classes};
 ghost use Rattle.messages.specs.Message.{Message};
 ghost use Rattle.ranges.specs.Ranges.{placesEnd, Held};
@@ -38,7 +40,7 @@ fn wide(b: u8) -> u32
 }
 
 // The head at a place, as a number.
-pub fn word_at(s: &[u8], at: usize) -> u32
+pub(crate) fn word_at(s: &[u8], at: usize) -> u32
     requires { ⌜ at + 4 ≤ length (now s) ⌝ }
     ensures { λ r. ⌜ r ≡ wordOf (drop at (now (s .entry))) ⌝ }
 {
@@ -78,7 +80,7 @@ fn in_form(
     scratch: &mut [u8],
 ) -> bool
     requires { ⌜ ((n : ℕ) × (m : Message) × Held (now s) n m r (now headers) (now heads) (now chunks) (now trailers)) ⌝ }
-    requires { ⌜ 65535 ≤ length (now scratch) ⌝ }
+    requires { ⌜ binaryMost ≤ length (now scratch) ⌝ }
     ensures { λ b. ⌜ FormJudged (now (s .entry)) r (now (headers .entry)) (now (heads .entry)) (now (chunks .entry)) (now (trailers .entry)) b ⌝ }
 {
     let w = write_message(s, r, headers, heads, chunks, trailers, scratch);
@@ -122,7 +124,7 @@ fn judge_message(
 
 // The same, with working space of its own.
 fn message_verdict(t: &[u8; 256], s: &[u8], kind: u32, scratch: &mut [u8]) -> u32
-    requires { ⌜ (now t ≡ classes) × (65535 ≤ length (now scratch)) ⌝ }
+    requires { ⌜ (now t ≡ classes) × (binaryMost ≤ length (now scratch)) ⌝ }
     ensures { λ r. ⌜ r ≡ messageVerdict kind (now (s .entry)) ⌝ }
 {
     let mut headers = [0u32; 1280];
@@ -143,17 +145,17 @@ fn message_verdict(t: &[u8; 256], s: &[u8], kind: u32, scratch: &mut [u8]) -> u3
 
 // The entry behind a whole head at the place `at`.
 fn headed_entry(t: &[u8; 256], s: &[u8], at: usize, word: u32, scratch: &mut [u8]) -> Next
-    requires { ⌜ (now t ≡ classes) × (at + 4 ≤ length (now s)) × (65535 ≤ length (now scratch)) ⌝ }
+    requires { ⌜ (now t ≡ classes) × (at + 4 ≤ length (now s)) × (binaryMost ≤ length (now scratch)) ⌝ }
     ensures { λ r. ⌜ r ≡ headed (drop at (now (s .entry))) word ⌝ }
 {
-    if is_flock(word / 33554432) {
-        let kind = word / 4194304 % 4;
+    if is_flock(word / Head::FLOCK) {
+        let kind = word / Head::KIND % 4;
         if 2 <= kind {
             return Next::Stop {
                 number: Refusals::BAD_ENTRY,
             };
         }
-        let n = (word % 4194304) as usize;
+        let n = (word % Head::KIND) as usize;
         if Limits::BINARY < n {
             return Next::Stop {
                 number: Refusals::TOO_LARGE,
@@ -176,8 +178,14 @@ fn headed_entry(t: &[u8; 256], s: &[u8], at: usize, word: u32, scratch: &mut [u8
 }
 
 // What stands at the place `at`, where `left` entries more may come.
-pub fn next_entry(t: &[u8; 256], s: &[u8], at: usize, left: usize, scratch: &mut [u8]) -> Next
-    requires { ⌜ (now t ≡ classes) × (at ≤ length (now s)) × (65535 ≤ length (now scratch)) ⌝ }
+pub(crate) fn next_entry(
+    t: &[u8; 256],
+    s: &[u8],
+    at: usize,
+    left: usize,
+    scratch: &mut [u8],
+) -> Next
+    requires { ⌜ (now t ≡ classes) × (at ≤ length (now s)) × (binaryMost ≤ length (now scratch)) ⌝ }
     ensures { λ r. ⌜ r ≡ nextAt left (drop at (now (s .entry))) ⌝ }
 {
     if s.len() <= at {

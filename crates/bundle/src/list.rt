@@ -1,4 +1,5 @@
 // The list of one flock: its entries' octets, copied in order.
+use crate::Head;
 use crate::entry::is_flock;
 use crate::entry::word_at;
 use crate::reader::read_bundle;
@@ -18,7 +19,7 @@ ghost use Rattle.bundle.specs.Answers.{PickedPut, ListPut};
 fn is_of(word: u32, flock: u32) -> bool
     ensures { λ r. ⌜ r ≡ eqb (flockOf word) flock ⌝ }
 {
-    word / 33554432 == flock
+    word / Head::FLOCK == flock
 }
 
 // So much, if it is picked.
@@ -51,7 +52,7 @@ fn list_size(s: &[u8], count: usize, flock: u32) -> usize
     let mut size = 0;
     while i < count {
         let word = word_at(s, at);
-        let n = 4 + (word % 4194304) as usize;
+        let n = 4 + (word % Head::KIND) as usize;
         size += size_if(is_of(word, flock), n);
         at += n;
         i += 1;
@@ -70,7 +71,7 @@ fn put_list(s: &[u8], count: usize, flock: u32, out: &mut [u8]) -> usize
     let mut o = 0;
     while i < count {
         let word = word_at(s, at);
-        let n = 4 + (word % 4194304) as usize;
+        let n = 4 + (word % Head::KIND) as usize;
         o = put_if(out, o, s, at, n, is_of(word, flock));
         at += n;
         i += 1;

@@ -1,5 +1,6 @@
 // The reader of a bundle: one walk over its octets.
 use crate::Bundle;
+use crate::Head;
 use crate::Next;
 use crate::entry::next_entry;
 use octets::Limits;
@@ -8,10 +9,11 @@ ghost use mathlib.Core.Path.{_≡_};
 ghost use mathlib.Core.List.{[], _∷_};
 ghost use Prim.Native.Nat.{_+_, _*_, _≤_};
 ghost use lib.ListN.{length};
+ghost use Rattle.octets.specs.Limits.{binaryMost};
 ghost use Rattle.octets.specs.Table.{classes};
 ghost use Rattle.output.specs.Splice.{splice};
 ghost use Rattle.bundle.specs.Bundle.{walk};
-ghost use Rattle.bundle.specs.Answers.{bundleOf, Walked};
+ghost use Rattle.bundle.specs.Answers.{entriesRoom, bundleOf, Walked};
 
 // How a walk ended: after so many entries, at a place, by a number.
 struct Ended {
@@ -33,7 +35,7 @@ fn store_entry(out: &mut [u32], k: usize, word: u32, start: u32, len: u32)
 
 // The walk, each entry's numbers into lent space.
 fn walk_into(t: &[u8; 256], s: &[u8], out: &mut [u32], scratch: &mut [u8]) -> Ended
-    requires { ⌜ (now t ≡ classes) × (768 ≤ length (now out)) × (65535 ≤ length (now scratch)) ⌝ }
+    requires { ⌜ (now t ≡ classes) × (entriesRoom ≤ length (now out)) × (binaryMost ≤ length (now scratch)) ⌝ }
     ensures { λ r. ⌜ Walked (walk (now (s .entry))) (now (out .entry)) (now (out .exit)) (r .count) (r .end) (r .number) ⌝ }
 {
     let mut at = 0;
@@ -47,7 +49,7 @@ fn walk_into(t: &[u8; 256], s: &[u8], out: &mut [u32], scratch: &mut [u8]) -> En
                 number,
             },
             Next::Entry { word } => {
-                let n = word % 4194304;
+                let n = word % Head::KIND;
                 store_entry(out, count, word, (at + 4) as u32, n);
                 count += 1;
                 at += 4 + n as usize;

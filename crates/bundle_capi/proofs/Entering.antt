@@ -18,8 +18,8 @@ use Rattle.bundle.specs.Bundle.{walk}
 use Rattle.bundle.specs.Answers.{numbersFrom, bundleOf}
 use Rattle.bundle.specs.declared.Bundle.{Bundle}
 use Rattle.bundle.proofs.Walks.{few-entries, numbers-length}
-use Rattle.bundle_capi.specs.Entries.{readRefused, readAnswer, readAfter, ReadEntered, listOf, ListEntered}
-use Rattle.bundle_capi.specs.declared.ReadAnswer.{ReadAnswer}
+use Rattle.bundle_capi.specs.Entries.{bundleRefused, bundleAnswer, bundleAfter, BundleEntered, listOf, ListEntered}
+use Rattle.bundle_capi.specs.declared.BundleAnswer.{BundleAnswer}
 use Rattle.bundle_capi.specs.declared.ListAnswer.{ListAnswer}
 
 padded-length : (n : ℕ) (l : List ℕ) → length l ≤ n → length (padded n l) ≡ n
@@ -55,8 +55,8 @@ module _ (s : List ℕ) {b : Bundle} (e : b ≡ bundleOf (walk s)) where
       let q : b .count * 3 ≡ length l = rw count (sym (numbers-length 0 (walk s .entries))) in
       ap (λ (x : List ℕ). part x 0 (b .count * 3)) (ap (λ (x : Bundle). x .numbers) e) ∙ rw q (padded-front 768 l small)
 
-  pub read-stops : (o : List ℕ) → (b .number ≡ 0 → ⊥) → ReadEntered (walk s) o o (readRefused (b .number) (b .end))
-  unfolding readAnswer readAfter
+  pub read-stops : (o : List ℕ) → (b .number ≡ 0 → ⊥) → BundleEntered (walk s) o o (bundleRefused (b .number) (b .end))
+  unfolding bundleAnswer bundleAfter
   read-stops o n =
       let z : eqb (walk s .stop) 0 ≡ false = ne-eqb (walk s .stop) 0 (λ q. n (number ∙ q)) in
       let y : b .end ≡ walk s .end = ap (λ (x : Bundle). x .end) e in
@@ -66,18 +66,19 @@ module _ (s : List ℕ) {b : Bundle} (e : b ≡ bundleOf (walk s)) where
     good : eqb (walk s .stop) 0 ≡ true
     good = eq-eqb (walk s .stop) 0 (sym number ∙ n)
 
-    pub read-small : (o : List ℕ) → length o < b .count * 3 → ReadEntered (walk s) o o (readRefused noRoom 0)
-    unfolding readAnswer readAfter
+    pub read-small : (o : List ℕ) → length o < b .count * 3 → BundleEntered (walk s) o o (bundleRefused noRoom 0)
+    unfolding bundleAnswer bundleAfter
     read-small o h =
         let z : leb (length (walk s .entries) * 3) (length o) ≡ false = lt-leb (length (walk s .entries) * 3) (length o) (rw (← count) h) in
         record { answer = rw (good, z); after = rw (good, z) }
 
     pub read-done : {o o′ : List ℕ} → b .count * 3 ≤ length o → o′ ≡ splice o 0 (part (b .numbers) 0 (b .count * 3))
-        → ReadEntered (walk s) o o′ (record { number = 0; place = 0; entries = b .count })
-    unfolding readAnswer readAfter
+        → BundleEntered (walk s) o o′ (record { number = 0; place = b .end; count = b .count })
+    unfolding bundleAnswer bundleAfter
     read-done {o} {o′} h q =
         let z : leb (length (walk s .entries) * 3) (length o) ≡ true = le-leb (length (walk s .entries) * 3) (length o) (rw (← count) h) in
-        record { answer = rw (good, z, count); after = q ∙ rw (numbers-front, good, z) }
+        let y : b .end ≡ walk s .end = ap (λ (x : Bundle). x .end) e in
+        record { answer = rw (good, z, count, y); after = q ∙ rw (numbers-front, good, z) }
 
 -- the list's entry
 pub list-entered : {y : Reply} {o o′ : List ℕ} {w : Written} {r : ListAnswer} → Served y o o′ w → r ≡ listOf w → ListEntered y o o′ r

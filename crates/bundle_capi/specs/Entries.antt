@@ -14,31 +14,31 @@ use Rattle.bundle.specs.Bundle.{Walk}
 use Rattle.bundle.specs.Answers.{numbersFrom}
 use Rattle.bundle_edit.specs.Append.{appendPlan, appended}
 use Rattle.bundle_edit.specs.declared.Plan.{Plan}
-use Rattle.bundle_capi.specs.declared.ReadAnswer.{ReadAnswer}
+use Rattle.bundle_capi.specs.declared.BundleAnswer.{BundleAnswer}
 use Rattle.bundle_capi.specs.declared.AppendAnswer.{AppendAnswer}
 use Rattle.bundle_capi.specs.declared.ListAnswer.{ListAnswer}
 
 -- ---- the reader
 
 -- a refusal has its number and its place, and no entries
-abbrev pub readRefused : ℕ → ℕ → ReadAnswer
-readRefused number place = record { number = number; place = place; entries = 0 }
+abbrev pub bundleRefused : ℕ → ℕ → BundleAnswer
+bundleRefused number place = record { number = number; place = place; count = 0 }
 
 -- a bundle that was walked, where so many numbers are lent: three an entry; too few are 13 at 0, last
-unfoldable pub readAnswer : Walk → ℕ → ReadAnswer
-readAnswer w room =
+unfoldable pub bundleAnswer : Walk → ℕ → BundleAnswer
+bundleAnswer w room =
     cond (eqb (w .stop) 0)
-    (cond (leb (length (w .entries) * 3) room) (record { number = 0; place = 0; entries = length (w .entries) }) (readRefused noRoom 0))
-    (readRefused (w .stop) (w .end))
+    (cond (leb (length (w .entries) * 3) room) (record { number = 0; place = w .end; count = length (w .entries) }) (bundleRefused noRoom 0))
+    (bundleRefused (w .stop) (w .end))
 
 -- the lent numbers afterwards: head, start and length of each entry, in order; a refusal alters none
-unfoldable pub readAfter : Walk → List ℕ → List ℕ
-readAfter w o = cond (eqb (w .stop) 0) (cond (leb (length (w .entries) * 3) (length o)) (splice o 0 (numbersFrom 0 (w .entries))) o) o
+unfoldable pub bundleAfter : Walk → List ℕ → List ℕ
+bundleAfter w o = cond (eqb (w .stop) 0) (cond (leb (length (w .entries) * 3) (length o)) (splice o 0 (numbersFrom 0 (w .entries))) o) o
 
 -- the promise of the entry that was lent o
-pub record ReadEntered (w : Walk) (o o′ : List ℕ) (r : ReadAnswer) : Type 0 where
-  pub answer : r ≡ readAnswer w (length o)
-  pub after : o′ ≡ readAfter w o
+pub record BundleEntered (w : Walk) (o o′ : List ℕ) (r : BundleAnswer) : Type 0 where
+  pub answer : r ≡ bundleAnswer w (length o)
+  pub after : o′ ≡ bundleAfter w o
 
 -- ---- the appender
 
@@ -54,8 +54,8 @@ AppendEntered b used f m b′ r = (r ≡ appendOf (appendPlan b used f m)) × (b
 
 -- the length written, or the refusal's number and place
 abbrev pub listOf : Written → ListAnswer
-listOf (Done n) = record { number = 0; place = 0; length = n }
-listOf (Refused number place) = record { number = number; place = place; length = 0 }
+listOf (Done n) = record { number = 0; place = 0; len = n }
+listOf (Refused number place) = record { number = number; place = place; len = 0 }
 
 -- the promise of the entry that was lent o
 pub record ListEntered (y : Reply) (o o′ : List ℕ) (r : ListAnswer) : Type 0 where

@@ -9,14 +9,14 @@ ghost use Prim.Native.Nat.{_+_, _≤_};
 ghost use lib.ListN.{length};
 ghost use Rattle.output.specs.Splice.{splice, part};
 ghost use Rattle.bundle.specs.Bundle.{walk, flockList};
-ghost use Rattle.bundle_capi.specs.Entries.{ReadEntered, AppendEntered, listOf, ListEntered};
+ghost use Rattle.bundle_capi.specs.Entries.{BundleEntered, AppendEntered, listOf, ListEntered};
 
-// What the reader answers: 0 and the number of entries, or a refusal's number and place.
+// What the reader answers: 0, the bundle's length and the number of entries, or a refusal's number and place.
 #[repr(C)]
-pub struct ReadAnswer {
+pub struct BundleAnswer {
     pub number: u32,
     pub place: usize,
-    pub entries: usize,
+    pub count: usize,
 }
 
 // What the appender answers: 0 and the used length afterwards, or a refusal's number and place and the used length as it was; integers of the message that were
@@ -34,7 +34,7 @@ pub struct AppendAnswer {
 pub struct ListAnswer {
     pub number: u32,
     pub place: usize,
-    pub length: usize,
+    pub len: usize,
 }
 
 // The first n numbers of src.
@@ -57,43 +57,43 @@ fn list_answer(w: Written) -> ListAnswer
         Written::Done(n) => return ListAnswer {
             number: 0,
             place: 0,
-            length: n,
+            len: n,
         },
         Written::Refused { number, place } => return ListAnswer {
             number,
             place,
-            length: 0,
+            len: 0,
         },
     }
 }
 
 // Each entry's head, and start and length of its message, in order: three numbers an entry.
 #[no_mangle]
-pub extern "C" fn ospirnar_read_bundle(bundle: &[u8], numbers: &mut [u32]) -> ReadAnswer
-    ensures { λ r. ⌜ ReadEntered (walk (now (bundle .entry))) (now (numbers .entry)) (now (numbers .exit)) r ⌝ }
+pub extern "C" fn ospirnar_read_bundle(input: &[u8], entries: &mut [u32]) -> BundleAnswer
+    ensures { λ r. ⌜ BundleEntered (walk (now (input .entry))) (now (entries .entry)) (now (entries .exit)) r ⌝ }
 {
-    let b = read_bundle(bundle);
+    let b = read_bundle(input);
     if b.number == 0 {
         let n = b.count * 3;
-        if numbers.len() < n {
-            return ReadAnswer {
+        if entries.len() < n {
+            return BundleAnswer {
                 number: Refusals::NO_ROOM,
                 place: 0,
-                entries: 0,
+                count: 0,
             };
         }
         let found = b.numbers;
-        copy_numbers(numbers, &found, n);
-        return ReadAnswer {
+        copy_numbers(entries, &found, n);
+        return BundleAnswer {
             number: 0,
-            place: 0,
-            entries: b.count,
+            place: b.end,
+            count: b.count,
         };
     }
-    ReadAnswer {
+    BundleAnswer {
         number: b.number,
         place: b.end,
-        entries: 0,
+        count: 0,
     }
 }
 
@@ -118,9 +118,9 @@ pub extern "C" fn ospirnar_append(
 
 // The octets of one flock's entries, in order: a bundle again.
 #[no_mangle]
-pub extern "C" fn ospirnar_flock_list(bundle: &[u8], flock: u32, output: &mut [u8]) -> ListAnswer
-    ensures { λ r. ⌜ ListEntered (flockList flock (now (bundle .entry))) (now (output .entry)) (now (output .exit)) r ⌝ }
+pub extern "C" fn ospirnar_flock_list(input: &[u8], flock: u32, output: &mut [u8]) -> ListAnswer
+    ensures { λ r. ⌜ ListEntered (flockList flock (now (input .entry))) (now (output .entry)) (now (output .exit)) r ⌝ }
 {
-    let w = flock_list(bundle, flock, output);
+    let w = flock_list(input, flock, output);
     list_answer(w)
 }

@@ -14,7 +14,7 @@ use Rattle.output.specs.Reply.{Reply, writes, refuses, writtenOf, lentAfterAt}
 use Rattle.output.specs.declared.Written.{Written}
 use Rattle.output.specs.declared.Written.the-variants.{Done, Refused}
 use Rattle.turn.specs.Turn.{replyFrom}
-use Rattle.octets.specs.Limits.{entriesMost}
+use Rattle.octets.specs.Limits.{binaryMost, entriesMost}
 use Rattle.bundle.specs.Bundle.{headOf, headOctets, isFlock, readMessage, kindNumber, Walk, walk}
 use Rattle.bundle_edit.specs.declared.Plan.{Plan}
 
@@ -70,5 +70,5 @@ Planned b used f m b′ r = (r ≡ appendPlan b used f m) × (b′ ≡ appended 
 
 -- an answer that may be made into a plan without passing a number's width
 abbrev pub Fair : ℕ → ℕ → ℕ → Written → Type 0
-Fair room used f (Done n) = (used + n ≤ room) × (4 ≤ n) × (n ≤ 65539) × (1 ≤ f)
+Fair room used f (Done n) = (used + n ≤ room) × (4 ≤ n) × (n ≤ 4 + binaryMost) × (1 ≤ f)
 Fair room used f (Refused number place) = Unit {0}

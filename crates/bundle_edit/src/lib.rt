@@ -1,5 +1,6 @@
 // Appending to a bundle. Everything is judged before the head is written, so that a refused append alters no octet of the buffer.
 use bundle::Bundle;
+use bundle::Head;
 use bundle::entry::is_flock;
 use bundle::reader::read_bundle;
 use octets::Limits;
@@ -11,6 +12,7 @@ ghost use mathlib.Core.Bool.{cond, true};
 ghost use Prim.Native.Nat.{_+_, _≤_};
 ghost use lib.Dec.{leb};
 ghost use lib.ListN.{length, take};
+ghost use Rattle.octets.specs.Limits.{binaryMost, flocksMost};
 ghost use Rattle.output.specs.Splice.{splice};
 ghost use Rattle.output.specs.Reply.{ServedAt};
 ghost use Rattle.turn.specs.Turn.{binaryToBinary};
@@ -59,10 +61,10 @@ fn plan_of(room: usize, used: usize, flock: u32, w: Written) -> Plan
 
 // The head of an undelivered entry.
 fn head_word(flock: u32, kind: u8, n: usize) -> u32
-    requires { ⌜ (flock ≤ 127) × (kind ≤ 1) × (n ≤ 65535) ⌝ }
+    requires { ⌜ (flock ≤ flocksMost) × (kind ≤ 1) × (n ≤ binaryMost) ⌝ }
     ensures { λ r. ⌜ r ≡ headOf flock 0 kind n ⌝ }
 {
-    flock * 33554432 + kind as u32 * 4194304 + n as u32
+    flock * Head::FLOCK + kind as u32 * Head::KIND + n as u32
 }
 
 // A head into the four octets from a place on.
