@@ -72,23 +72,26 @@ enum-known-c c = search needs
 returns-5 : tie.Need-returns-5
 returns-5 c = chunk-last (c .before .before .before .before .before .before .before .before .before .before .before .args .s .now) (c .before .before .before .before .before .before .before .before .before .before .before .args .i) _ _ _ (ends-at (c .before .before .before .before .before .before .before)) (c .before .before .before .before .before .before .before .before .before .before .before .pre .1) _ (sym (c .before .before .before .before .chunk-line .ensures (c .before .before .before .before .before .before .before .before .before .before .before .pre .0)) ∙ c .before .before .c .given .1) (c .if1 .taken)
 
+is-full-requires : tie.Need-is-full-requires
+is-full-requires c κs = search needs
+
 returns-6 : tie.Need-returns-6
-returns-6 c = chunk-many (c .before .before .before .before .before .before .before .before .before .before .before .before .args .s .now) (c .before .before .before .before .before .before .before .before .before .before .before .before .args .i) _ _ _ (ends-at (c .before .before .before .before .before .before .before .before)) (c .before .before .before .before .before .before .before .before .before .before .before .before .pre .1) _ (sym (c .before .before .before .before .before .chunk-line .ensures (c .before .before .before .before .before .before .before .before .before .before .before .before .pre .0)) ∙ c .before .before .before .c .given .1) (c .before .if1 .left) (c .if2 .taken)
+returns-6 c = chunk-many (c .before .before .before .before .before .before .before .before .before .before .before .before .before .args .s .now) (c .before .before .before .before .before .before .before .before .before .before .before .before .before .args .i) _ _ _ (ends-at (c .before .before .before .before .before .before .before .before .before)) (c .before .before .before .before .before .before .before .before .before .before .before .before .before .pre .1) _ (sym (c .before .before .before .before .before .before .chunk-line .ensures (c .before .before .before .before .before .before .before .before .before .before .before .before .before .pre .0)) ∙ c .before .before .before .before .c .given .1) (c .before .before .if1 .left) (leb-true _ _ (sym (c .before .is-full .ensures) ∙ c .if2 .taken))
 
 add-fits : tie.Need-add-fits
-add-fits c = omega (arith, chunk-within _ _ (sym (c .before .before .before .before .before .chunk-line .ensures (c .before .before .before .before .before .before .before .before .before .before .before .before .pre .0)) ∙ c .before .before .before .c .given .1))
+add-fits c = omega (arith, chunk-within _ _ (sym (c .before .before .before .before .before .before .chunk-line .ensures (c .before .before .before .before .before .before .before .before .before .before .before .before .before .pre .0)) ∙ c .before .before .before .before .c .given .1))
 
 fits-requires : tie.Need-fits-requires
 fits-requires c κs = search needs
 
 chunk-data-requires : tie.Need-chunk-data-requires
-chunk-data-requires c κs = (two (c .before .before .before .before .before .before .before .before .before .before) .1, omega (arith, leb-true (c .before .before .before .before .before .before .before .before .before .before .before .before .before .before .args .total + c .before .before .before .before .before .c .given .0 .0) contentMost (sym (c .before .fits2 .ensures) ∙ c .if3 .taken)))
+chunk-data-requires c κs = (two (c .before .before .before .before .before .before .before .before .before .before .before) .1, omega (arith, leb-true (c .before .before .before .before .before .before .before .before .before .before .before .before .before .before .before .args .total + c .before .before .before .before .before .before .c .given .0 .0) contentMost (sym (c .before .fits2 .ensures) ∙ c .if3 .taken)))
 
 returns-7 : tie.Need-returns-7
-returns-7 c = chunk-data (c .before .before .before .before .before .before .before .before .before .before .before .before .before .before .before .args .s .now) (c .before .before .before .before .before .before .before .before .before .before .before .before .before .before .before .args .i) _ _ _ (ends-at (c .before .before .before .before .before .before .before .before .before .before .before)) (c .before .before .before .before .before .before .before .before .before .before .before .before .before .before .before .pre .1) _ (sym (c .before .before .before .before .before .before .before .before .chunk-line .ensures (c .before .before .before .before .before .before .before .before .before .before .before .before .before .before .before .pre .0)) ∙ c .before .before .before .before .before .before .c .given .1) (c .before .before .before .before .if1 .left) (c .before .before .before .if2 .left) (leb-true _ _ (sym (c .before .before .fits2 .ensures) ∙ c .before .if3 .taken)) (c .chunk-data .ensures)
+returns-7 c = chunk-data (c .before .before .before .before .before .before .before .before .before .before .before .before .before .before .before .before .args .s .now) (c .before .before .before .before .before .before .before .before .before .before .before .before .before .before .before .before .args .i) _ _ _ (ends-at (c .before .before .before .before .before .before .before .before .before .before .before .before)) (c .before .before .before .before .before .before .before .before .before .before .before .before .before .before .before .before .pre .1) _ (sym (c .before .before .before .before .before .before .before .before .before .chunk-line .ensures (c .before .before .before .before .before .before .before .before .before .before .before .before .before .before .before .before .pre .0)) ∙ c .before .before .before .before .before .before .before .c .given .1) (c .before .before .before .before .before .if1 .left) (leb-false _ _ (sym (c .before .before .before .before .is-full .ensures) ∙ c .before .before .before .if2 .left)) (leb-true _ _ (sym (c .before .before .fits2 .ensures) ∙ c .before .if3 .taken)) (c .chunk-data .ensures)
 
 returns-8 : tie.Need-returns-8
-returns-8 c = chunk-large (c .before .before .before .before .before .before .before .before .before .before .before .before .before .before .args .s .now) (c .before .before .before .before .before .before .before .before .before .before .before .before .before .before .args .i) _ _ _ (ends-at (c .before .before .before .before .before .before .before .before .before .before)) (c .before .before .before .before .before .before .before .before .before .before .before .before .before .before .pre .1) _ (sym (c .before .before .before .before .before .before .before .chunk-line .ensures (c .before .before .before .before .before .before .before .before .before .before .before .before .before .before .pre .0)) ∙ c .before .before .before .before .before .c .given .1) (c .before .before .before .if1 .left) (c .before .before .if2 .left) (leb-false _ _ (sym (c .before .fits2 .ensures) ∙ c .if3 .left))
+returns-8 c = chunk-large (c .before .before .before .before .before .before .before .before .before .before .before .before .before .before .before .args .s .now) (c .before .before .before .before .before .before .before .before .before .before .before .before .before .before .before .args .i) _ _ _ (ends-at (c .before .before .before .before .before .before .before .before .before .before .before)) (c .before .before .before .before .before .before .before .before .before .before .before .before .before .before .before .pre .1) _ (sym (c .before .before .before .before .before .before .before .before .chunk-line .ensures (c .before .before .before .before .before .before .before .before .before .before .before .before .before .before .before .pre .0)) ∙ c .before .before .before .before .before .before .c .given .1) (c .before .before .before .before .if1 .left) (leb-false _ _ (sym (c .before .before .before .is-full .ensures) ∙ c .before .before .if2 .left)) (leb-false _ _ (sym (c .before .fits2 .ensures) ∙ c .if3 .left))
 
 pub next-chunk-spec : {M : Type 1} → statement M
 next-chunk-spec =
@@ -111,6 +114,7 @@ next-chunk-spec =
     returns-4
     enum-known-c
     returns-5
+    is-full-requires
     returns-6
     add-fits
     fits-requires
