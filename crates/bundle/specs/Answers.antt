@@ -5,6 +5,7 @@ use mathlib.Core.Bool.{Bool, false, cond}
 use mathlib.Core.List.{List, [], _∷_, _++_}
 use lib.ListN.{length}
 use Rattle.messages.specs.Answers.{padded}
+use Rattle.messages.specs.Room.{sectionRoom, headsRoom, informationalRoom, chunksRoom}
 use Rattle.messages.specs.Message.{Message}
 use Rattle.messages.specs.Meaning.{meaning}
 use Rattle.messages.specs.declared.Record.{Record}
@@ -43,7 +44,8 @@ pub record Walked (w : Walk) (o o′ : List ℕ) (count end number : ℕ) : Type
 -- what is lent to judge a message: the table of classes, room for its ranges, and for what is written of it
 abbrev pub Lent : List ℕ → List ℕ → List ℕ → List ℕ → List ℕ → List ℕ → Type 0
 Lent t hs ns cs ts scratch =
-    (t ≡ classes) × (1280 ≤ length hs) × (8 ≤ length ns) × (512 ≤ length cs) × (256 ≤ length ts) × (binaryMost ≤ length scratch)
+    (t ≡ classes) × (headsRoom ≤ length hs) × (informationalRoom ≤ length ns) × (chunksRoom ≤ length cs) × (sectionRoom ≤ length ts)
+    × (binaryMost ≤ length scratch)
 
 -- n octets of s from a place on, put into o from w on if they are picked and there is room
 abbrev pub PickedPut : Bool → List ℕ → ℕ → ℕ → List ℕ → ℕ → List ℕ → ℕ → Type 0

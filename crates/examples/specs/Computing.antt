@@ -1,4 +1,4 @@
--- Opens every definition, so that the rows of the examples (01, "Examples") are proved by computation; no other proof uses it.
+-- Opens every definition, so that the rows of the examples (01, "Examples"; of bundles: bundle_laws) are proved by computation; no other proof uses it.
 use Rattle.octets.specs.Class.{isToken, isValue, isPath, isAuthority, classOf, hasClass, isBlank}
 use Rattle.octets.specs.Text.{spanLen, all, lowerOf, isLower, sameText, trimBack, isEmpty}
 use Rattle.numbers.specs.Places.{push}

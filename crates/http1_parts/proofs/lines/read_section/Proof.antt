@@ -41,9 +41,11 @@ use Rattle.octets.proofs.Limits.is_full.Reads as is-full-reads
 abbrev Inv-loop : tie.InvT-loop
 Inv-loop t s from allowance host base out₀ i₀ left₀ lines₀ count₀ notes₀ out i left lines count notes =
     (fs : List FieldRead) × (length fs ≡ lines) × (lines ≤ 64) × (i ≤ length s) × (i + left ≡ from + allowance) × (t ≡ classes) × (length out ≡ length out₀) × (count ≡ base + length (kept host fs)) × (notes ≡ notesOf true fs) × (out ≡ splice out₀ (base * 4) (fieldsNumbers (kept host fs))) × (run (section allowance) from (drop from s) ≡ run (fieldLines (suc (64 - lines)) left fs) i (drop i s))
+
 abbrev μ-loop : tie.MeasureT-loop
 μ-loop t s from allowance host base out₀ i₀ left₀ lines₀ count₀ notes₀ out i left lines count notes =
     65 - lines
+
 field : (c : tie.After-l2 Inv-loop μ-loop) → FieldAt (c .before .before .before .before .before .before .before .args .s .now) (c .before .before .before .loop .i) (c .before .before .before .loop .left) (c .l2 .given .0 .0) (c .l2 .given .0 .1 .0) (c .l2 .given .0 .1 .1 .0) (c .l2 .given .0 .1 .1 .1 .0)
 field c = tells-field _ _ _ _ _ _ _ (sym (c .before .before .next-line .ensures (c .before .before .before .loop .inv .5)) ∙ c .l2 .given .1)
 
