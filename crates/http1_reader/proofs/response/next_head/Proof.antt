@@ -1,4 +1,5 @@
 use borrow.Author.Needs.{needs}
+use borrow.Author.Tests.{leb-true, leb-false}
 use native.Mathlib.Omega.{arith}
 use Prim.Native.Nat.{ℕ, _+_, _-_, _≤_}
 use mathlib.Core.Path.{_≡_, refl, sym, _∙_}
@@ -78,17 +79,20 @@ cast-is-informational c = search needs
 is-informational-requires : tie.Need-is-informational-requires
 is-informational-requires c κs = search needs
 
+is-full-requires : tie.Need-is-full-requires
+is-full-requires c κs = search needs
+
 returns-5 : tie.Need-returns-5
-returns-5 c = next-full (c .before .before .before .before .before .before .before .before .before .before .before .before .before .before .args .s .now) (c .before .before .before .before .before .before .before .before .before .before .before .before .before .before .args .i) _ _ _ _ _ _ (ends-at (c .before .before .before .before .before .before .before .before .before)) (c .before .before .before .before .before .before .before .before .before .before .before .before .before .before .pre .1) _ (sym (c .before .before .before .before .before .before .status-line .ensures (c .before .before .before .before .before .before .before .before .before .before .before .before .before .before .pre .0)) ∙ c .before .before .before .before .q2 .given .1) (sym (c .before .before .is-informational .ensures) ∙ c .before .if1 .taken) (omega (arith, c .if2 .taken))
+returns-5 c = next-full (c .before .before .before .before .before .before .before .before .before .before .before .before .before .before .before .args .s .now) (c .before .before .before .before .before .before .before .before .before .before .before .before .before .before .before .args .i) _ _ _ _ _ _ (ends-at (c .before .before .before .before .before .before .before .before .before .before)) (c .before .before .before .before .before .before .before .before .before .before .before .before .before .before .before .pre .1) _ (sym (c .before .before .before .before .before .before .before .status-line .ensures (c .before .before .before .before .before .before .before .before .before .before .before .before .before .before .before .pre .0)) ∙ c .before .before .before .before .before .q2 .given .1) (sym (c .before .before .before .is-informational .ensures) ∙ c .before .before .if1 .taken) (leb-true _ _ (sym (c .before .is-full .ensures) ∙ c .if2 .taken))
 
 informational-head-requires : tie.Need-informational-head-requires
-informational-head-requires c κs = (c .before .before .before .before .before .before .before .before .before .before .before .before .before .before .before .pre .0, two (c .before .before .before .before .before .before .before .before .before .before) .1, omega (arith, two (c .before .before .before .before .before .before .before .before .before .before), c .before .before .before .before .before .before .before .before .before .before .before .before .before .before .before .pre .2), c .before .before .before .before .before .before .before .before .before .before .before .before .before .before .before .pre .3)
+informational-head-requires c κs = (c .before .before .before .before .before .before .before .before .before .before .before .before .before .before .before .before .pre .0, two (c .before .before .before .before .before .before .before .before .before .before .before) .1, omega (arith, two (c .before .before .before .before .before .before .before .before .before .before .before), c .before .before .before .before .before .before .before .before .before .before .before .before .before .before .before .before .pre .2), c .before .before .before .before .before .before .before .before .before .before .before .before .before .before .before .before .pre .3)
 
 same-length : tie.Need-same-length
 same-length c = search needs
 
 returns-6 : tie.Need-returns-6
-returns-6 c = next-informational (c .before .before .before .before .before .before .before .before .before .before .before .before .before .before .before .before .before .before .args .s .now) (c .before .before .before .before .before .before .before .before .before .before .before .before .before .before .before .before .before .before .args .i) _ _ _ _ _ _ (ends-at (c .before .before .before .before .before .before .before .before .before .before .before .before .before)) (c .before .before .before .before .before .before .before .before .before .before .before .before .before .before .before .before .before .before .pre .1) _ (sym (c .before .before .before .before .before .before .before .before .before .before .status-line .ensures (c .before .before .before .before .before .before .before .before .before .before .before .before .before .before .before .before .before .before .pre .0)) ∙ c .before .before .before .before .before .before .before .before .q2 .given .1) _ (sym (c .before .before .before .before .before .before .is-informational .ensures) ∙ c .before .before .before .before .before .if1 .taken) (omega (arith, c .before .before .before .before .if2 .left)) (c .before .before .informational-head .ensures)
+returns-6 c = next-informational (c .before .before .before .before .before .before .before .before .before .before .before .before .before .before .before .before .before .before .before .args .s .now) (c .before .before .before .before .before .before .before .before .before .before .before .before .before .before .before .before .before .before .before .args .i) _ _ _ _ _ _ (ends-at (c .before .before .before .before .before .before .before .before .before .before .before .before .before .before)) (c .before .before .before .before .before .before .before .before .before .before .before .before .before .before .before .before .before .before .before .pre .1) _ (sym (c .before .before .before .before .before .before .before .before .before .before .before .status-line .ensures (c .before .before .before .before .before .before .before .before .before .before .before .before .before .before .before .before .before .before .before .pre .0)) ∙ c .before .before .before .before .before .before .before .before .before .q2 .given .1) _ (sym (c .before .before .before .before .before .before .before .is-informational .ensures) ∙ c .before .before .before .before .before .before .if1 .taken) (leb-false _ _ (sym (c .before .before .before .before .before .is-full .ensures) ∙ c .before .before .before .before .if2 .left)) (c .before .before .informational-head .ensures)
 
 final-head-requires : tie.Need-final-head-requires
 final-head-requires c κs = (c .before .before .before .before .before .before .before .before .before .before .before .before .before .before .pre .0, two (c .before .before .before .before .before .before .before .before .before) .1, omega (arith, two (c .before .before .before .before .before .before .before .before .before), c .before .before .before .before .before .before .before .before .before .before .before .before .before .before .pre .2), c .before .before .before .before .before .before .before .before .before .before .before .before .before .before .pre .3)
@@ -123,6 +127,7 @@ next-head-spec =
     sub-rest-2
     cast-is-informational
     is-informational-requires
+    is-full-requires
     returns-5
     informational-head-requires
     same-length
