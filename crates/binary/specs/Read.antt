@@ -10,12 +10,15 @@ use Rattle.octets.specs.Limits.{methodMost, authorityMost, pathMost, linesMost,
 use Rattle.octets.specs.Refusals.{badSyntax, notSupported, badLength, tooLarge, cutOff, badIndicator, badSection, badPadding}
 use Rattle.script.specs.Script.{Answer, accepted, refused}
 use Rattle.script.specs.Do.{Piece, Judged, good, wrong}
-use Rattle.messages.specs.Message.{FieldRead, Section, InformationalRead, Start, requestStart, responseStart, Message, plainMessage, nonEmpty}
-use Rattle.messages.specs.Control.{methodVerdict, pathVerdict, authorityVerdict, statusVerdict, isInformational, isBodyless, isLowerName, isTrimmedValue}
+use Rattle.messages.specs.Message.{FieldRead, Section, InformationalRead, Start, requestStart, responseStart, Message, statingMessage, nonEmpty}
+use Rattle.messages.specs.Control.{methodVerdict, pathVerdict, authorityVerdict, statusVerdict, isInformational, endsAtHead, isLowerName, isTrimmedValue}
 use Rattle.messages.specs.Names.{areTrailers, keptTrailers}
-use Rattle.messages.specs.Rules.{authorityIn, binaryFramingOf, nothingStated, mayState, agrees}
+use Rattle.messages.specs.Rules.{authorityIn, binaryFramingOf, nothingStated, bodylessRule, mayState, agrees, statedIn}
 use Rattle.messages.specs.declared.Framing.{Framing}
 use Rattle.messages.specs.declared.Framing.the-variants.{Unstated}
+use Rattle.messages.specs.declared.StatedLength.{StatedLength}
+use Rattle.messages.specs.declared.StatedLength.the-variants.{Missing}
+use Rattle.messages.specs.declared.Told.{Told}
 use Rattle.messages.specs.Meaning.{contentOf}
 use Rattle.binary.specs.Reader.{Got, got, no, Reader, _>>=_, give, refuse, here, ended, tell, rule, integer, string}
 
@@ -206,7 +209,7 @@ contentRule body f end cs = cond (contentAgrees f body (length (contentOf cs))) 
 
 -- ---- trailers and padding
 
--- whether n kept trailers, which have good names or not, agree with a message that may have content or not: 204 and 304 keep none
+-- whether n kept trailers, which have good names or not, agree with a message that may have content or not: one that ends at its head keeps none
 unfoldable pub trailersAgree : Bool → Bool → ℕ → Bool
 trailersAgree names body n = cond names (cond body true (eqb n 0)) false
 
@@ -233,26 +236,26 @@ padding at (b ∷ s) = cond (eqb b 0) (padding (at + 1) s) (no badPadding at)
 -- ---- whole messages
 
 -- behind the content: trailers and padding
-unfoldable pub afterContent : Bool → Bool → Start → List FieldRead → List Piece → Reader Message
-afterContent known body start lines c = do
+unfoldable pub afterContent : Bool → Bool → StatedLength → Start → List FieldRead → List Piece → Reader Message
+afterContent known body stated start lines c = do
   ts ← trailers known body
   z ← padding
-  give (plainMessage start lines c ts)
+  give (statingMessage stated start lines c ts)
 
--- behind a header section that was judged: content, trailers, padding. `body` says whether the message may have content
-unfoldable pub afterHeaders : Bool → Bool → Start → Section → Framing → Reader Message
-afterHeaders known body start h f = do
+-- behind a header section that was judged: content, trailers, padding. `body` says whether the message may have content, `stated` the length it states if not
+unfoldable pub afterHeaders : Bool → Bool → StatedLength → Start → Section → Framing → Reader Message
+afterHeaders known body stated start h f = do
   cs ← content known
   e ← here
   c ← tell (contentRule body f e cs)
-  afterContent known body start (h .lines) c
+  afterContent known body stated start (h .lines) c
 
 -- behind the header section of a request: host, then the length, are judged
 unfoldable pub afterHead : Bool → RequestControl → Section → Reader Message
 afterHead known q h = do
   a ← tell (authorityIn (h .end) (q .authority) (h .lines))
   f ← tell (mayState (h .end) (binaryFramingOf (h .lines)))
-  afterHeaders known true (requestStart (q .method) (q .scheme) a (q .path)) h f
+  afterHeaders known true Missing (requestStart (q .method) (q .scheme) a (q .path)) h f
 
 -- behind the control data of a request
 unfoldable pub afterControl : Bool → RequestControl → Reader Message
@@ -267,21 +270,21 @@ requestMessage known = do
   afterControl known q
 
 -- behind the section of a final head of status n: the length that it states is judged
-unfoldable pub afterFinal : Bool → List InformationalRead → ℕ → Section → Reader Message
-afterFinal known is n h =
-    cond (isBodyless n)
+unfoldable pub afterFinal : Told → Bool → List InformationalRead → ℕ → Section → Reader Message
+afterFinal t known is n h =
+    cond (endsAtHead t n)
     (do
-      b ← tell (nothingStated (h .end) (binaryFramingOf (h .lines)))
-      afterHeaders known false (responseStart is n) h Unstated)
+      b ← tell (bodylessRule t n (h .end) (binaryFramingOf (h .lines)))
+      afterHeaders known false (statedIn t n (binaryFramingOf (h .lines))) (responseStart is n) h Unstated)
     (do
       f ← tell (mayState (h .end) (binaryFramingOf (h .lines)))
-      afterHeaders known true (responseStart is n) h f)
+      afterHeaders known true Missing (responseStart is n) h f)
 
 -- behind a final status n
-unfoldable pub afterFinalStatus : Bool → List InformationalRead → ℕ → Reader Message
-afterFinalStatus known is n = do
+unfoldable pub afterFinalStatus : Told → Bool → List InformationalRead → ℕ → Reader Message
+afterFinalStatus t known is n = do
   h ← section known
-  afterFinal known is n h
+  afterFinal t known is n h
 
 -- an informational head of status n with the lines of the section h
 abbrev pub informationalRead : ℕ → Section → InformationalRead
@@ -300,32 +303,32 @@ afterInformationalStatus known others is n = do
   afterInformational others is n h
 
 -- one head after another, behind the informational heads `is`: a fifth is refused at its status. The number is above how many may come
-unfoldable pub heads : Bool → ℕ → List InformationalRead → Reader Message
-heads known zero is = refuse tooLarge 0
-heads known (suc f) is = do
+unfoldable pub heads : Told → Bool → ℕ → List InformationalRead → Reader Message
+heads t known zero is = refuse tooLarge 0
+heads t known (suc f) is = do
   p ← here
   v ← integer cutOff p
   n ← tell (rule (statusVerdict v) p v)
   cond (isInformational n)
-      (cond (leb informationalMost (length is)) (refuse tooLarge p) (afterInformationalStatus known (heads known f) is n))
-      (afterFinalStatus known is n)
+      (cond (leb informationalMost (length is)) (refuse tooLarge p) (afterInformationalStatus known (heads t known f) is n))
+      (afterFinalStatus t known is n)
 
 -- a response
-abbrev pub responseMessage : Bool → Reader Message
-responseMessage known = heads known (suc informationalMost) []
+abbrev pub responseMessage : Told → Bool → Reader Message
+responseMessage t known = heads t known (suc informationalMost) []
 
 -- behind the framing indicator: 0 request, 1 response, of known length; 2 and 3 the same of indeterminate length
-unfoldable pub afterIndicator : ℕ → Reader Message
-afterIndicator f =
+unfoldable pub afterIndicator : Told → ℕ → Reader Message
+afterIndicator t f =
     cond (eqb f 0)
     (requestMessage true)
-    (cond (eqb f 1) (responseMessage true) (cond (eqb f 2) (requestMessage false) (cond (eqb f 3) (responseMessage false) (refuse badIndicator 0))))
+    (cond (eqb f 1) (responseMessage t true) (cond (eqb f 2) (requestMessage false) (cond (eqb f 3) (responseMessage t false) (refuse badIndicator 0))))
 
 -- the framing indicator, and what it names
-unfoldable pub message : Reader Message
-message = do
+unfoldable pub message : Told → Reader Message
+message t = do
   f ← integer cutOff 0
-  afterIndicator f
+  afterIndicator t f
 
 -- the whole input is the message, padding too
 abbrev pub messageAnswer : Got Message → Answer Message
@@ -333,5 +336,5 @@ messageAnswer (got m n r) = accepted n m
 messageAnswer (no k p) = refused k p
 
 -- a whole Binary message; input above the size is 8 at 0, first
-unfoldable pub readBinary : List ℕ → Answer Message
-readBinary s = cond (leb (length s) binaryMost) (messageAnswer (message 0 s)) (refused tooLarge 0)
+unfoldable pub readBinary : Told → List ℕ → Answer Message
+readBinary t s = cond (leb (length s) binaryMost) (messageAnswer (message t 0 s)) (refused tooLarge 0)

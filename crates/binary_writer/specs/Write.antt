@@ -1,5 +1,5 @@
 -- A meaning as Binary HTTP (01, "How we write": known length, shortest integers, all three sections, no padding), and whether it may be written ("Sizes";
--- 8 at 0: "Numbers a call answers with").
+-- 8 at 0: "Numbers a call answers with"; 02, item 5).
 use Prim.Native.Nat.{ℕ}
 use mathlib.Core.Bool.{Bool, true, false, cond}
 use mathlib.Core.List.{List, [], _∷_, _++_}
@@ -9,7 +9,7 @@ use Rattle.octets.specs.Ascii.{ascii}
 use Rattle.octets.specs.Limits.{binaryMost}
 use Rattle.octets.specs.Refusals.{tooLarge}
 use Rattle.numbers.specs.Integer.{intBytes}
-use Rattle.messages.specs.Meaning.{Field, Informational, Control, request, response, Meaning}
+use Rattle.messages.specs.Meaning.{Field, Informational, Control, request, response, Meaning, statedFields}
 use Rattle.output.specs.Reply.{Reply, writes, refuses}
 
 -- a length and what it counts
@@ -43,9 +43,9 @@ unfoldable pub controlBytes : Control → List ℕ
 controlBytes (request m s a p) = intBytes 0 ++ counted m ++ counted (schemeBytes s) ++ counted a ++ counted p
 controlBytes (response hs s) = intBytes 1 ++ informationalBytes hs ++ intBytes s
 
--- a whole message
+-- a whole message; a stated length goes first in its header
 unfoldable pub binaryOf : Meaning → List ℕ
-binaryOf m = controlBytes (m .control) ++ sectionBytes (m .headers) ++ counted (m .content) ++ sectionBytes (m .trailers)
+binaryOf m = controlBytes (m .control) ++ sectionBytes (statedFields (m .stated) ++ m .headers) ++ counted (m .content) ++ sectionBytes (m .trailers)
 
 -- whether what is written is within the size of a Binary input
 unfoldable pub binaryFits : Meaning → Bool

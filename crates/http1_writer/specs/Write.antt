@@ -1,4 +1,5 @@
--- A meaning as HTTP/1.1 (01, "How we write"), and whether it may be written ("Sizes"; 14, then 8 at 0: "Numbers a call answers with").
+-- A meaning as HTTP/1.1 (01, "How we write"), and whether it may be written ("Sizes"; 14, then 8 at 0: "Numbers a call answers with";
+-- 02, item 5).
 use Prim.Native.Nat.{ℕ}
 use mathlib.Core.Bool.{Bool, true, false, cond, _&&_}
 use mathlib.Core.List.{List, [], _∷_, _++_}
@@ -9,9 +10,11 @@ use Rattle.octets.specs.Text.{isEmpty}
 use Rattle.octets.specs.Limits.{headMost, trailerMost, linesMost}
 use Rattle.octets.specs.Refusals.{tooLarge, otherScheme}
 use Rattle.numbers.specs.Digits.{digits}
+use Rattle.messages.specs.declared.StatedLength.{StatedLength}
+use Rattle.messages.specs.declared.StatedLength.the-variants.{Missing, Of}
 use Rattle.messages.specs.declared.Told.{Told}
-use Rattle.messages.specs.Control.{isBodyless}
-use Rattle.messages.specs.Meaning.{Field, Informational, Control, request, response, Meaning}
+use Rattle.messages.specs.Control.{endsAtHead}
+use Rattle.messages.specs.Meaning.{Field, Informational, Control, request, response, Meaning, lengthField}
 use Rattle.messages.specs.Valid.{noFields}
 use Rattle.output.specs.Reply.{Reply, writes, refuses}
 use Rattle.http1_writer.specs.declared.LengthLine.{LengthLine}
@@ -46,26 +49,27 @@ statusLine s = ascii "HTTP/1.1 " ++ digits 10 s ++ 32 ∷ [] ++ crlf
 unfoldable pub hostField : List ℕ → Field
 hostField a = record { name = ascii "host"; value = a }
 
--- the length of the content, in plain decimal
-unfoldable pub lengthField : ℕ → Field
-lengthField n = record { name = ascii "content-length"; value = digits 10 n }
-
 -- the length line of content in chunks
 unfoldable pub codingField : Field
 codingField = record { name = ascii "transfer-encoding"; value = ascii "chunked" }
 
--- whether a message without kept trailers goes without a length line: requests with empty content, 204 and 304
-abbrev pub unmeasured : Control → List ℕ → Bool
-unmeasured (request m s a p) content = isEmpty content
-unmeasured (response hs s) content = isBodyless s
+-- whether no length line says how long the content of a message without kept trailers is: requests with empty content, responses that end at their head
+abbrev pub unmeasured : Told → Control → List ℕ → Bool
+unmeasured t (request m s a p) content = isEmpty content
+unmeasured t (response hs s) content = endsAtHead t s
 
--- which length line: chunked where trailers are kept; else none where the message goes without, and else the length of the content, n octets
-abbrev pub lineFor : Bool → Bool → ℕ → LengthLine
-lineFor plain without n = cond plain (cond without Nothing (Length n)) Chunked
+-- the length line of a stated length: none where it is missing
+abbrev pub statedLine : StatedLength → LengthLine
+statedLine Missing = Nothing
+statedLine (Of n) = Length n
+
+-- which length line: chunked where trailers are kept; else the stated length's where none is of the content, and else that of the content, n octets
+abbrev pub lineFor : Bool → Bool → StatedLength → ℕ → LengthLine
+lineFor plain without stated n = cond plain (cond without (statedLine stated) (Length n)) Chunked
 
 -- the length line of a meaning
-unfoldable pub lengthLine : Meaning → LengthLine
-lengthLine m = lineFor (noFields (m .trailers)) (unmeasured (m .control) (m .content)) (length (m .content))
+unfoldable pub lengthLine : Told → Meaning → LengthLine
+lengthLine t m = lineFor (noFields (m .trailers)) (unmeasured t (m .control) (m .content)) (m .stated) (length (m .content))
 
 -- what is written of it: one field or none
 abbrev pub lengthFields : LengthLine → List Field
@@ -79,8 +83,8 @@ hostLine (request m s a p) = hostField a ∷ []
 hostLine (response hs s) = []
 
 -- the lines of the final head: host, length, fields
-unfoldable pub headLines : Meaning → List Field
-headLines m = hostLine (m .control) ++ lengthFields (lengthLine m) ++ m .headers
+unfoldable pub headLines : Told → Meaning → List Field
+headLines t m = hostLine (m .control) ++ lengthFields (lengthLine t m) ++ m .headers
 
 -- ---- heads and body
 
@@ -95,8 +99,8 @@ startText (request m s a p) = requestLine m p
 startText (response hs s) = informationalText hs ++ statusLine s
 
 -- all heads of a message, which the size of heads counts together
-unfoldable pub headText : Meaning → List ℕ
-headText m = startText (m .control) ++ sectionText (headLines m)
+unfoldable pub headText : Told → Meaning → List ℕ
+headText t m = startText (m .control) ++ sectionText (headLines t m)
 
 -- one chunk with the content, none if it is empty; lower-case hexadecimal without leading zeros
 unfoldable pub chunkText : List ℕ → List ℕ
@@ -111,13 +115,13 @@ unfoldable pub bodyText : List ℕ → List Field → List ℕ
 bodyText content trailers = cond (noFields trailers) content (chunkedText content trailers)
 
 -- a whole message: heads, then the body
-unfoldable pub http1Of : Meaning → List ℕ
-http1Of m = headText m ++ bodyText (m .content) (m .trailers)
+unfoldable pub http1Of : Told → Meaning → List ℕ
+http1Of t m = headText t m ++ bodyText (m .content) (m .trailers)
 
 -- whether what is written is within the sizes of heads, lines and trailers. An informational head gains no line and a trailer section none
-unfoldable pub http1Fits : Meaning → Bool
-http1Fits m =
-    leb (length (headText m)) headMost && leb (length (headLines m)) linesMost
+unfoldable pub http1Fits : Told → Meaning → Bool
+http1Fits t m =
+    leb (length (headText t m)) headMost && leb (length (headLines t m)) linesMost
     && cond (noFields (m .trailers)) true (leb (length (sectionText (m .trailers))) trailerMost)
 
 -- a request's scheme is the connection's; a response has none
@@ -127,4 +131,4 @@ onConnection t (response hs s) = true
 
 -- a meaning as HTTP/1.1 on the connection: 14, then 8 at 0 where a written size is passed
 unfoldable pub toHttp1 : Told → Meaning → Reply
-toHttp1 t m = cond (onConnection t (m .control)) (cond (http1Fits m) (writes (http1Of m)) (refuses tooLarge 0)) (refuses otherScheme 0)
+toHttp1 t m = cond (onConnection t (m .control)) (cond (http1Fits t m) (writes (http1Of t m)) (refuses tooLarge 0)) (refuses otherScheme 0)

@@ -42,10 +42,10 @@ valueOr default (some w) = w .text
 unfoldable pub requestQuestion : Told → List ℕ → List ℕ → Question
 requestQuestion t name s = questionOf name (length s) (readRequest t s)
 
--- of a response
-unfoldable pub responseQuestion : List ℕ → List ℕ → Question
-responseQuestion name s = questionOf name (length s) (readResponse s)
+-- of a response, told whether it answers a HEAD
+unfoldable pub responseQuestion : Told → List ℕ → List ℕ → Question
+responseQuestion t name s = questionOf name (length s) (readResponse t s)
 
 -- of a Binary message
-unfoldable pub binaryQuestion : List ℕ → List ℕ → Question
-binaryQuestion name s = questionOf name (length s) (readBinary s)
+unfoldable pub binaryQuestion : Told → List ℕ → List ℕ → Question
+binaryQuestion t name s = questionOf name (length s) (readBinary t s)

@@ -28,14 +28,14 @@ replyFrom n more write = refuses moreNeeded n
 unfoldable pub requestToBinary : Told → List ℕ → Reply
 requestToBinary t s = replyFrom (length s) (readRequest t s) toBinary
 
--- an HTTP/1.1 response as Binary
-unfoldable pub responseToBinary : List ℕ → Reply
-responseToBinary s = replyFrom (length s) (readResponse s) toBinary
+-- an HTTP/1.1 response as Binary, told whether it answers a HEAD
+unfoldable pub responseToBinary : Told → List ℕ → Reply
+responseToBinary t s = replyFrom (length s) (readResponse t s) toBinary
 
 -- Binary written anew
-unfoldable pub binaryToBinary : List ℕ → Reply
-binaryToBinary s = replyFrom (length s) (readBinary s) toBinary
+unfoldable pub binaryToBinary : Told → List ℕ → Reply
+binaryToBinary t s = replyFrom (length s) (readBinary t s) toBinary
 
 -- Binary as HTTP/1.1 on a connection of the scheme told; told another number it is 4 at 0, first
 unfoldable pub binaryToHttp1 : Told → List ℕ → Reply
-binaryToHttp1 t s = cond (isScheme (t .scheme)) (replyFrom (length s) (readBinary s) (toHttp1 t)) (refuses notSupported 0)
+binaryToHttp1 t s = cond (isScheme (t .scheme)) (replyFrom (length s) (readBinary t s) (toHttp1 t)) (refuses notSupported 0)
