@@ -1,24 +1,31 @@
 -- What holds of every message that is accepted from Binary HTTP (00, demand 2: "What is accepted, and what it means, is exactly what RFC 9112 and
--- RFC 9292 say, as changed by the rules of our own in document 01"; 01, "Binary HTTP as we take it", "Sizes").
+-- RFC 9292 say, as changed by the rules of our own in document 01"; 01, "Binary HTTP as we take it", "Sizes"; 02, item 5).
 use Prim.Native.Nat.{ℕ, _<_, _≤_}
 use mathlib.Core.Path.{_≡_}
-use mathlib.Core.Bool.{true}
+use mathlib.Core.Bool.{true, false}
 use mathlib.Core.Logic.{_⊎_}
 use mathlib.Core.List.{List}
+use lib.Dec.{eqb}
 use lib.ListN.{length}
 use Rattle.octets.specs.Limits.{binaryMost}
+use Rattle.octets.specs.Refusals.{cutOff}
 use Rattle.script.specs.Script.{accepted, refused, Settled}
 use Rattle.script.specs.Do.{Piece}
 use Rattle.messages.specs.Message.{FieldRead, InformationalRead, Start, requestStart, responseStart, Message}
-use Rattle.messages.specs.Control.{isHost, isBodyless, isLowerName}
+use Rattle.messages.specs.Control.{isHost, isLowerName}
 use Rattle.messages.specs.Names.{linesOf}
 use Rattle.messages.specs.Rules.{binaryFramingOf}
+use Rattle.messages.specs.Meaning.{meaning}
+use Rattle.messages.specs.Valid.{suits}
+use Rattle.messages.specs.Told.{withHead}
+use Rattle.messages.specs.declared.Told.{Told}
 use Rattle.messages.specs.declared.Framing.the-variants.{Unstated}
 use Rattle.messages.specs.declared.Kind.the-variants as kind
+use Rattle.binary.specs.Reader.{got, integer}
 use Rattle.binary.specs.Read.{readBinary}
 use Rattle.sound.specs.Placed.{Each}
 use Rattle.sound.specs.Refusal.{Refusal}
-use Rattle.sound.specs.Sound.{Sound, LengthAgrees}
+use Rattle.sound.specs.Sound.{Sound, StatesLength}
 
 -- "scheme is `http` or `https` (H). Authority may be empty if one `host` field gives it; with both, the bytes are equal": there is an authority, and the
 -- host line, where there is one, has its octets
@@ -29,15 +36,14 @@ pub record GoodRequest (s : ℕ) (a : Piece) (lines : List FieldRead) : Type 0 w
   pub equal : Each (λ f. f .value .text ≡ a .text) (linesOf kind.Host lines)
   pub once : length (linesOf kind.Host lines) ≤ 1
 
--- "`content-length` stands .. not in 204, 304 or informational heads"
-pub record GoodResponse (hs : List InformationalRead) (n : ℕ) (lines : List FieldRead) : Type 0 where
-  pub early : Each (λ h. binaryFramingOf (h .lines) ≡ Unstated) hs
-  pub bodyless : isBodyless n ≡ true → binaryFramingOf lines ≡ Unstated
+-- "`content-length` stands .. not in .. informational heads"
+abbrev pub GoodResponse : List InformationalRead → Type 0
+GoodResponse hs = Each (λ h. binaryFramingOf (h .lines) ≡ Unstated) hs
 
 -- control data by the rule of their kind
 abbrev pub GoodStart : Start → List FieldRead → Type 0
 GoodStart (requestStart method s authority path) lines = GoodRequest s authority lines
-GoodStart (responseStart hs n) lines = GoodResponse hs n lines
+GoodStart (responseStart hs n) lines = GoodResponse hs
 
 -- "Names are lower-case tokens": as they stand, before any is made lower case
 abbrev pub LowerName : FieldRead → Type 0
@@ -54,21 +60,22 @@ pub record LowerNames (m : Message) : Type 0 where
   pub lines : Each LowerName (m .lines)
   pub trailers : Each LowerName (m .trailers)
 
--- a message m of length n that is accepted from the input s: "a reader of Binary HTTP, whose whole input is one message"; "Zero bytes may follow", and
+-- a message m of length n that is accepted from the input s, told t: "a reader of Binary HTTP, whose whole input is one message"; "Zero bytes may follow", and
 -- they belong to it
-pub record SoundBinary (s : List ℕ) (n : ℕ) (m : Message) : Type 0 where
+pub record SoundBinary (t : Told) (s : List ℕ) (n : ℕ) (m : Message) : Type 0 where
   pub sound : Sound s m
   pub some : 0 < n
   pub whole : n ≡ length s
   pub small : n ≤ binaryMost
   pub start : GoodStart (m .start) (m .lines)
-  -- "`content-length` stands at most once, one or more digits, equal to the content's length"
-  pub stated : LengthAgrees (binaryFramingOf (m .lines)) m
+  pub suits : suits t (meaning m) ≡ true
+  -- "`content-length` stands at most once, one or more digits, equal to the content's length"; where a response ends at its head, it is the stated length
+  pub stated : StatesLength t (m .start) (binaryFramingOf (m .lines)) m
   pub names : LowerNames m
 
 -- every accepted message is so
 abbrev pub BinarySound : Type 0
-BinarySound = (s : List ℕ) (n : ℕ) (m : Message) → readBinary s ≡ accepted n m → SoundBinary s n m
+BinarySound = (t : Told) (s : List ℕ) (n : ℕ) (m : Message) → readBinary t s ≡ accepted n m → SoundBinary t s n m
 
 -- the last of the numbers with which Binary HTTP is refused (01, "Numbers a call answers with")
 abbrev pub binaryLast : ℕ
@@ -76,8 +83,14 @@ binaryLast = 12
 
 -- every refused input is refused with a number from 2 to 12, at a place of the input
 abbrev pub BinaryRefused : Type 0
-BinaryRefused = (s : List ℕ) (n p : ℕ) → readBinary s ≡ refused n p → Refusal binaryLast s n p
+BinaryRefused = (t : Told) (s : List ℕ) (n p : ℕ) → readBinary t s ≡ refused n p → Refusal binaryLast s n p
 
 -- the whole input is there: no more octets are asked for
 abbrev pub BinarySettled : Type 0
-BinarySettled = (s : List ℕ) → Settled (readBinary s)
+BinarySettled = (t : Told) (s : List ℕ) → Settled (readBinary t s)
+
+-- whether the message answers a HEAD means nothing where the framing indicator is not a response's
+abbrev pub BinaryHeadUnused : Type 0
+BinaryHeadUnused =
+    (t : Told) (h : ℕ) (s : List ℕ) (f e : ℕ) (r : List ℕ) → integer cutOff 0 0 s ≡ got f e r → eqb f 1 ≡ false → eqb f 3 ≡ false
+    → readBinary (withHead h t) s ≡ readBinary t s

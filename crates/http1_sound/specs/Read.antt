@@ -1,19 +1,22 @@
 -- What holds of every message that is accepted from HTTP/1.1 (00, demand 2, and the case it begins with: two statements of a length;
--- 01, "HTTP/1.1 as we take it").
+-- 01, "HTTP/1.1 as we take it"; 02, item 5).
 use Prim.Native.Nat.{ℕ, _<_, _≤_}
 use mathlib.Core.Path.{_≡_}
 use mathlib.Core.Bool.{true}
 use mathlib.Core.List.{List, [], _∷_}
 use lib.ListN.{length}
 use Rattle.script.specs.Script.{accepted, refused}
+use Rattle.messages.specs.Told.{withHead}
 use Rattle.messages.specs.declared.Told.{Told}
 use Rattle.messages.specs.Message.{FieldRead, Start, requestStart, responseStart, Message}
 use Rattle.messages.specs.Names.{linesOf}
 use Rattle.messages.specs.Rules.{framingOf}
+use Rattle.messages.specs.Meaning.{meaning}
+use Rattle.messages.specs.Valid.{suits}
 use Rattle.messages.specs.declared.Kind.the-variants as kind
 use Rattle.http1.specs.Read.{readRequest, readResponse}
 use Rattle.http1_sound.specs.Front.{Front}
-use Rattle.sound.specs.Sound.{Sound, LengthAgrees}
+use Rattle.sound.specs.Sound.{Sound, StatesLength}
 use Rattle.sound.specs.Refusal.{Refusal}
 
 -- a request of the scheme that was told; host stands exactly once, and it is the authority
@@ -30,15 +33,17 @@ IsResponse (responseStart hs s) = Unit {0}
 pub record SoundRequest (t : Told) (s : List ℕ) (n : ℕ) (m : Message) : Type 0 where
   pub sound : Sound s m
   pub request : IsRequest t (m .lines) (m .start)
-  pub stated : LengthAgrees (framingOf (m .lines)) m
+  pub suits : suits t (meaning m) ≡ true
+  pub stated : StatesLength t (m .start) (framingOf (m .lines)) m
   pub some : 0 < n
   pub within : n ≤ length s
 
--- a response m of length n that is accepted from the stream s
-pub record SoundResponse (s : List ℕ) (n : ℕ) (m : Message) : Type 0 where
+-- a response m of length n that is accepted from the stream s, told t
+pub record SoundResponse (t : Told) (s : List ℕ) (n : ℕ) (m : Message) : Type 0 where
   pub sound : Sound s m
   pub response : IsResponse (m .start)
-  pub stated : LengthAgrees (framingOf (m .lines)) m
+  pub suits : suits t (meaning m) ≡ true
+  pub stated : StatesLength t (m .start) (framingOf (m .lines)) m
   pub some : 0 < n
   pub within : n ≤ length s
 
@@ -46,9 +51,9 @@ pub record SoundResponse (s : List ℕ) (n : ℕ) (m : Message) : Type 0 where
 abbrev pub RequestsSound : Type 0
 RequestsSound = (t : Told) (s : List ℕ) (n : ℕ) (m : Message) → readRequest t s ≡ accepted n m → SoundRequest t s n m
 
--- so is every accepted response
+-- so is every accepted response, whatever is told
 abbrev pub ResponsesSound : Type 0
-ResponsesSound = (s : List ℕ) (n : ℕ) (m : Message) → readResponse s ≡ accepted n m → SoundResponse s n m
+ResponsesSound = (t : Told) (s : List ℕ) (n : ℕ) (m : Message) → readResponse t s ≡ accepted n m → SoundResponse t s n m
 
 -- the last of the numbers with which HTTP/1.1 is refused (01, "Numbers a call answers with")
 abbrev pub http1Last : ℕ
@@ -60,11 +65,12 @@ RequestsRefused = (t : Told) (s : List ℕ) (n p : ℕ) → readRequest t s ≡ 
 
 -- so is every refused response
 abbrev pub ResponsesRefused : Type 0
-ResponsesRefused = (s : List ℕ) (n p : ℕ) → readResponse s ≡ refused n p → Refusal http1Last s n p
+ResponsesRefused = (t : Told) (s : List ℕ) (n p : ℕ) → readResponse t s ≡ refused n p → Refusal http1Last s n p
 
--- the claims on both readers of HTTP/1.1; a call told any scheme number is meant
+-- the claims on both readers of HTTP/1.1, whatever a call is told; that a message answers a HEAD means nothing of a request
 pub record Http1Reads : Type 0 where
   pub requests : (t : Told) → Front (readRequest t)
-  pub responses : Front readResponse
+  pub responses : (t : Told) → Front (readResponse t)
   pub requestsSound : RequestsSound
   pub responsesSound : ResponsesSound
+  pub headUnused : (t : Told) (h : ℕ) (s : List ℕ) → readRequest (withHead h t) s ≡ readRequest t s

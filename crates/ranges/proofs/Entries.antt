@@ -338,6 +338,7 @@ module _ (s : List ℕ) (n : ℕ) (m : Message) (hs ns cs ts : List ℕ) where
         headers = map fieldMeans (kept (isResponse x) (m .lines));
         content = contentOf (m .chunks);
         trailers = map fieldMeans (keptTrailers (m .trailers));
+        stated = m .stated;
       }
   unfolding meaningIn
   means-with (requestStart method scheme authority path) o p =

@@ -79,6 +79,7 @@ meaningIn s r hs ns cs ts =
       headers = fieldsNamed s hs (fieldsBefore ns (r .informational)) (r .headers);
       content = contentIn s cs (r .chunks);
       trailers = fieldsNamed s ts 0 (r .trailers);
+      stated = r .stated;
     }
 
 -- ---- that the numbers are within a source of n octets and within the lent entries

@@ -15,7 +15,7 @@ use Rattle.messages.specs.Control.{methodVerdict, pathVerdict, isHost, statusVe
 use Rattle.messages.specs.Message.{FieldRead, InformationalRead, Start, requestStart, responseStart, isResponse, Message}
 use Rattle.messages.specs.Names.{keptTrailers, areTrailers}
 use Rattle.messages.specs.Meaning.{fieldMeans, informationalMeans, request, response, controlMeans, contentOf, meaning}
-use Rattle.messages.specs.Valid.{isScheme, validControl, validBody, ofResponse, hasBody, valid}
+use Rattle.messages.specs.Valid.{isScheme, validControl, validBody, validStated, ofResponse, hasBody, valid}
 use Rattle.sound.specs.Placed.{Each, OfLine, OfStart, Lying, Placed}
 use Rattle.sound.specs.Sound.{GoodLine, GoodSection, GoodHeads, Sound}
 use Rattle.sound.proofs.Each.{each-snoc, each-map, placed-inside, content-snoc, lengths-content}
@@ -136,6 +136,7 @@ response-is (responseStart hs s) = refl
 pub record PartsAt (s : List ℕ) (m : Message) : Type 0 where
   pub control : validControl (controlMeans (m .start)) ≡ true
   pub body : validBody (hasBody (controlMeans (m .start))) (contentOf (m .chunks)) (map fieldMeans (keptTrailers (m .trailers))) ≡ true
+  pub stated : validStated (m .stated) (meaning m) ≡ true
   pub start : OfStart (Lying s) (m .start)
   pub heads : GoodHeads (m .start)
   pub lines : SectionAt s (m .lines)
@@ -153,6 +154,7 @@ parts-valid s m h =
       le-leb (length (contentOf (m .chunks))) contentMost (h .chunks .small),
       section-valid false (m .trailers) (section-good s (m .trailers) (h .trailers)),
       h .body,
+      h .stated,
     )
 
 parts-placed : (s : List ℕ) (m : Message) → PartsAt s m → Placed s m

@@ -10,7 +10,7 @@ use lib.Dec.{ltb, leb, eqb, lit≤}
 use lib.ListN.{length, getD}
 use Rattle.octets.specs.Ascii.{ascii}
 use Rattle.octets.specs.Class.{hasClass, token, path, authority}
-use Rattle.octets.specs.Limits.{methodMost, pathMost, contentMost}
+use Rattle.octets.specs.Limits.{methodMost, pathMost, contentMost, statedMost}
 use Rattle.octets.specs.Refusals.{badSyntax, notSupported, badStatus, badLength, tooLarge}
 use Rattle.octets.specs.Text.{all, lowerOf, sameText, isEmpty}
 use Rattle.octets.proofs.Kit.{either}
@@ -20,9 +20,12 @@ use Rattle.numbers.specs.declared.Number.the-variants.{Is, Not}
 use Rattle.script.specs.Do.{Piece, Judged, good, wrong}
 use Rattle.script.proofs.Refusals.{Judges}
 use Rattle.messages.specs.Message.{FieldRead}
-use Rattle.messages.specs.Control.{isUnsupported, methodVerdict, pathVerdict, authorityVerdict, statusVerdict, isBodyless}
+use Rattle.messages.specs.Control.{isUnsupported, methodVerdict, pathVerdict, authorityVerdict, statusVerdict, endsAtHead}
 use Rattle.messages.specs.Names.{linesOf}
-use Rattle.messages.specs.Rules.{authorityFrom, orBadHost, authorityIn, lengthStated, framingFrom, framingOf, requestBody, nothingStated, contentBody, responseBody, mayState}
+use Rattle.messages.specs.Rules.{authorityFrom, orBadHost, authorityIn, lengthStated, framingFrom, framingOf, binaryFramingOf, requestBody, nothingStated, lengthAlone}
+use Rattle.messages.specs.Rules.{bodylessRule, contentBody, responseBody, mayState}
+use Rattle.messages.specs.Told.{isYes}
+use Rattle.messages.specs.declared.Told.{Told}
 use Rattle.messages.specs.declared.Body.the-variants.{Sized}
 use Rattle.messages.specs.declared.Framing.{Framing}
 use Rattle.messages.specs.declared.Framing.the-variants.{Unstated, Stated, Chunked, Clashing}
@@ -104,6 +107,10 @@ framing-from e (f ∷ []) [] h = length-in e (f .name .place) (numOf 10 (f .valu
 framing-from e (f ∷ []) (c ∷ cs) h = tt
 framing-from e (f ∷ g ∷ fs) cs h = tt
 
+pub binary-framing-in : (e : ℕ) (fs : List FieldRead) → Each (NamedIn e) fs → StatedIn e (binaryFramingOf fs)
+unfolding binaryFramingOf
+binary-framing-in e fs h = framing-from e (linesOf kind.ContentLength fs) [] (each-of (NamedIn e) kind.ContentLength fs h)
+
 pub framing-in : (e : ℕ) (fs : List FieldRead) → Each (NamedIn e) fs → StatedIn e (framingOf fs)
 unfolding framingOf
 framing-in e fs h = framing-from e (linesOf kind.ContentLength fs) (linesOf kind.TransferEncoding fs) (each-of (NamedIn e) kind.ContentLength fs h)
@@ -160,7 +167,20 @@ module _ (last : ℕ) (s : List ℕ) (wide : 8 ≤ last) (end : ℕ) (inside : e
   content-judged Chunked h = request-judged Chunked h
   content-judged Clashing h = request-judged Clashing h
 
-  pub response-judged : (n : ℕ) (f : Framing) → StatedIn (length s) f → Refuses last s (responseBody n end f)
+  alone-judged : (t : Told) (f : Framing) → StatedIn (length s) f → Refuses last s (lengthAlone t end f)
+  unfolding lengthAlone
+  alone-judged t Unstated h = tt
+  alone-judged t (Stated n p) h =
+      either (Refuses last s) (leb n statedMost) (good (Sized 0)) (wrong tooLarge p) (λ a. tt) (λ a. refusal wide (lit≤ tt, lit≤ tt) h)
+  alone-judged t Chunked h = either (Refuses last s) (isYes (t .head)) (good (Sized 0)) (wrong badLength end) (λ a. tt) (λ a. bad-length)
+  alone-judged t Clashing h = bad-length
+
+  pub bodyless-judged : (t : Told) (n : ℕ) (f : Framing) → StatedIn (length s) f → Refuses last s (bodylessRule t n end f)
+  unfolding bodylessRule
+  bodyless-judged t n f h =
+      either (Refuses last s) (eqb n 204) (nothingStated end f) (lengthAlone t end f) (λ a. nothing-judged f) (λ a. alone-judged t f h)
+
+  pub response-judged : (t : Told) (n : ℕ) (f : Framing) → StatedIn (length s) f → Refuses last s (responseBody t n end f)
   unfolding responseBody
-  response-judged n f h =
-      either (Refuses last s) (isBodyless n) (nothingStated end f) (contentBody end f) (λ a. nothing-judged f) (λ a. content-judged f h)
+  response-judged t n f h =
+      either (Refuses last s) (endsAtHead t n) (bodylessRule t n end f) (contentBody end f) (λ a. bodyless-judged t n f h) (λ a. content-judged f h)
