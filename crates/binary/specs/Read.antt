@@ -84,7 +84,7 @@ requestControl = do
 -- a line's octets are judged when both halves are in, at the line's first octet
 unfoldable pub judgedLine : ℕ → Piece → Piece → Judged FieldRead
 judgedLine p n v =
-    cond (isLowerName (n .text)) (cond (isTrimmedValue (v .text)) (good (record { name = n; value = v })) (wrong badSyntax p)) (wrong badSyntax p)
+    cond (isLowerName (n .text)) (cond (isTrimmedValue (v .text)) (good (record { name = n; value = v; place = p })) (wrong badSyntax p)) (wrong badSyntax p)
 
 -- the number of a line that is cut off: in a known-length section it crosses the section
 abbrev pub cutNumber : Bool → ℕ

@@ -22,7 +22,7 @@ use Rattle.binary_parts.specs.declared.LineRead.the-variants as read
 
 -- a line is judged by one test of both halves
 line-as : (p : ℕ) (n v : Piece) (y : Bool) → y ≡ cond (isLowerName (n .text)) (isTrimmedValue (v .text)) false
-    → judgedLine p n v ≡ cond y (good (record { name = n; value = v })) (wrong badSyntax p)
+    → judgedLine p n v ≡ cond y (good (record { name = n; value = v; place = p })) (wrong badSyntax p)
 unfolding judgedLine
 line-as p n v y e = rw e (go (isLowerName (n .text)) (isTrimmedValue (v .text)) _)
   where
@@ -42,17 +42,17 @@ module _ (p n v : ℕ) (name value : List ℕ) {y : Bool} (e : y ≡ cond (isLow
   line-wrong h = judged-as {j = wrong badSyntax p} (line-as p (piece n name) (piece v value) y e ∙ rw h refl) refl
 
   line : FieldRead
-  line = record { name = piece n name; value = piece v value }
+  line = record { name = piece n name; value = piece v value; place = p }
 
   pub line-good : {end : ℕ} {host : Bool} {k : ℕ} {o o′ : List ℕ} {kind : Kind} {t : Bool} {r : ℕ} → y ≡ true
       → kind ≡ kindOf (map lowerOf name) → t ≡ isEndToEnd host kind → StoredIf t k (n ∷ length name ∷ v ∷ length value ∷ []) o o′ r
-      → JudgedLine (judgedLine p (piece n name) (piece v value)) end host k o o′ (read.Next end r kind n (length value))
+      → JudgedLine (judgedLine p (piece n name) (piece v value)) end host k o o′ (read.Next end r kind p (length value))
   unfolding kept fieldsNumbers lineKind line
   line-good {end} {host} {k} {o} {o′} {kind} {t} {r} h ek et u =
       judged-as {j = good line} (line-as p (piece n name) (piece v value) y e ∙ rw h refl) (rw (← ek, ← et) (pick t u))
     where
       pick : (x : Bool) → StoredIf x k (n ∷ length name ∷ v ∷ length value ∷ []) o o′ r
-          → (read.Next end r kind n (length value) ≡ read.Next end (k + length (cond x (line ∷ []) [])) kind n (length value))
+          → (read.Next end r kind p (length value) ≡ read.Next end (k + length (cond x (line ∷ []) [])) kind p (length value))
           × (o′ ≡ splice o (k * 4) (fieldsNumbers (cond x (line ∷ []) [])))
       pick true g = (rw (g .count), g .stored)
       pick false g =

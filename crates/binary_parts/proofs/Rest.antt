@@ -31,7 +31,7 @@ line-value : (p : ℕ) (w v : Piece) → OfValue v (judgedLine p w v)
 unfolding judgedLine
 line-value p w v = go (isLowerName (w .text)) (isTrimmedValue (v .text))
   where
-    go : (x y : Bool) → OfValue v (cond x (cond y (good (record { name = w; value = v })) (wrong badSyntax p)) (wrong badSyntax p))
+    go : (x y : Bool) → OfValue v (cond x (cond y (good (record { name = w; value = v; place = p })) (wrong badSyntax p)) (wrong badSyntax p))
     go true true = refl
     go true false = tt
     go false y = tt

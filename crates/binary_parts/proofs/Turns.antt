@@ -46,43 +46,43 @@ module _ (a : ℕ) (s : List ℕ) (at : ℕ) where
 
 -- ---- what the caller learns of a line
 
--- a line that was read in the part s at the place a, up to `end`: c fields are kept with it; its kind, the place of its name, the size of its value
-pub record NextLine (s : List ℕ) (a : ℕ) (x : Got FieldRead) (host : Bool) (k : ℕ) (o o′ : List ℕ) (end c : ℕ) (kind : Kind) (name len : ℕ) : Type 0 where
+-- a line that was read in the part s at the place a, up to `end`: c fields are kept with it; its kind, its place, the size of its value
+pub record NextLine (s : List ℕ) (a : ℕ) (x : Got FieldRead) (host : Bool) (k : ℕ) (o o′ : List ℕ) (end c : ℕ) (kind : Kind) (place len : ℕ) : Type 0 where
   pub line : FieldRead
   pub is : x ≡ got line (a + end) (drop end s)
   pub within : end ≤ length s
   pub count : c ≡ k + length (kept host (line ∷ []))
   pub kind-is : kind ≡ lineKind line
-  pub name-at : name ≡ line .name .place
+  pub place-is : place ≡ line .place
   pub long : len ≤ end
   pub value-at : line .value .place ≡ a + (end - len)
   pub value-is : line .value .text ≡ take len (drop (end - len) s)
   pub stored : o′ ≡ splice o (k * 4) (fieldsNumbers (kept host (line ∷ [])))
   pub same : length o′ ≡ length o
 
-module _ {s : List ℕ} {a : ℕ} {x : Got FieldRead} {host : Bool} {k : ℕ} {o o′ : List ℕ} {end c : ℕ} {kind : Kind} {name len : ℕ}
-    (f : NextLine s a x host k o o′ end c kind name len) (n : Notes) where
+module _ {s : List ℕ} {a : ℕ} {x : Got FieldRead} {host : Bool} {k : ℕ} {o o′ : List ℕ} {end c : ℕ} {kind : Kind} {place len : ℕ}
+    (f : NextLine s a x host k o o′ end c kind place len) (n : Notes) where
   -- a line that was noted, and one of which nothing is noted
-  pub note-taken : {noted : Notes} {v : ℕ} → v ≡ a + (end - len) → noted ≡ noteOf false n kind name v (take (end - (end - len)) (drop (end - len) s))
+  pub note-taken : {noted : Notes} {v : ℕ} → v ≡ a + (end - len) → noted ≡ noteOf false n kind place v (take (end - (end - len)) (drop (end - len) s))
       → noted ≡ noteLine false n (f .line)
   note-taken e q = let z : end - (end - len) ≡ len = omega (arith, f .long) in
-      q ∙ rw (z, e, ← f .value-at, ← f .value-is, f .kind-is, f .name-at)
+      q ∙ rw (z, e, ← f .value-at, ← f .value-is, f .kind-is, f .place-is)
 
   pub note-passed : isNoted kind ≡ false → n ≡ noteLine false n (f .line)
   note-passed q =
-      sym (noted-nothing false n kind (f .line .name .place) (f .line .value .place) (f .line .value .text) q)
-      ∙ ap (λ (k : Kind). noteOf false n k (f .line .name .place) (f .line .value .place) (f .line .value .text)) (f .kind-is)
+      sym (noted-nothing false n kind (f .line .place) (f .line .value .place) (f .line .value .text) q)
+      ∙ ap (λ (k : Kind). noteOf false n k (f .line .place) (f .line .value .place) (f .line .value .text)) (f .kind-is)
 
 module _ {s : List ℕ} {a : ℕ} {x : Got FieldRead} {host : Bool} {k : ℕ} {o o′ : List ℕ} {r : LineRead} (h : Lined s a x host k o o′ r) where
-  pub lined-next : {end c : ℕ} {kind : Kind} {name len : ℕ} → r ≡ read.Next end c kind name len → NextLine s a x host k o o′ end c kind name len
-  lined-next {end} {c} {kind} {name} {len} e = go x (h .says)
+  pub lined-next : {end c : ℕ} {kind : Kind} {place len : ℕ} → r ≡ read.Next end c kind place len → NextLine s a x host k o o′ end c kind place len
+  lined-next {end} {c} {kind} {place} {len} e = go x (h .says)
     where
-      go : (y : Got FieldRead) → LineSays s a y host k o o′ r → NextLine s a y host k o o′ end c kind name len
+      go : (y : Got FieldRead) → LineSays s a y host k o o′ r → NextLine s a y host k o o′ end c kind place len
       go (got f i l) q =
           let z : q .0 ≡ end = cc in
           let u : c ≡ k + length (kept host (f ∷ [])) = cc in
           let v : kind ≡ lineKind f = cc in
-          let w : name ≡ f .name .place = cc in
+          let w : place ≡ f .place = cc in
           let y : length (f .value .text) ≡ len = cc in
           record {
             line = f;
@@ -90,7 +90,7 @@ module _ {s : List ℕ} {a : ℕ} {x : Got FieldRead} {host : Bool} {k : ℕ} {o
             within = rw z at (q .5);
             count = u;
             kind-is = v;
-            name-at = w;
+            place-is = w;
             long = rw (y, z) at (q .3 .long);
             value-at = q .3 .place ∙ rw (y, z);
             value-is = q .3 .text ∙ rw (y, z);

@@ -20,7 +20,7 @@ use Rattle.binary_parts.specs.declared.Section.the-variants as section
 
 -- a good line f as the code answers it, where k fields are kept before it and the reading goes on at `end`
 abbrev pub nextLine : FieldRead → ℕ → Bool → ℕ → LineRead
-nextLine f end host k = line.Next end (k + length (kept host (f ∷ []))) (lineKind f) (f .name .place) (length (f .value .text))
+nextLine f end host k = line.Next end (k + length (kept host (f ∷ []))) (lineKind f) (f .place) (length (f .value .text))
 
 -- a line that was judged: where it is kept it is stored behind the k entries of o; the reading goes on at `end`
 abbrev pub JudgedSays : Judged FieldRead → ℕ → Bool → ℕ → List ℕ → List ℕ → LineRead → Type 0

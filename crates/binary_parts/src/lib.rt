@@ -86,14 +86,14 @@ pub enum Section {
     },
 }
 
-// A field line that was read: the index behind it in the part that was lent, the count of kept fields with it, its kind, the place of its name, and the
+// A field line that was read: the index behind it in the part that was lent, the count of kept fields with it, its kind, its place, and the
 // size of its value, which ends where the line ends.
 enum LineRead {
     Next {
         end: usize,
         kept: usize,
         kind: Kind,
-        name: usize,
+        place: usize,
         len: usize,
     },
     Refused {

@@ -89,7 +89,7 @@ fn store_line(
             end,
             kept: k,
             kind,
-            name: n,
+            place: p,
             len: value.len(),
         };
     } else {
@@ -207,7 +207,7 @@ fn known_lines(
                     end,
                     kept,
                     kind,
-                    name,
+                    place,
                     len,
                 } => {
                     count = kept;
@@ -215,7 +215,7 @@ fn known_lines(
                     i = end;
                     if is_noted(kind) {
                         let v = end - len;
-                        notes = note(notes, kind, name, a + v, &s[v..end], false);
+                        notes = note(notes, kind, place, a + v, &s[v..end], false);
                     }
                 }
             }
@@ -293,7 +293,7 @@ fn open_section(
                     end,
                     kept,
                     kind,
-                    name,
+                    place,
                     len,
                 } => {
                     count = kept;
@@ -301,7 +301,7 @@ fn open_section(
                     i = end;
                     if is_noted(kind) {
                         let v = end - len;
-                        notes = note(notes, kind, name, v, &s[v..end], false);
+                        notes = note(notes, kind, place, v, &s[v..end], false);
                     }
                 }
             }

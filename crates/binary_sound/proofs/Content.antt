@@ -12,12 +12,13 @@ use Rattle.octets.specs.Refusals.{badPadding}
 use Rattle.octets.specs.Text.{isEmpty}
 use Rattle.octets.proofs.Kit.{into}
 use Rattle.script.specs.Do.{Piece, piece, good}
-use Rattle.messages.specs.Message.{FieldRead, Section, Start, Message, plainMessage}
+use Rattle.messages.specs.Message.{FieldRead, Section, Start, Message, statingMessage}
 use Rattle.messages.specs.Names.{areTrailers, kept, keptTrailers}
 use Rattle.messages.specs.Rules.{agrees}
 use Rattle.messages.specs.Meaning.{fieldMeans, contentOf}
 use Rattle.messages.specs.Valid.{noFields, validBody}
 use Rattle.messages.specs.declared.Framing.{Framing}
+use Rattle.messages.specs.declared.StatedLength.{StatedLength}
 use Rattle.binary.specs.Reader.{no}
 use Rattle.binary.specs.Read.{knownContent, openChunks, content, contentAgrees, contentRule, trailersAgree, trailerRule, trailers, padding, afterContent, afterHeaders}
 use Rattle.sound.proofs.Each.{content-snoc}
@@ -134,11 +135,11 @@ pub record TailAt (s : List ℕ) (body : Bool) (f : Framing) (cs : List Piece) (
   pub trailers : LinesAt s ts
   pub named : GoodTrailers body ts
 
-pub every-after : {s : List ℕ} {e : ℕ} {P : ℕ → Message → Type 0} {at : ℕ} (known body : Bool) (start : Start) (h : Section) (f : Framing)
-    → ((cs : List Piece) (ts : List FieldRead) → TailAt s body f cs ts → P e (plainMessage start (h .lines) cs ts))
-    → Every s e P at (afterHeaders known body start h f)
+pub every-after : {s : List ℕ} {e : ℕ} {P : ℕ → Message → Type 0} {at : ℕ} (known body : Bool) (stated : StatedLength) (start : Start) (h : Section) (f : Framing)
+    → ((cs : List Piece) (ts : List FieldRead) → TailAt s body f cs ts → P e (statingMessage stated start (h .lines) cs ts))
+    → Every s e P at (afterHeaders known body stated start h f)
 unfolding afterHeaders afterContent
-every-after {s} {e} {P} known body start h f k =
+every-after {s} {e} {P} known body stated start h f k =
     stops-then _ (every-content known) λ i cs a.
     stops-bind _ (every-here (stops-bind _ (every-tell (contentRule body f _ cs) λ c q.
     let r = content-is body f _ cs c q in

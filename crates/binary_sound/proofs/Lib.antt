@@ -4,3 +4,4 @@ pub mod Lines
 pub mod Content
 pub mod Sound
 pub mod Refusals
+pub mod HeadUnused

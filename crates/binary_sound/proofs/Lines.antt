@@ -49,7 +49,7 @@ unfolding judgedLine
 line-is s p n v f e x y =
     let a = into no-wrong (isLowerName (n .text)) _ e in
     let b = into no-wrong (isTrimmedValue (v .text)) _ (a .1) in
-    let r : FieldRead = record { name = n; value = v } in
+    let r : FieldRead = record { name = n; value = v; place = p } in
     let z : r ≡ f = cc in
     let l : map lowerOf (n .text) ≡ n .text = lower-same (n .text) (name-rule (n .text) (a .0) .2) in
     let made : LowerLine s r = record { line = record { lies = record { name = x; value = y }; good = record { name = rw l (a .0); value = b .0 } }; lower = a .0 } in

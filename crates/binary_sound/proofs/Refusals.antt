@@ -1,6 +1,6 @@
 -- What the reader of Binary HTTP refuses with, and where.
 use Prim.Native.Nat.{ℕ, zero, suc, _+_, _≤_}
-use mathlib.Core.Path.{_≡_, refl}
+use mathlib.Core.Path.{_≡_, refl, subst}
 use mathlib.Core.Bool.{Bool, true, false, cond}
 use mathlib.Core.List.{List, [], _∷_, _++_}
 use native.Mathlib.Omega.{arith}
@@ -10,26 +10,32 @@ use Rattle.octets.specs.Ascii.{ascii}
 use Rattle.octets.specs.Limits.{methodMost, authorityMost, pathMost, linesMost, chunksMost, contentMost, binaryMost, informationalMost}
 use Rattle.octets.specs.Refusals.{badSyntax, notSupported, badLength, tooLarge, cutOff, badSection, badPadding}
 use Rattle.octets.specs.Text.{sameText}
-use Rattle.octets.proofs.Kit.{either}
+use Rattle.octets.proofs.Kit.{either, into}
 use Rattle.script.specs.Script.{refused, Settled}
 use Rattle.script.specs.Do.{Piece, piece, good, wrong}
 use Rattle.script.proofs.Places.{lies-all, lies-in}
 use Rattle.messages.specs.Message.{FieldRead, Section, InformationalRead, Start, Message}
-use Rattle.messages.specs.Control.{methodVerdict, pathVerdict, authorityVerdict, statusVerdict, isInformational, isBodyless, isLowerName, isTrimmedValue}
+use Rattle.messages.specs.Control.{methodVerdict, pathVerdict, authorityVerdict, statusVerdict, isInformational, endsAtHead, isLowerName, isTrimmedValue}
 use Rattle.messages.specs.Meaning.{contentOf}
 use Rattle.messages.specs.Names.{areTrailers, keptTrailers}
-use Rattle.messages.specs.Rules.{authorityIn, binaryFramingOf, nothingStated, mayState}
+use Rattle.messages.specs.Rules.{authorityIn, binaryFramingOf, nothingStated, bodylessRule, mayState, statedIn}
 use Rattle.messages.specs.declared.Framing.{Framing}
 use Rattle.messages.specs.declared.Framing.the-variants.{Unstated}
+use Rattle.messages.specs.declared.StatedLength.{StatedLength}
+use Rattle.messages.specs.declared.StatedLength.the-variants.{Missing}
+use Rattle.messages.specs.declared.Told.{Told}
 use Rattle.binary.specs.Reader.{Got, got, no, Reader}
 use Rattle.binary.specs.Read.{part, partWithin, ruledPart, schemeOf, schemePart, afterScheme, requestControl, judgedLine, cutNumber, cutPlace, afterNameLength, knownLine, knownLines, onBody, bodyLines, knownSection, openLines, section}
 use Rattle.binary.specs.Read.{knownContent, openChunks, content, contentAgrees, contentRule, trailersAgree, trailerRule, trailers, padding, afterContent, afterHeaders}
 use Rattle.binary.specs.Read.{afterHead, afterControl, requestMessage, afterFinal, afterFinalStatus, afterInformational, afterInformationalStatus, heads}
 use Rattle.binary.specs.Read.{afterIndicator, message, messageAnswer, readBinary}
-use Rattle.sound.specs.Placed.{Lying}
+use Rattle.sound.specs.Placed.{Each, Lying}
 use Rattle.sound.specs.Refusal.{Refusal}
-use Rattle.sound.proofs.Refusals.{Verdict, method-verdict, path-verdict, authority-verdict, status-verdict, not-good, Refuses, refusal, authority-judged, nothing-judged, may-judged}
+use Rattle.sound.proofs.Each.{each-snoc}
+use Rattle.sound.proofs.Refusals.{Verdict, method-verdict, path-verdict, authority-verdict, status-verdict, not-good, NamedIn, binary-framing-in, Refuses, refusal}
+use Rattle.sound.proofs.Refusals.{authority-judged, nothing-judged, may-judged, bodyless-judged}
 use Rattle.binary_sound.proofs.Judgement.{Stands, stands-on, Ends, Stops, stops-give, stops-refuse, stops-here, stops-ended, stops-tell, stops-rule, stops-if, stops-integer, stops-octets, stops-bind, stops-then}
+use Rattle.binary_sound.proofs.Lines.{no-wrong}
 use Rattle.binary_sound.specs.Sound.{binaryLast, BinaryRefused, BinarySettled}
 
 -- ---- numbers of Binary HTTP
@@ -81,6 +87,16 @@ module _ (s : List ℕ) (p : ℕ) (i : p ≤ length s) where
       either (Refuses binaryLast s) (isLowerName (n .text)) _ (wrong badSyntax p)
       (λ a. either (Refuses binaryLast s) (isTrimmedValue (v .text)) _ (wrong badSyntax p) (λ b. tt) (λ b. bad-syntax i))
       (λ a. bad-syntax i)
+
+  -- a good line's place is its own
+  line-placed : (n v : Piece) (f : FieldRead) → judgedLine p n v ≡ good f → NamedIn (length s) f
+  unfolding judgedLine
+  line-placed n v f e =
+      let a = into no-wrong (isLowerName (n .text)) _ e in
+      let b = into no-wrong (isTrimmedValue (v .text)) _ (a .1) in
+      let r : FieldRead = record { name = n; value = v; place = p } in
+      let z : r ≡ f = cc in
+      subst (NamedIn (length s)) z i
 
   content-judged : (body : Bool) (f : Framing) (cs : List Piece) → Refuses binaryLast s (contentRule body f p cs)
   unfolding contentRule
@@ -145,54 +161,54 @@ module _ {s : List ℕ} {e : ℕ} where
 
   -- ---- sections
 
-  stops-name : {at : ℕ} (known : Bool) (p a : ℕ) → p ≤ length s → Refusing s e (λ n f. Unit {0}) at (afterNameLength known p a)
+  stops-name : {at : ℕ} (known : Bool) (p a : ℕ) → p ≤ length s → Refusing s e (λ n f. NamedIn (length s) f) at (afterNameLength known p a)
   unfolding afterNameLength
   stops-name known p a i =
       stops-bind _ (stops-octets a _ _ (cut-name known i) λ w k y.
       stops-bind _ (stops-here λ j.
       stops-bind _ (stops-integer _ _ (cut-value known i j) λ l b.
       stops-bind _ (stops-octets b _ _ (cut-value known i j) λ u m z.
-      stops-tell (judgedLine p _ _) (line-judged s p i _ _) λ x q. tt))))
+      stops-tell (judgedLine p _ _) (line-judged s p i _ _) λ x q. line-placed s p i _ _ x q))))
 
-  stops-known-line : {at : ℕ} → Refusing s e (λ n f. Unit {0}) at knownLine
+  stops-known-line : {at : ℕ} → Refusing s e (λ n f. NamedIn (length s) f) at knownLine
   unfolding knownLine
   stops-known-line =
       stops-bind _ (stops-here λ p.
       stops-bind _ (stops-integer _ _ (bad-section p) λ j a.
       stops-both (eqb a 0) (stops-refuse (bad-section p)) (stops-name true _ a p)))
 
-  stops-known-lines : (f : ℕ) {at : ℕ} (fs : List FieldRead) → Refusing s e (λ n h. Unit {0}) at (knownLines f fs)
+  stops-known-lines : (f : ℕ) {at : ℕ} (fs : List FieldRead) → Each (NamedIn (length s)) fs → Refusing s e (λ n h. Each (NamedIn (length s)) h) at (knownLines f fs)
   unfolding knownLines
-  stops-known-lines zero fs = stops-refuse (too-large (omega arith))
-  stops-known-lines (suc f) fs =
+  stops-known-lines zero fs g = stops-refuse (too-large (omega arith))
+  stops-known-lines (suc f) fs g =
       stops-bind _ (stops-ended λ b.
       stops-bind _ (stops-here λ i.
-      stops-both b (stops-give tt)
+      stops-both b (stops-give g)
       (stops-both (leb linesMost (length fs)) (stops-refuse (too-large i))
       (stops-then _ stops-known-line λ j x z.
-      stops-known-lines f (fs ++ x ∷ [])))))
+      stops-known-lines f (fs ++ x ∷ []) (each-snoc (NamedIn (length s)) fs x g z)))))
 
-  stops-open-lines : (f : ℕ) {at : ℕ} (fs : List FieldRead) → Refusing s e (λ n h. Unit {0}) at (openLines f fs)
+  stops-open-lines : (f : ℕ) {at : ℕ} (fs : List FieldRead) → Each (NamedIn (length s)) fs → Refusing s e (λ n h. Each (NamedIn (length s)) h) at (openLines f fs)
   unfolding openLines
-  stops-open-lines zero fs = stops-refuse (too-large (omega arith))
-  stops-open-lines (suc f) fs =
+  stops-open-lines zero fs g = stops-refuse (too-large (omega arith))
+  stops-open-lines (suc f) fs g =
       stops-bind _ (stops-here λ p.
       stops-bind _ (stops-integer _ _ (cut-off p) λ j a.
-      stops-both (eqb a 0) (stops-give tt)
+      stops-both (eqb a 0) (stops-give g)
       (stops-both (leb linesMost (length fs)) (stops-refuse (too-large p))
       (stops-then _ (stops-name false _ a p) λ k x z.
-      stops-open-lines f (fs ++ x ∷ [])))))
+      stops-open-lines f (fs ++ x ∷ []) (each-snoc (NamedIn (length s)) fs x g z)))))
 
 -- the body is a part of the input: places inside it are places of the input
-stops-body : {s : List ℕ} {e at : ℕ} (b : Piece) → Lying s b → Refusing s e (λ n h. Unit {0}) at (bodyLines b)
+stops-body : {s : List ℕ} {e at : ℕ} (b : Piece) → Lying s b → Refusing s e (λ n h. Each (NamedIn (length s)) h) at (bodyLines b)
 unfolding bodyLines
 stops-body {s} {e} {at} b y =
     on (knownLines (suc linesMost) [] (b .place) (b .text))
-    (stops-known-lines {e = b .place + length (b .text)} (suc linesMost) [] .go (b .text) (record { lies = y; ends = refl }))
+    (stops-known-lines {e = b .place + length (b .text)} (suc linesMost) [] tt .go (b .text) (record { lies = y; ends = refl }))
   where
-    on : (x : Got (List FieldRead)) → Ends (Refusal binaryLast s) (λ n i h. Stands s (b .place + length (b .text)) n i × Unit {0}) x
-        → Refusing s e (λ n h. Unit {0}) at (onBody x)
-    on (got fs n i) g = record { go = λ l z. (z, tt) }
+    on : (x : Got (List FieldRead)) → Ends (Refusal binaryLast s) (λ n i h. Stands s (b .place + length (b .text)) n i × Each (NamedIn (length s)) h) x
+        → Refusing s e (λ n h. Each (NamedIn (length s)) h) at (onBody x)
+    on (got fs n i) g = record { go = λ l z. (z, g .1) }
     on (no n p) g = record { go = λ l z. g }
 
 padded : (s : List ℕ) (e at : ℕ) (l : List ℕ) → Stands s e at l → Ends (Refusal binaryLast s) (λ n i z. Stands s e n i × Unit {0}) (padding at l)
@@ -202,17 +218,21 @@ padded s e at (b ∷ l) y =
     either (Ends (Refusal binaryLast s) (λ n i z. Stands s e n i × Unit {0})) (eqb b 0) (padding (at + 1) l) (no badPadding at)
     (λ a. padded s e (at + 1) l (stands-on 1 (omega arith) y)) (λ a. at-place (lit≤ tt) (lit≤ tt) (omega (arith, lies-in (y .lies))))
 
+-- a section ends in the input, and so do its lines begin
+record SectionIn (s : List ℕ) (h : Section) : Type 0 where
+  end : h .end ≤ length s
+  lines : Each (NamedIn (length s)) (h .lines)
+
 module _ {s : List ℕ} {e : ℕ} where
-  stops-known-section : {at : ℕ} → Refusing s e (λ n h. Unit {0}) at knownSection
+  stops-known-section : {at : ℕ} → Refusing s e (λ n h. Each (NamedIn (length s)) h) at knownSection
   unfolding knownSection
   stops-known-section = stops-then _ stops-part λ i b y. stops-body b y
 
-  -- a section ends in the input
-  stops-section : {at : ℕ} (known : Bool) → Refusing s e (λ n h. h .end ≤ length s) at (section known)
+  stops-section : {at : ℕ} (known : Bool) → Refusing s e (λ n h. SectionIn s h) at (section known)
   unfolding section
   stops-section known =
-      stops-then _ (stops-both known stops-known-section (stops-open-lines (suc linesMost) [])) λ i fs z.
-      stops-bind _ (stops-here λ j. stops-give j)
+      stops-then _ (stops-both known stops-known-section (stops-open-lines (suc linesMost) [] tt)) λ i fs z.
+      stops-bind _ (stops-here λ j. stops-give (record { end = j; lines = z }))
 
   -- ---- content, trailers, padding
 
@@ -244,14 +264,15 @@ module _ {s : List ℕ} {e : ℕ} where
       stops-bind _ (stops-ended λ b.
       stops-both b (stops-give tt)
       (stops-then _ (stops-section known) λ i h g.
-      stops-tell (trailerRule body h) (trailer-judged s body h g) λ x q. tt))
+      stops-tell (trailerRule body h) (trailer-judged s body h (g .end)) λ x q. tt))
 
   stops-padding : {at : ℕ} → Refusing s e (λ n z. Unit {0}) at padding
   stops-padding {at} = record { go = λ l y. padded s e at l y }
 
-  stops-after : {at : ℕ} (known body : Bool) (start : Start) (h : Section) (f : Framing) → Refusing s e (λ n m. Unit {0}) at (afterHeaders known body start h f)
+  stops-after : {at : ℕ} (known body : Bool) (stated : StatedLength) (start : Start) (h : Section) (f : Framing)
+      → Refusing s e (λ n m. Unit {0}) at (afterHeaders known body stated start h f)
   unfolding afterHeaders afterContent
-  stops-after known body start h f =
+  stops-after known body stated start h f =
       stops-then _ (stops-content known) λ i cs z.
       stops-bind _ (stops-here λ j.
       stops-bind _ (stops-tell (contentRule body f _ cs) (content-judged s _ j body f cs) λ c q.
@@ -266,21 +287,23 @@ module _ {s : List ℕ} {e : ℕ} where
   stops-request known =
       stops-then _ stops-control λ i q z.
       stops-then _ (stops-section known) λ j h g.
-      stops-bind _ (stops-tell (authorityIn (h .end) (q .authority) (h .lines)) (authority-judged binaryLast s wide (h .end) g (q .authority) (h .lines)) λ a r.
-      stops-bind _ (stops-tell (mayState (h .end) (binaryFramingOf (h .lines))) (may-judged binaryLast s wide (h .end) g (binaryFramingOf (h .lines))) λ f q.
-      stops-after known true _ h f))
+      stops-bind _ (stops-tell (authorityIn (h .end) (q .authority) (h .lines)) (authority-judged binaryLast s wide (h .end) (g .end) (q .authority) (h .lines)) λ a r.
+      stops-bind _ (stops-tell (mayState (h .end) (binaryFramingOf (h .lines))) (may-judged binaryLast s wide (h .end) (g .end) (binaryFramingOf (h .lines))) λ f q.
+      stops-after known true Missing _ h f))
 
-  stops-final : {at : ℕ} (known : Bool) (hs : List InformationalRead) (n : ℕ) → Refusing s e (λ i m. Unit {0}) at (afterFinalStatus known hs n)
+module _ (t : Told) {s : List ℕ} {e : ℕ} where
+  stops-final : {at : ℕ} (known : Bool) (hs : List InformationalRead) (n : ℕ) → Refusing s e (λ i m. Unit {0}) at (afterFinalStatus t known hs n)
   unfolding afterFinalStatus afterFinal
   stops-final known hs n =
       stops-then _ (stops-section known) λ j h g.
-      stops-both (isBodyless n)
-      (stops-bind _ (stops-tell (nothingStated (h .end) (binaryFramingOf (h .lines))) (nothing-judged binaryLast s wide (h .end) g (binaryFramingOf (h .lines))) λ u q.
-      stops-after known false _ h Unstated))
-      (stops-bind _ (stops-tell (mayState (h .end) (binaryFramingOf (h .lines))) (may-judged binaryLast s wide (h .end) g (binaryFramingOf (h .lines))) λ f q.
-      stops-after known true _ h f))
+      let f = binaryFramingOf (h .lines) in
+      stops-both (endsAtHead t n)
+      (stops-bind _ (stops-tell (bodylessRule t n (h .end) f) (bodyless-judged binaryLast s wide (h .end) (g .end) t n f (binary-framing-in (length s) (h .lines) (g .lines))) λ u q.
+      stops-after known false (statedIn t n f) _ h Unstated))
+      (stops-bind _ (stops-tell (mayState (h .end) f) (may-judged binaryLast s wide (h .end) (g .end) f) λ v q.
+      stops-after known true Missing _ h v))
 
-  stops-response : (f : ℕ) {at : ℕ} (known : Bool) (hs : List InformationalRead) → Refusing s e (λ i m. Unit {0}) at (heads known f hs)
+  stops-response : (f : ℕ) {at : ℕ} (known : Bool) (hs : List InformationalRead) → Refusing s e (λ i m. Unit {0}) at (heads t known f hs)
   unfolding heads afterInformationalStatus afterInformational
   stops-response zero known hs = stops-refuse (too-large (omega arith))
   stops-response (suc f) known hs =
@@ -290,11 +313,11 @@ module _ {s : List ℕ} {e : ℕ} where
       stops-both (isInformational v)
       (stops-both (leb informationalMost (length hs)) (stops-refuse (too-large p))
       (stops-then _ (stops-section known) λ k h g.
-      stops-bind _ (stops-tell (nothingStated (h .end) (binaryFramingOf (h .lines))) (nothing-judged binaryLast s wide (h .end) g (binaryFramingOf (h .lines))) λ u q.
+      stops-bind _ (stops-tell (nothingStated (h .end) (binaryFramingOf (h .lines))) (nothing-judged binaryLast s wide (h .end) (g .end) (binaryFramingOf (h .lines))) λ u q.
       stops-response f known _)))
       (stops-final known hs v))))
 
-  stops-message : {at : ℕ} → Refusing s e (λ n m. Unit {0}) at message
+  stops-message : {at : ℕ} → Refusing s e (λ n m. Unit {0}) at (message t)
   unfolding message afterIndicator
   stops-message =
       stops-bind _ (stops-integer _ _ (cut-off (omega arith)) λ i f.
@@ -305,7 +328,7 @@ module _ {s : List ℕ} {e : ℕ} where
 
 pub binary-refused : BinaryRefused
 unfolding readBinary
-binary-refused s n p q = on (leb (length s) binaryMost) q
+binary-refused t s n p q = on (leb (length s) binaryMost) q
   where
     pick : (x : Got Message) → Ends (Refusal binaryLast s) (λ k l y. Stands s (length s) k l × Unit {0}) x → messageAnswer x ≡ refused n p → Refusal binaryLast s n p
     pick (got y k l) g z = let w : _≡_ {A = ℕ} 0 1 = cc in absurd (omega arith)
@@ -314,8 +337,8 @@ binary-refused s n p q = on (leb (length s) binaryMost) q
         let b : j ≡ p = cc in
         rw (a, b) at g
 
-    on : (b : Bool) → cond b (messageAnswer (message 0 s)) (refused tooLarge 0) ≡ refused n p → Refusal binaryLast s n p
-    on true z = pick (message 0 s) (stops-message {s = s} {e = length s} {at = 0} .go s (record { lies = lies-all s; ends = omega arith })) z
+    on : (b : Bool) → cond b (messageAnswer (message t 0 s)) (refused tooLarge 0) ≡ refused n p → Refusal binaryLast s n p
+    on true z = pick (message t 0 s) (stops-message t {s = s} {e = length s} {at = 0} .go s (record { lies = lies-all s; ends = omega arith })) z
     on false z =
         let a : tooLarge ≡ n = cc in
         let b : 0 ≡ p = cc in
@@ -323,7 +346,7 @@ binary-refused s n p q = on (leb (length s) binaryMost) q
 
 pub binary-settled : BinarySettled
 unfolding readBinary
-binary-settled s = either Settled (leb (length s) binaryMost) (messageAnswer (message 0 s)) (refused tooLarge 0) (λ a. on (message 0 s)) (λ a. tt)
+binary-settled t s = either Settled (leb (length s) binaryMost) (messageAnswer (message t 0 s)) (refused tooLarge 0) (λ a. on (message t 0 s)) (λ a. tt)
   where
     on : (x : Got Message) → Settled (messageAnswer x)
     on (got m n r) = tt

@@ -3,11 +3,11 @@ use Prim.Native.Nat.{ℕ, zero, suc, _<_, _≤_}
 use mathlib.Core.Path.{_≡_, refl, sym, subst}
 use mathlib.Core.Bool.{Bool, true, false, cond, not}
 use mathlib.Core.Logic.{_⊎_, inl, inr}
-use mathlib.Core.List.{List, [], _∷_, _++_}
+use mathlib.Core.List.{List, [], _∷_, _++_, map}
 use native.Mathlib.Omega.{arith}
 use borrow.Author.Tests.{leb-true, leb-false, ltb-true}
 use lib.Dec.{leb, eqb}
-use lib.ListN.{length}
+use lib.ListN.{length, length-map}
 use Rattle.octets.specs.Limits.{binaryMost, informationalMost}
 use Rattle.octets.specs.Refusals.{tooLarge}
 use Rattle.octets.specs.Text.{isEmpty}
@@ -15,14 +15,21 @@ use Rattle.octets.proofs.Texts.{some}
 use Rattle.script.specs.Script.{accepted, refused}
 use Rattle.script.specs.Do.{Piece, good}
 use Rattle.script.proofs.Places.{lies-all}
-use Rattle.messages.specs.Message.{FieldRead, Section, InformationalRead, requestStart, responseStart, Message, plainMessage}
-use Rattle.messages.specs.Control.{isHost, statusVerdict, isInformational, isBodyless}
-use Rattle.messages.specs.Names.{linesOf}
-use Rattle.messages.specs.Rules.{authorityIn, binaryFramingOf, nothingStated, mayState}
-use Rattle.messages.specs.Valid.{isScheme}
+use Rattle.messages.specs.Message.{FieldRead, Section, InformationalRead, requestStart, responseStart, Message, plainMessage, statingMessage}
+use Rattle.messages.specs.Control.{isHost, statusVerdict, isInformational, isBodyless, endsAtHead}
+use Rattle.messages.specs.Names.{linesOf, kept, keptTrailers}
+use Rattle.messages.specs.Rules.{authorityIn, binaryFramingOf, nothingStated, bodylessRule, mayState, statedIn}
+use Rattle.messages.specs.Notes.{isClashing}
+use Rattle.messages.specs.Told.{isYes}
+use Rattle.messages.specs.Meaning.{Field, fieldMeans, informationalMeans, contentOf, meaning}
+use Rattle.messages.specs.Valid.{isScheme, validBody, validStated, suits}
+use Rattle.messages.specs.declared.Body.{Body}
 use Rattle.messages.specs.declared.Framing.{Framing}
 use Rattle.messages.specs.declared.Framing.the-variants.{Unstated, Stated, Chunked, Clashing}
 use Rattle.messages.specs.declared.Kind.the-variants as kind
+use Rattle.messages.specs.declared.StatedLength.{StatedLength}
+use Rattle.messages.specs.declared.StatedLength.the-variants.{Missing}
+use Rattle.messages.specs.declared.Told.{Told}
 use Rattle.messages.proofs.Verdicts.{host-made}
 use Rattle.messages.proofs.Valid.{host-ok}
 use Rattle.numbers.specs.Integer.{readInt}
@@ -30,29 +37,31 @@ use Rattle.binary.specs.Reader.{Got, got, no, _>>=_, integer}
 use Rattle.binary.specs.Read.{RequestControl, afterHead, afterControl, requestMessage, afterFinal, afterFinalStatus, afterInformational}
 use Rattle.binary.specs.Read.{afterInformationalStatus, heads, afterIndicator, message, messageAnswer, readBinary}
 use Rattle.sound.specs.Placed.{Each, Lying}
-use Rattle.sound.specs.Sound.{LengthAgrees}
+use Rattle.sound.specs.Sound.{StatesLength, ResponseLength}
 use Rattle.sound.proofs.Each.{each-snoc}
 use Rattle.sound.proofs.Parts.{SectionAt, request-valid, HeadsAt, head-at, heads-none, heads-snoc, heads-lie, heads-good, response-valid, PartsAt, parts-sound}
 use Rattle.sound.proofs.Rules.{AuthorityIs, authority-is, host-lies, nothing-stated}
+use Rattle.sound.proofs.Stated.{stated-few-binary, Bodyless, bodyless, none-stated}
 use Rattle.binary_sound.specs.Sound.{GoodStart, LowerName, LowerNames, SoundBinary, BinarySound}
 use Rattle.binary_sound.proofs.Judgement.{Stands, Gets, Every, every-refuse, every-here, every-tell, every-rule, stops-if, every-integer, stops-bind, stops-then}
 use Rattle.binary_sound.proofs.Parts.{ControlAt, every-control}
 use Rattle.binary_sound.proofs.Lines.{LinesAt, every-section}
 use Rattle.binary_sound.proofs.Content.{body-valid, TailAt, every-after}
 
--- what is known of each message at its end
-pub record MessageAt (s : List ℕ) (m : Message) : Type 0 where
+-- what is known of each message at its end, told t
+pub record MessageAt (t : Told) (s : List ℕ) (m : Message) : Type 0 where
   pub parts : PartsAt s m
   pub start : GoodStart (m .start) (m .lines)
-  pub stated : LengthAgrees (binaryFramingOf (m .lines)) m
+  pub suits : suits t (meaning m) ≡ true
+  pub stated : StatesLength t (m .start) (binaryFramingOf (m .lines)) m
   pub names : LowerNames m
 
-may-state : (end : ℕ) (f g : Framing) → mayState end f ≡ good g → f ≡ g
+may-state : (end : ℕ) (f g : Framing) → mayState end f ≡ good g → (f ≡ g) × (isClashing f ≡ false)
 unfolding mayState
-may-state end Unstated g e = cc
-may-state end (Stated n p) g e = cc
-may-state end Chunked g e = cc
-may-state end Clashing g e = cc
+may-state end Unstated g e = (cc, refl)
+may-state end (Stated n p) g e = (cc, refl)
+may-state end Chunked g e = (cc, refl)
+may-state end Clashing g e = let z : _≡_ {A = ℕ} 0 1 = cc in absurd (omega arith)
 
 -- ---- requests
 
@@ -86,13 +95,15 @@ scheme-number zero h = inl refl
 scheme-number (suc zero) h = inr refl
 scheme-number (suc (suc v)) h = let z = ltb-true (suc (suc v)) 2 h in absurd (omega arith)
 
-request-at : (s : List ℕ) (q : RequestControl) (h : Section) (a : Piece) (f : Framing) (cs : List Piece) (ts : List FieldRead) → ControlAt s q
+request-at : (w : Told) (s : List ℕ) (q : RequestControl) (h : Section) (a : Piece) (f : Framing) (cs : List Piece) (ts : List FieldRead) → ControlAt s q
     → LinesAt s (h .lines) → AuthorityAt s (h .lines) a → binaryFramingOf (h .lines) ≡ f → TailAt s true f cs ts
-    → MessageAt s (plainMessage (requestStart (q .method) (q .scheme) a (q .path)) (h .lines) cs ts)
-request-at s q h a f cs ts c l o g t = record {
+    → MessageAt w s (plainMessage (requestStart (q .method) (q .scheme) a (q .path)) (h .lines) cs ts)
+unfolding suits meaning
+request-at w s q h a f cs ts c l o g t = record {
   parts = record {
     control = request-valid (q .method .text) (a .text) (q .path .text) (q .scheme) (c .method .keeps) (c .scheme) (o .host) (c .path .keeps);
     body = body-valid true cs ts (t .filled .empty) (t .named .none);
+    stated = none-stated _;
     start = (c .method .lies, o .lies, c .path .lies);
     heads = tt;
     lines = l .section;
@@ -107,7 +118,8 @@ request-at s q h a f cs ts c l o g t = record {
     equal = o .equal;
     once = o .once;
   };
-  stated = rw g (t .filled .agreed);
+  suits = refl;
+  stated = (rw g (t .filled .agreed), refl);
   names = record { heads = tt; lines = l .lower; trailers = t .trailers .lower };
 }
 
@@ -126,28 +138,83 @@ one-more s hs n fs a v i l u k = record {
   unstated = each-snoc (λ (h : InformationalRead). binaryFramingOf (h .lines) ≡ Unstated) hs _ (a .unstated) u;
 }
 
-response-at : (s : List ℕ) (hs : List InformationalRead) (n : ℕ) (h : Section) (body : Bool) (f : Framing) (cs : List Piece) (ts : List FieldRead) → HeadsIn s hs
-    → statusVerdict n ≡ 0 → isInformational n ≡ false → LinesAt s (h .lines) → not (isBodyless n) ≡ body → binaryFramingOf (h .lines) ≡ f
-    → (isBodyless n ≡ true → binaryFramingOf (h .lines) ≡ Unstated) → TailAt s body f cs ts
-    → MessageAt s (plainMessage (responseStart hs n) (h .lines) cs ts)
-response-at s hs n h body f cs ts a v i l b g u t = record {
-  parts = record {
-    control = response-valid s hs n (a .heads) v i;
-    body = rw b (body-valid body cs ts (t .filled .empty) (t .named .none));
-    start = heads-lie s hs (a .heads);
-    heads = heads-good s hs (a .heads);
-    lines = l .section;
-    chunks = t .chunks;
-    trailers = t .trailers .section;
-    names = t .named .names;
-  };
-  start = record { early = a .unstated; bodyless = u };
-  stated = rw g (t .filled .agreed);
-  names = record { heads = a .lower; lines = l .lower; trailers = t .trailers .lower };
-}
+-- a status behind which content may follow, as far as is told, is neither 204 nor 304
+neither : (a b : Bool) → cond a true b ≡ false → a ≡ false
+neither true b e = e
+neither false b e = refl
 
-module _ {s : List ℕ} {e : ℕ} where
-  every-request : {at : ℕ} (known : Bool) → Every s e (λ n m. MessageAt s m × (n ≡ e)) at (requestMessage known)
+not-bodyless : (t : Told) (n : ℕ) → endsAtHead t n ≡ false → isBodyless n ≡ false
+unfolding endsAtHead
+not-bodyless t n e = neither (isBodyless n) (isYes (t .head)) e
+
+not-204 : (n : ℕ) → isBodyless n ≡ false → eqb n 204 ≡ false
+unfolding isBodyless
+not-204 n e = neither (eqb n 204) (eqb n 304) e
+
+-- neither content nor trailers are valid of any status
+any-body : (b : Bool) (c : List ℕ) (ts : List Field) → validBody false c ts ≡ true → validBody b c ts ≡ true
+unfolding validBody
+any-body true c ts h = refl
+any-body false c ts h = h
+
+module _ (t : Told) (s : List ℕ) (hs : List InformationalRead) (n : ℕ) (h : Section) (a : HeadsIn s hs) (v : statusVerdict n ≡ 0)
+    (i : isInformational n ≡ false) (l : LinesAt s (h .lines)) (cs : List Piece) (ts : List FieldRead) where
+  -- the message that states k
+  response : StatedLength → Message
+  response k = statingMessage k (responseStart hs n) (h .lines) cs ts
+
+  response-at : (body : Bool) (f : Framing) (k : StatedLength) → TailAt s body f cs ts
+      → validBody (not (isBodyless n)) (contentOf cs) (map fieldMeans (keptTrailers ts)) ≡ true → validStated k (meaning (response k)) ≡ true
+      → suits t (meaning (response k)) ≡ true → ResponseLength t n (binaryFramingOf (h .lines)) (response k) → MessageAt t s (response k)
+  unfolding response
+  response-at body f k g b d u r = record {
+    parts = record {
+      control = response-valid s hs n (a .heads) v i;
+      body = b;
+      stated = d;
+      start = heads-lie s hs (a .heads);
+      heads = heads-good s hs (a .heads);
+      lines = l .section;
+      chunks = g .chunks;
+      trailers = g .trailers .section;
+      names = g .named .names;
+    };
+    start = a .unstated;
+    suits = u;
+    stated = r;
+    names = record { heads = a .lower; lines = l .lower; trailers = g .trailers .lower };
+  }
+
+  -- where content may follow
+  content-at : (f : Framing) → endsAtHead t n ≡ false → mayState (h .end) (binaryFramingOf (h .lines)) ≡ good f → TailAt s true f cs ts
+      → MessageAt t s (response Missing)
+  unfolding response suits meaning statedIn
+  content-at f q j g =
+      let z = not-bodyless t n q in
+      let m = may-state (h .end) (binaryFramingOf (h .lines)) f j in
+      response-at true f Missing g (rw z (body-valid true cs ts (g .filled .empty) (g .named .none))) (none-stated _) (rw q)
+      (record {
+        once = m .1;
+        none = λ y. let x = not-204 n z in let w : _≡_ {A = ℕ} 0 1 = cc in absurd (omega arith);
+        stated = rw q;
+        agrees = λ y. rw (m .0) (g .filled .agreed);
+      })
+
+  -- where the response ends at its head
+  bodyless-at : (b : Body) → endsAtHead t n ≡ true → Bodyless n (binaryFramingOf (h .lines)) b → TailAt s false Unstated cs ts
+      → MessageAt t s (response (statedIn t n (binaryFramingOf (h .lines))))
+  unfolding response suits meaning statedIn
+  bodyless-at b q j g =
+      let w = body-valid false cs ts (g .filled .empty) (g .named .none) in
+      response-at false Unstated _ g (any-body (not (isBodyless n)) _ _ w)
+      (rw q
+        (j .valid (map informationalMeans hs) _ refl w λ k p e.
+        omega (arith, length-map (kept true (h .lines)) fieldMeans, stated-few-binary true (h .lines) (l .section .few) k p e)))
+      (rw q w)
+      (record { once = j .once; none = j .none; stated = refl; agrees = λ y. let z : _≡_ {A = ℕ} 0 1 = cc in absurd (omega arith) })
+
+module _ (t : Told) {s : List ℕ} {e : ℕ} where
+  every-request : {at : ℕ} (known : Bool) → Every s e (λ n m. MessageAt t s m × (n ≡ e)) at (requestMessage known)
   unfolding requestMessage afterControl afterHead
   every-request known =
       stops-then _ every-control λ i q c.
@@ -155,24 +222,23 @@ module _ {s : List ℕ} {e : ℕ} where
       stops-bind _ (every-tell (authorityIn (h .end) (q .authority) (h .lines)) λ a p.
       stops-bind _ (every-tell (mayState (h .end) (binaryFramingOf (h .lines))) λ f g.
       let o = authority-at s q (h .lines) a c (l .section) (isEmpty (q .authority .text)) refl (authority-is (h .end) (q .authority) (h .lines) a p) in
-      every-after known true _ h f λ cs ts t. (request-at s q h a f cs ts c l o (may-state (h .end) _ f g) t, refl)))
+      every-after known true Missing _ h f λ cs ts d. (request-at t s q h a f cs ts c l o (may-state (h .end) _ f g .0) d, refl)))
 
   every-final : {at : ℕ} (known : Bool) (hs : List InformationalRead) (n : ℕ) → HeadsIn s hs → statusVerdict n ≡ 0 → isInformational n ≡ false
-      → Every s e (λ i m. MessageAt s m × (i ≡ e)) at (afterFinalStatus known hs n)
-  unfolding afterFinalStatus afterFinal
+      → Every s e (λ i m. MessageAt t s m × (i ≡ e)) at (afterFinalStatus t known hs n)
+  unfolding afterFinalStatus afterFinal response
   every-final known hs n a v i =
       stops-then _ (every-section known) λ j h l.
-      stops-if (isBodyless n)
-      (λ b.
-      stops-bind _ (every-tell (nothingStated (h .end) (binaryFramingOf (h .lines))) λ u g.
-      let f = nothing-stated (h .end) _ u g .0 in
-      every-after known false _ h Unstated λ cs ts t. (response-at s hs n h false Unstated cs ts a v i l (rw b) f (λ z. f) t, refl)))
-      (λ b.
+      stops-if (endsAtHead t n)
+      (λ q.
+      stops-bind _ (every-tell (bodylessRule t n (h .end) (binaryFramingOf (h .lines))) λ b g.
+      every-after known false _ _ h Unstated λ cs ts d. (bodyless-at t s hs n h a v i l cs ts b q (bodyless t n (h .end) _ b g) d, refl)))
+      (λ q.
       stops-bind _ (every-tell (mayState (h .end) (binaryFramingOf (h .lines))) λ f g.
-      every-after known true _ h f λ cs ts t. (response-at s hs n h true f cs ts a v i l (rw b) (may-state (h .end) _ f g) (λ z. cc) t, refl)))
+      every-after known true Missing _ h f λ cs ts d. (content-at t s hs n h a v i l cs ts f q g d, refl)))
 
   every-response : (f : ℕ) {at : ℕ} (known : Bool) (hs : List InformationalRead) → HeadsIn s hs
-      → Every s e (λ i m. MessageAt s m × (i ≡ e)) at (heads known f hs)
+      → Every s e (λ i m. MessageAt t s m × (i ≡ e)) at (heads t known f hs)
   unfolding heads afterInformationalStatus afterInformational
   every-response zero known hs a = every-refuse
   every-response (suc f) known hs a =
@@ -186,7 +252,7 @@ module _ {s : List ℕ} {e : ℕ} where
       every-response f known _ (one-more s hs n (h .lines) a v b l (nothing-stated (h .end) _ u g .0) (leb-false informationalMost (length hs) c))))
       (λ b. every-final known hs n a v b)))))
 
-  every-message : {at : ℕ} → Every s e (λ n m. MessageAt s m × (n ≡ e)) at message
+  every-message : {at : ℕ} → Every s e (λ n m. MessageAt t s m × (n ≡ e)) at (message t)
   unfolding message afterIndicator
   every-message =
       let a : HeadsIn s [] = record { heads = heads-none s; lower = tt; unstated = tt } in
@@ -194,42 +260,43 @@ module _ {s : List ℕ} {e : ℕ} where
       stops-if (eqb f 0) (λ u. every-request true) λ u.
       stops-if (eqb f 1) (λ v. every-response (suc informationalMost) true [] a) λ v.
       stops-if (eqb f 2) (λ w. every-request false) λ w.
-      stops-if (eqb f 3) (λ t. every-response (suc informationalMost) false [] a) λ t. every-refuse)
+      stops-if (eqb f 3) (λ x. every-response (suc informationalMost) false [] a) λ x. every-refuse)
 
 -- the framing is an integer: an input without octets is cut off
-not-none : (n : ℕ) (m : Message) → readBinary [] ≡ accepted n m → ⊥
+not-none : (t : Told) (n : ℕ) (m : Message) → readBinary t [] ≡ accepted n m → ⊥
 unfolding readBinary message integer readInt _>>=_
-not-none n m q = let z : _≡_ {A = ℕ} 0 1 = cc in omega arith
+not-none t n m q = let z : _≡_ {A = ℕ} 0 1 = cc in omega arith
 
-some-octets : (s : List ℕ) (n : ℕ) (m : Message) → readBinary s ≡ accepted n m → 0 < length s
-some-octets [] n m q = absurd (not-none n m q)
-some-octets (b ∷ s) n m q = omega arith
+some-octets : (t : Told) (s : List ℕ) (n : ℕ) (m : Message) → readBinary t s ≡ accepted n m → 0 < length s
+some-octets t [] n m q = absurd (not-none t n m q)
+some-octets t (b ∷ s) n m q = omega arith
 
 pub binary-sound : BinarySound
 unfolding readBinary
-binary-sound s n m q = on (leb (length s) binaryMost) refl q
+binary-sound t s n m q = on (leb (length s) binaryMost) refl q
   where
-    pick : length s ≤ binaryMost → (x : Got Message) → Gets (λ k l y. Stands s (length s) k l × (MessageAt s y × (k ≡ length s))) x
-        → messageAnswer x ≡ accepted n m → SoundBinary s n m
+    pick : length s ≤ binaryMost → (x : Got Message) → Gets (λ k l y. Stands s (length s) k l × (MessageAt t s y × (k ≡ length s))) x
+        → messageAnswer x ≡ accepted n m → SoundBinary t s n m
     pick h (got y k l) g z =
         let a : k ≡ n = cc in
         let b : y ≡ m = cc in
-        let r : MessageAt s m = subst (MessageAt s) b (g .1 .0) in
+        let r : MessageAt t s m = subst (MessageAt t s) b (g .1 .0) in
         let w : k ≡ length s = g .1 .1 in
-        let i = some-octets s n m q in
+        let i = some-octets t s n m q in
         record {
           sound = parts-sound s m (r .parts);
           some = omega arith;
           whole = omega arith;
           small = omega arith;
           start = r .start;
+          suits = r .suits;
           stated = r .stated;
           names = r .names;
         }
     pick h (no k p) g z = let w : _≡_ {A = ℕ} 0 1 = cc in absurd (omega arith)
 
-    on : (b : Bool) → leb (length s) binaryMost ≡ b → cond b (messageAnswer (message 0 s)) (refused tooLarge 0) ≡ accepted n m → SoundBinary s n m
+    on : (b : Bool) → leb (length s) binaryMost ≡ b → cond b (messageAnswer (message t 0 s)) (refused tooLarge 0) ≡ accepted n m → SoundBinary t s n m
     on true h z =
-        pick (leb-true (length s) binaryMost h) (message 0 s)
-        (every-message {s = s} {e = length s} {at = 0} .go s (record { lies = lies-all s; ends = omega arith })) z
+        pick (leb-true (length s) binaryMost h) (message t 0 s)
+        (every-message t {s = s} {e = length s} {at = 0} .go s (record { lies = lies-all s; ends = omega arith })) z
     on false h z = let w : _≡_ {A = ℕ} 0 1 = cc in absurd (omega arith)

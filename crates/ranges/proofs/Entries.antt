@@ -27,7 +27,7 @@ use Rattle.messages.specs.declared.Record.{Record}
 use Rattle.sound.specs.Placed.{Each, OfLine, OfStart, Lying}
 use Rattle.sound.specs.Sound.{GoodSection, GoodHeads, Sound}
 use Rattle.ranges.specs.Ranges.{headNumbers, Begins, Held, HeldServed}
-use Rattle.ranges.specs.Entries.{fieldIn, fieldsIn, chunksIn, fieldsBefore, headIn, headsIn, partIn, meaningIn, EntryWithin, FieldsWithin, HeadsWithin, ChunksWithin, MessageWithin}
+use Rattle.ranges.specs.Entries.{fieldIn, entryOf, fieldsIn, chunksIn, fieldsBefore, headIn, headsIn, partIn, meaningIn, EntryWithin, FieldsWithin, HeadsWithin, ChunksWithin, MessageWithin}
 use Rattle.ranges.proofs.Stored.{numbers-append, numbers-length}
 
 -- ---- numbers that stand at a place
@@ -79,15 +79,24 @@ entry ranges k f w y =
     }
 
 module _ (s ranges : List ℕ) where
-  field-is : (k : ℕ) (f : FieldRead) (w : List ℕ) → Entry ranges k f w → OfLine (Lying s) f → fieldIn s ranges k ≡ f
+  field-is : (k : ℕ) (f : FieldRead) (w : List ℕ) → Entry ranges k f w → OfLine (Lying s) f → fieldIn s ranges k ≡ entryOf f
   field-is k f w e h = rw (e .name, e .nlen, e .value, e .vlen, lies-is (h .name), lies-is (h .value))
 
-  pub fields-are : (k : ℕ) (fs : List FieldRead) → FieldsAt s ranges k fs → fieldsIn s ranges k (length fs) ≡ fs
+  pub fields-are : (k : ℕ) (fs : List FieldRead) → FieldsAt s ranges k fs → fieldsIn s ranges k (length fs) ≡ map entryOf fs
   unfolding fieldsIn fieldsNumbers
   fields-are k [] h = refl
   fields-are k (f ∷ fs) h =
       let e = entry ranges k f (fieldsNumbers fs) (h .numbers) in
       rw (field-is k f (fieldsNumbers fs) e (h .lie .0), fields-are (k + 1) fs (record { numbers = e .rest; lie = h .lie .1 }))
+
+  -- what they mean does not hang on where lines begin
+  fields-mean : (k : ℕ) (fs : List FieldRead) → FieldsAt s ranges k fs → map fieldMeans (fieldsIn s ranges k (length fs)) ≡ map fieldMeans fs
+  unfolding fieldMeans
+  fields-mean k fs h = rw (fields-are k fs h) (go fs)
+    where
+      go : (gs : List FieldRead) → map fieldMeans (map entryOf gs) ≡ map fieldMeans gs
+      go [] = refl
+      go (g ∷ gs) = rw (go gs)
 
   entry-within : (k : ℕ) (f : FieldRead) (w : List ℕ) → Entry ranges k f w → OfLine (Lying s) f → EntryWithin (length s) ranges k
   entry-within k f w e h =
@@ -239,7 +248,7 @@ module _ (s hs ns : List ℕ) where
   heads-are i [] g = refl
   heads-are i (h ∷ is) g =
       let f = first-head i h is g in
-      rw (f .status, f .count, fields-are s hs (fieldsBefore ns i) (kept true (h .lines)) (f .at), heads-are (i + 1) is (f .rest))
+      rw (f .status, f .count, fields-mean s hs (fieldsBefore ns i) (kept true (h .lines)) (f .at), heads-are (i + 1) is (f .rest))
 
   -- where the fields behind those of the heads begin
   pub before-are : (i : ℕ) (is : List InformationalRead) → HeadsAt s hs ns i is → fieldsBefore ns (i + length is) ≡ fieldsBefore ns i + length (informationalLines is)
@@ -346,16 +355,16 @@ module _ (s : List ℕ) (n : ℕ) (m : Message) (hs ns cs ts : List ℕ) where
         lies-is (o .0),
         lies-is (o .1),
         lies-is (o .2),
-        fields-are s hs (fieldsBefore ns 0) (kept false (m .lines)) (p .headers),
+        fields-mean s hs (fieldsBefore ns 0) (kept false (m .lines)) (p .headers),
         chunks-are s cs 0 (m .chunks) (p .chunks),
-        fields-are s ts 0 (keptTrailers (m .trailers)) (p .trailers),
+        fields-mean s ts 0 (keptTrailers (m .trailers)) (p .trailers),
       )
   means-with (responseStart is status) o p =
       rw (
         heads-are s hs ns 0 is (p .heads),
-        fields-are s hs (fieldsBefore ns (length is)) (kept true (m .lines)) (p .headers),
+        fields-mean s hs (fieldsBefore ns (length is)) (kept true (m .lines)) (p .headers),
         chunks-are s cs 0 (m .chunks) (p .chunks),
-        fields-are s ts 0 (keptTrailers (m .trailers)) (p .trailers),
+        fields-mean s ts 0 (keptTrailers (m .trailers)) (p .trailers),
       )
 
   within-with : (x : Start) → OfStart (Lying s) x → GoodHeads x → Sound s m → PartsAt s x m hs ns cs ts → MessageWithin s (recordFrom x n m) hs ns cs ts

@@ -21,7 +21,12 @@ fieldIn s ranges k =
     record {
       name = piece (getD ranges (k * 4) 0) (part s (getD ranges (k * 4) 0) (getD ranges (k * 4 + 1) 0));
       value = piece (getD ranges (k * 4 + 2) 0) (part s (getD ranges (k * 4 + 2) 0) (getD ranges (k * 4 + 3) 0));
+      place = getD ranges (k * 4) 0;
     }
+
+-- a line as an entry names it: not where it begins; its name's place stands for that
+abbrev pub entryOf : FieldRead → FieldRead
+entryOf f = record { name = f .name; value = f .value; place = f .name .place }
 
 -- the fields of n entries from the entry k on
 unfoldable pub fieldsIn : List ℕ → List ℕ → ℕ → ℕ → List FieldRead

@@ -92,7 +92,7 @@ StatedIn e Chunked = Unit {0}
 StatedIn e Clashing = Unit {0}
 
 abbrev pub NamedIn : ℕ → FieldRead → Type 0
-NamedIn e f = f .name .place ≤ e
+NamedIn e f = f .place ≤ e
 
 length-in : (e p : ℕ) (n : Number) → p ≤ e → StatedIn e (lengthStated p n)
 length-in e p (Is n) h = h
@@ -103,7 +103,7 @@ unfolding framingFrom
 framing-from e [] [] h = tt
 framing-from e [] (c ∷ []) h = either (StatedIn e) (sameText (map lowerOf (c .value .text)) (ascii "chunked")) Chunked Clashing (λ a. tt) (λ a. tt)
 framing-from e [] (c ∷ d ∷ cs) h = tt
-framing-from e (f ∷ []) [] h = length-in e (f .name .place) (numOf 10 (f .value .text)) (h .0)
+framing-from e (f ∷ []) [] h = length-in e (f .place) (numOf 10 (f .value .text)) (h .0)
 framing-from e (f ∷ []) (c ∷ cs) h = tt
 framing-from e (f ∷ g ∷ fs) cs h = tt
 
