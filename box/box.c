@@ -29,40 +29,39 @@ static int stop(const char *what, uint32_t number, size_t place, size_t at)
     return 1;
 }
 
-/* Takes all requests off a stream that was written: how many there are, and that nothing is left. */
+/* Takes all requests off a stream that was written, a line for each: how many there are, and that nothing is left. */
 static bool take_off(const uint8_t *octets, size_t len, size_t count)
 {
     size_t at = 0, taken = 0, place;
-    for (; at < len; at += place, taken++)
+    for (; at < len; at += place) {
         if (ospirnar_read_request(octets + at, len - at, 0, ranges, OSPIRNAR_RANGES_MOST, &place) != 0)
             return false;
+        printf("%zu: ", ++taken);
+        print_part(octets + at, ranges + 2);
+        putchar(' ');
+        print_part(octets + at, ranges + 6);
+        printf(", %u fields, %u octets of content\n", (unsigned)ranges[10], (unsigned)ranges[12]);
+    }
     return taken == count;
 }
 
 int main(void)
 {
-    size_t len = fread(input, 1, sizeof input, stdin), at = 0, out = 0, count = 0, place, binary_len, http1_len;
+    size_t len = fread(input, 1, sizeof input, stdin), at = 0, out = 0, count = 0, taken, binary_len, http1_len;
     if (ferror(stdin) || (len == sizeof input && getchar() != EOF)) {
         fprintf(stderr, "box: standard input cannot be read or passes %d octets\n", STREAM_MOST);
         return 2;
     }
     while (at < len) {
-        uint32_t number = ospirnar_read_request(input + at, len - at, 0, ranges, OSPIRNAR_RANGES_MOST, &place);
+        /* judged, turned and measured in one call: a box does not read a request before it turns it */
+        uint32_t number = ospirnar_request_to_binary(input + at, len - at, 0, binary, sizeof binary, &binary_len, &taken);
         if (number != 0) /* 1 is no refusal: a box that reads from a connection would wait for more octets and call again */
-            return stop(number == 1 ? "more octets are needed" : "refused", number, place, at);
-        printf("%zu: ", ++count);
-        print_part(input + at, ranges + 2);
-        putchar(' ');
-        print_part(input + at, ranges + 6);
-        printf(", %u fields, %u octets of content", (unsigned)ranges[10], (unsigned)ranges[12]);
-        number = ospirnar_request_to_binary(input + at, len - at, 0, binary, sizeof binary, &binary_len);
+            return stop(number == 1 ? "more octets are needed" : "refused", number, binary_len, at);
+        number = ospirnar_binary_to_http1(binary, binary_len, 0, 0, written + out, sizeof written - out, &http1_len);
         if (number != 0)
-            return stop("; not turned", number, binary_len, 0);
-        number = ospirnar_binary_to_http1(binary, binary_len, 0, written + out, sizeof written - out, &http1_len);
-        if (number != 0)
-            return stop("; not turned back", number, http1_len, 0);
-        printf("; %zu octets, as Binary %zu, turned back %zu\n", place, binary_len, http1_len);
-        at += place; /* the next message begins behind this one */
+            return stop("not turned back", number, http1_len, 0);
+        printf("%zu: %zu octets, as Binary %zu, turned back %zu\n", ++count, taken, binary_len, http1_len);
+        at += taken; /* the next message begins behind this one */
         out += http1_len;
     }
     if (!take_off(written, out, count)) {

@@ -39,14 +39,12 @@ static uint32_t flock_of(const uint8_t *octets, size_t len)
 /* Appends the requests to the bundle; its length, or 0 with what was printed. */
 static bool gather(size_t len, size_t *used)
 {
-    size_t at = 0, place, binary_len;
-    for (*used = 0; at < len; at += place) {
-        uint32_t number = ospirnar_read_request(input + at, len - at, 0, ranges, OSPIRNAR_RANGES_MOST, &place);
-        if (number == 0)
-            number = ospirnar_request_to_binary(input + at, len - at, 0, binary, sizeof binary, &binary_len);
+    size_t at = 0, place, taken;
+    for (*used = 0; at < len; at += taken) {
+        uint32_t number = ospirnar_request_to_binary(input + at, len - at, 0, binary, sizeof binary, &place, &taken);
         if (number != 0)
             return stop("refused", number, at + place), false;
-        struct ospirnar_append_answer answer = ospirnar_append(bundle, sizeof bundle, *used, flock_of(input + at, len - at), binary, binary_len);
+        struct ospirnar_append_answer answer = ospirnar_append(bundle, sizeof bundle, *used, flock_of(input + at, len - at), binary, place);
         if (answer.number != 0)
             return stop("not appended", answer.number, answer.place), false;
         *used = answer.used;

@@ -23,26 +23,32 @@ mod entries {
     #[link(name = "capi", kind = "static")]
     extern "C" {
         pub fn ospirnar_read_request(input: *const u8, input_len: usize, scheme: u32, ranges: *mut u32, ranges_len: usize, place: *mut usize) -> u32;
-        pub fn ospirnar_read_response(input: *const u8, input_len: usize, ranges: *mut u32, ranges_len: usize, place: *mut usize) -> u32;
-        pub fn ospirnar_read_binary(input: *const u8, input_len: usize, ranges: *mut u32, ranges_len: usize, place: *mut usize) -> u32;
-        pub fn ospirnar_request_to_binary(input: *const u8, input_len: usize, scheme: u32, out: *mut u8, out_len: usize, place: *mut usize) -> u32;
-        pub fn ospirnar_response_to_binary(input: *const u8, input_len: usize, out: *mut u8, out_len: usize, place: *mut usize) -> u32;
-        pub fn ospirnar_binary_to_binary(input: *const u8, input_len: usize, out: *mut u8, out_len: usize, place: *mut usize) -> u32;
-        pub fn ospirnar_binary_to_http1(input: *const u8, input_len: usize, scheme: u32, out: *mut u8, out_len: usize, place: *mut usize) -> u32;
+        pub fn ospirnar_read_response(input: *const u8, input_len: usize, head: u32, ranges: *mut u32, ranges_len: usize, place: *mut usize) -> u32;
+        pub fn ospirnar_read_binary(input: *const u8, input_len: usize, head: u32, ranges: *mut u32, ranges_len: usize, place: *mut usize) -> u32;
+        pub fn ospirnar_request_to_binary(
+            input: *const u8, input_len: usize, scheme: u32, out: *mut u8, out_len: usize, place: *mut usize, taken: *mut usize,
+        ) -> u32;
+        pub fn ospirnar_response_to_binary(
+            input: *const u8, input_len: usize, head: u32, out: *mut u8, out_len: usize, place: *mut usize, taken: *mut usize,
+        ) -> u32;
+        pub fn ospirnar_binary_to_binary(input: *const u8, input_len: usize, head: u32, out: *mut u8, out_len: usize, place: *mut usize) -> u32;
+        pub fn ospirnar_binary_to_http1(
+            input: *const u8, input_len: usize, scheme: u32, head: u32, out: *mut u8, out_len: usize, place: *mut usize,
+        ) -> u32;
         pub fn ospirnar_request_field(
             input: *const u8, input_len: usize, scheme: u32, name: *const u8, name_len: usize, number: *mut u32, place: *mut usize, start: *mut usize, length: *mut usize,
         ) -> u32;
         pub fn ospirnar_response_field(
-            input: *const u8, input_len: usize, name: *const u8, name_len: usize, number: *mut u32, place: *mut usize, start: *mut usize, length: *mut usize,
+            input: *const u8, input_len: usize, head: u32, name: *const u8, name_len: usize, number: *mut u32, place: *mut usize, start: *mut usize, length: *mut usize,
         ) -> u32;
         pub fn ospirnar_binary_field(
-            input: *const u8, input_len: usize, name: *const u8, name_len: usize, number: *mut u32, place: *mut usize, start: *mut usize, length: *mut usize,
+            input: *const u8, input_len: usize, head: u32, name: *const u8, name_len: usize, number: *mut u32, place: *mut usize, start: *mut usize, length: *mut usize,
         ) -> u32;
         pub fn ospirnar_listing(input: *const u8, input_len: usize, output: *mut u8, output_len: usize, place: *mut usize) -> u32;
     }
 }
 
-const RANGES_MOST: usize = 2070;
+const RANGES_MOST: usize = 2076;
 const TOO_SMALL: Answer = Answer { number: 13, place: 0 };
 
 /// The number a call returned, and what it left in *place.
@@ -85,46 +91,59 @@ fn read_request(input: &[u8], scheme: u32, ranges: &mut Lent<u32>) -> Answer {
     ask(|place| unsafe { entries::ospirnar_read_request(input.as_ptr(), input.len(), scheme, pointer, room, place) })
 }
 
-fn read_response(input: &[u8], ranges: &mut Lent<u32>) -> Answer {
+fn read_response(input: &[u8], told: Told, ranges: &mut Lent<u32>) -> Answer {
     let (pointer, room) = ranges.lend();
-    ask(|place| unsafe { entries::ospirnar_read_response(input.as_ptr(), input.len(), pointer, room, place) })
+    ask(|place| unsafe { entries::ospirnar_read_response(input.as_ptr(), input.len(), told.head, pointer, room, place) })
 }
 
-fn read_binary(input: &[u8], ranges: &mut Lent<u32>) -> Answer {
+fn read_binary(input: &[u8], told: Told, ranges: &mut Lent<u32>) -> Answer {
     let (pointer, room) = ranges.lend();
-    ask(|place| unsafe { entries::ospirnar_read_binary(input.as_ptr(), input.len(), pointer, room, place) })
+    ask(|place| unsafe { entries::ospirnar_read_binary(input.as_ptr(), input.len(), told.head, pointer, room, place) })
+}
+
+/// The answer of a turning off a stream, which says how many octets it took: those of the message that the reader takes off there, or none
+/// where it is refused. Anything else shows as an answer of no call.
+fn turn_off(read: impl FnOnce(&mut Lent<u32>) -> Answer, call: impl FnOnce(*mut usize, *mut usize) -> u32) -> Answer {
+    let mut taken = 0xAAAA_AAAA_AAAA_AAAA;
+    let answer = ask(|place| call(place, &mut taken));
+    let length = if answer.number == 0 { read(&mut ranges(RANGES_MOST)).place } else { 0 };
+    if taken == length { answer } else { Answer { number: u32::MAX, place: taken } }
 }
 
 fn request_to_binary(input: &[u8], scheme: u32, out: &mut Lent<u8>) -> Answer {
     let (pointer, room) = out.lend();
-    ask(|place| unsafe { entries::ospirnar_request_to_binary(input.as_ptr(), input.len(), scheme, pointer, room, place) })
+    turn_off(|ranges| read_request(input, scheme, ranges), |place, taken| unsafe {
+        entries::ospirnar_request_to_binary(input.as_ptr(), input.len(), scheme, pointer, room, place, taken)
+    })
 }
 
-fn response_to_binary(input: &[u8], out: &mut Lent<u8>) -> Answer {
+fn response_to_binary(input: &[u8], told: Told, out: &mut Lent<u8>) -> Answer {
     let (pointer, room) = out.lend();
-    ask(|place| unsafe { entries::ospirnar_response_to_binary(input.as_ptr(), input.len(), pointer, room, place) })
+    turn_off(|ranges| read_response(input, told, ranges), |place, taken| unsafe {
+        entries::ospirnar_response_to_binary(input.as_ptr(), input.len(), told.head, pointer, room, place, taken)
+    })
 }
 
-fn binary_to_binary(input: &[u8], out: &mut Lent<u8>) -> Answer {
+fn binary_to_binary(input: &[u8], told: Told, out: &mut Lent<u8>) -> Answer {
     let (pointer, room) = out.lend();
-    ask(|place| unsafe { entries::ospirnar_binary_to_binary(input.as_ptr(), input.len(), pointer, room, place) })
+    ask(|place| unsafe { entries::ospirnar_binary_to_binary(input.as_ptr(), input.len(), told.head, pointer, room, place) })
 }
 
-fn binary_to_http1(input: &[u8], scheme: u32, out: &mut Lent<u8>) -> Answer {
+fn binary_to_http1(input: &[u8], scheme: u32, told: Told, out: &mut Lent<u8>) -> Answer {
     let (pointer, room) = out.lend();
-    ask(|place| unsafe { entries::ospirnar_binary_to_http1(input.as_ptr(), input.len(), scheme, pointer, room, place) })
+    ask(|place| unsafe { entries::ospirnar_binary_to_http1(input.as_ptr(), input.len(), scheme, told.head, pointer, room, place) })
 }
 
 fn request_field(input: &[u8], scheme: u32, name: &[u8]) -> Result<Asked, &'static str> {
     inquire(|n, p, s, l| unsafe { entries::ospirnar_request_field(input.as_ptr(), input.len(), scheme, name.as_ptr(), name.len(), n, p, s, l) })
 }
 
-fn response_field(input: &[u8], name: &[u8]) -> Result<Asked, &'static str> {
-    inquire(|n, p, s, l| unsafe { entries::ospirnar_response_field(input.as_ptr(), input.len(), name.as_ptr(), name.len(), n, p, s, l) })
+fn response_field(input: &[u8], told: Told, name: &[u8]) -> Result<Asked, &'static str> {
+    inquire(|n, p, s, l| unsafe { entries::ospirnar_response_field(input.as_ptr(), input.len(), told.head, name.as_ptr(), name.len(), n, p, s, l) })
 }
 
-fn binary_field(input: &[u8], name: &[u8]) -> Result<Asked, &'static str> {
-    inquire(|n, p, s, l| unsafe { entries::ospirnar_binary_field(input.as_ptr(), input.len(), name.as_ptr(), name.len(), n, p, s, l) })
+fn binary_field(input: &[u8], told: Told, name: &[u8]) -> Result<Asked, &'static str> {
+    inquire(|n, p, s, l| unsafe { entries::ospirnar_binary_field(input.as_ptr(), input.len(), told.head, name.as_ptr(), name.len(), n, p, s, l) })
 }
 
 fn listing(input: &[u8], output: &mut Lent<u8>) -> Answer {
@@ -211,6 +230,7 @@ struct Message {
     authority: Part,
     path: Part,
     status: u32,
+    stated: Option<u64>,
     info: Vec<(u32, Vec<Field>)>,
     headers: Vec<Field>,
     chunks: Vec<Part>,
@@ -263,6 +283,15 @@ fn message(ranges: &[u32], input_len: usize) -> Result<(Message, usize), &'stati
     let chunk_count = taker.number_up_to(256)?;
     let content = taker.number()? as usize;
     let trailer_count = taker.number_up_to(64)?;
+    taker.number_up_to(0)?;
+    let is_stated = taker.number_up_to(if request { 0 } else { 1 })?;
+    let length = taker.number()? as u64 | (taker.number()? as u64) << 32;
+    if length > if is_stated == 1 { 999_999_999_999_999 } else { 0 } {
+        return Err("range");
+    }
+    let stated = (is_stated == 1).then_some(length);
+    taker.number_up_to(0)?;
+    taker.number_up_to(0)?;
     let mut info_heads = Vec::new();
     for i in 0..4 {
         // those that are not there: 0 and 0
@@ -280,7 +309,7 @@ fn message(ranges: &[u32], input_len: usize) -> Result<(Message, usize), &'stati
     if chunks.iter().map(|chunk| chunk.len).sum::<usize>() != content {
         return Err("range");
     }
-    Ok((Message { request, scheme, method, authority, path, status, info, headers, chunks, trailers }, taker.next))
+    Ok((Message { request, scheme, method, authority, path, status, stated, info, headers, chunks, trailers }, taker.next))
 }
 
 // ---------------------------------------------------------------------------------------- the answers
@@ -346,7 +375,11 @@ fn meaning(out: &mut String, input: &[u8], m: &Message) {
             fields_hex(out, input, fields);
             out.push(']');
         });
-        out.push_str(&format!(",\"k\":\"resp\",\"status\":{}", m.status));
+        out.push_str(",\"k\":\"resp\"");
+        if let Some(length) = m.stated {
+            out.push_str(&format!(",\"stated\":{length}"));
+        }
+        out.push_str(&format!(",\"status\":{}", m.status));
     }
     out.push_str(",\"trailers\":");
     fields_hex(out, input, &m.trailers);
@@ -482,7 +515,7 @@ fn stream(told: u32, room: usize, tail: &[u8], inputs: &[Vec<u8>]) -> Result<Str
     for input in inputs {
         let before = space.all.clone();
         let (pointer, left) = (space.all[written..].as_mut_ptr(), room - written);
-        let answer = ask(|place| unsafe { entries::ospirnar_binary_to_http1(input.as_ptr(), input.len(), told, pointer, left, place) });
+        let answer = ask(|place| unsafe { entries::ospirnar_binary_to_http1(input.as_ptr(), input.len(), told, 0, pointer, left, place) });
         let used = if answer.number == 0 { answer.place } else { 0 };
         if used > left {
             return Err("range");
@@ -537,21 +570,22 @@ fn meaning_of(answer: &str) -> Option<&str> {
 /// the length is what was written, with octets behind it too. Other commands are passed over.
 fn trip(line: &[u8]) -> Option<Result<(), &'static str>> {
     let words: Vec<&[u8]> = line.split(|&b| b == b' ').collect();
-    let (told, space, input) = match (words[0], &words[1..]) {
+    let (name, told, rest) = options(&words)?;
+    let (connection, space, input) = match (name, rest) {
         (b"h1req2bin" | b"bin2h1", [told, space, input]) => (scheme(told)?, room(space)?, octets(input)?),
         (b"h1resp2bin" | b"bin2bin", [space, input]) => (0, room(space)?, octets(input)?),
         _ => return None,
     };
-    let turn = |out: &mut Lent<u8>| match words[0] {
-        b"h1req2bin" => request_to_binary(&input, told, out),
-        b"h1resp2bin" => response_to_binary(&input, out),
-        b"bin2h1" => binary_to_http1(&input, told, out),
-        _ => binary_to_binary(&input, out),
+    let turn = |out: &mut Lent<u8>| match name {
+        b"h1req2bin" => request_to_binary(&input, connection, out),
+        b"h1resp2bin" => response_to_binary(&input, told, out),
+        b"bin2h1" => binary_to_http1(&input, connection, told, out),
+        _ => binary_to_binary(&input, told, out),
     };
-    let source = |ranges: &mut Lent<u32>| match words[0] {
-        b"h1req2bin" => read_request(&input, told, ranges),
-        b"h1resp2bin" => read_response(&input, ranges),
-        _ => read_binary(&input, ranges),
+    let source = |ranges: &mut Lent<u32>| match name {
+        b"h1req2bin" => read_request(&input, connection, ranges),
+        b"h1resp2bin" => read_response(&input, told, ranges),
+        _ => read_binary(&input, told, ranges),
     };
     let written = match write(space, turn) {
         Ok(Ok(written)) => written,
@@ -562,15 +596,15 @@ fn trip(line: &[u8]) -> Option<Result<(), &'static str>> {
         let before = read(&input, source)?;
         let before = meaning_of(&before).ok_or("the input is not accepted")?;
         let mut behind = written.clone();
-        if words[0] == b"bin2h1" {
+        if name == b"bin2h1" {
             behind.extend_from_slice(b"POST / HTTP/1.1\r\n\x00");
         }
         let request = before.contains("\"k\":\"req\"");
         for octets in [&written, &behind] {
-            let back = match (words[0], request) {
-                (b"bin2h1", true) => read(octets, |ranges| read_request(octets, told, ranges))?,
-                (b"bin2h1", false) => read(octets, |ranges| read_response(octets, ranges))?,
-                _ => read(octets, |ranges| read_binary(octets, ranges))?,
+            let back = match (name, request) {
+                (b"bin2h1", true) => read(octets, |ranges| read_request(octets, connection, ranges))?,
+                (b"bin2h1", false) => read(octets, |ranges| read_response(octets, told, ranges))?,
+                _ => read(octets, |ranges| read_binary(octets, told, ranges))?,
             };
             if !back.starts_with(&format!("{{\"len\":{},", written.len())) {
                 return Err("the length is another");
@@ -580,7 +614,7 @@ fn trip(line: &[u8]) -> Option<Result<(), &'static str>> {
             }
         }
         // written anew, Binary stays as it is
-        if words[0] != b"bin2h1" && write(written.len(), |out| binary_to_binary(&written, out))? != Ok(written.clone()) {
+        if name != b"bin2h1" && write(written.len(), |out| binary_to_binary(&written, told, out))? != Ok(written.clone()) {
             return Err("written anew it is another");
         }
         Ok(())
@@ -636,6 +670,29 @@ fn scheme(word: &[u8]) -> Option<u32> {
     }
 }
 
+/// What a call is told beside a scheme.
+#[derive(Clone, Copy, Default)]
+struct Told {
+    head: u32,
+}
+
+/// A command, its options as told, and its other words: options stand directly behind the command, and only where it takes them.
+fn options<'a, 'b>(words: &'b [&'a [u8]]) -> Option<(&'a [u8], Told, &'b [&'a [u8]])> {
+    let name = words[0];
+    let count = words[1..].iter().take_while(|word| word.contains(&b'=')).count();
+    let (given, rest) = words[1..].split_at(count);
+    let mut told = Told::default();
+    for option in given {
+        let at = option.iter().position(|&b| b == b'=')?;
+        let value = number(&option[at + 1..], u64::MAX).filter(|&n| n <= u32::MAX as u64)? as u32;
+        match (&option[..at], name) {
+            (b"head", b"h1resp" | b"bin" | b"h1resp2bin" | b"bin2h1" | b"bin2bin" | b"field_h1resp" | b"field_bin") => told.head = value,
+            _ => return None,
+        }
+    }
+    Some((name, told, rest))
+}
+
 /// The lent room; no message that is written comes near a mega-octet.
 fn room(word: &[u8]) -> Option<usize> {
     number(word, 1 << 20).map(|n| n as usize)
@@ -652,14 +709,15 @@ fn listing_room(input: &[u8]) -> usize {
 /// `write_hex` or `field` of it. Then name it and its set in compare/run.
 fn command(line: &[u8]) -> Option<Result<String, &'static str>> {
     let words: Vec<&[u8]> = line.split(|&b| b == b' ').collect();
-    Some(match (words[0], &words[1..]) {
-        (b"h1req", [told, input]) => {
-            let (told, input) = (scheme(told)?, octets(input)?);
-            read(&input, |ranges| read_request(&input, told, ranges))
+    let (name, told, rest) = options(&words)?;
+    Some(match (name, rest) {
+        (b"h1req", [connection, input]) => {
+            let (connection, input) = (scheme(connection)?, octets(input)?);
+            read(&input, |ranges| read_request(&input, connection, ranges))
         }
         (b"h1resp", [input]) => {
             let input = octets(input)?;
-            read(&input, |ranges| read_response(&input, ranges))
+            read(&input, |ranges| read_response(&input, told, ranges))
         }
         (b"listing", [input]) => {
             let input = octets(input)?;
@@ -667,40 +725,40 @@ fn command(line: &[u8]) -> Option<Result<String, &'static str>> {
         }
         (b"bin", [input]) => {
             let input = octets(input)?;
-            read(&input, |ranges| read_binary(&input, ranges))
+            read(&input, |ranges| read_binary(&input, told, ranges))
         }
-        (b"h1req2bin", [told, space, input]) => {
-            let (told, space, input) = (scheme(told)?, room(space)?, octets(input)?);
-            write_hex(space, |out| request_to_binary(&input, told, out))
+        (b"h1req2bin", [connection, space, input]) => {
+            let (connection, space, input) = (scheme(connection)?, room(space)?, octets(input)?);
+            write_hex(space, |out| request_to_binary(&input, connection, out))
         }
         (b"h1resp2bin", [space, input]) => {
             let (space, input) = (room(space)?, octets(input)?);
-            write_hex(space, |out| response_to_binary(&input, out))
+            write_hex(space, |out| response_to_binary(&input, told, out))
         }
-        (b"bin2h1", [told, space, input]) => {
-            let (told, space, input) = (scheme(told)?, room(space)?, octets(input)?);
-            write_hex(space, |out| binary_to_http1(&input, told, out))
+        (b"bin2h1", [connection, space, input]) => {
+            let (connection, space, input) = (scheme(connection)?, room(space)?, octets(input)?);
+            write_hex(space, |out| binary_to_http1(&input, connection, told, out))
         }
         (b"bin2bin", [space, input]) => {
             let (space, input) = (room(space)?, octets(input)?);
-            write_hex(space, |out| binary_to_binary(&input, out))
+            write_hex(space, |out| binary_to_binary(&input, told, out))
         }
-        (b"stream", [told, space, tail, inputs @ ..]) => {
-            let (told, space, tail) = (scheme(told)?, room(space)?, octets(tail)?);
+        (b"stream", [connection, space, tail, inputs @ ..]) => {
+            let (connection, space, tail) = (scheme(connection)?, room(space)?, octets(tail)?);
             let inputs = inputs.iter().map(|input| octets(input)).collect::<Option<Vec<_>>>()?;
-            stream(told, space, &tail, &inputs)
+            stream(connection, space, &tail, &inputs)
         }
-        (b"field_h1req", [told, name, default, input]) => {
-            let (told, name, default, input) = (scheme(told)?, octets(name)?, octets(default)?, octets(input)?);
-            request_field(&input, told, &name).and_then(|asked| field(input.len(), default.len(), asked))
+        (b"field_h1req", [connection, name, default, input]) => {
+            let (connection, name, default, input) = (scheme(connection)?, octets(name)?, octets(default)?, octets(input)?);
+            request_field(&input, connection, &name).and_then(|asked| field(input.len(), default.len(), asked))
         }
         (b"field_h1resp", [name, default, input]) => {
             let (name, default, input) = (octets(name)?, octets(default)?, octets(input)?);
-            response_field(&input, &name).and_then(|asked| field(input.len(), default.len(), asked))
+            response_field(&input, told, &name).and_then(|asked| field(input.len(), default.len(), asked))
         }
         (b"field_bin", [name, default, input]) => {
             let (name, default, input) = (octets(name)?, octets(default)?, octets(input)?);
-            binary_field(&input, &name).and_then(|asked| field(input.len(), default.len(), asked))
+            binary_field(&input, told, &name).and_then(|asked| field(input.len(), default.len(), asked))
         }
         (name, words) => return bundle::command(name, words),
     })

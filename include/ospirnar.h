@@ -23,7 +23,13 @@
  *   ranges[11]       non-empty content chunks: C
  *   ranges[12]       octets of content
  *   ranges[13]       trailer fields: T
- *   ranges[14..22]   status and number of fields of each informational head; 0 for those that are not there
+ *   ranges[14]       0 (kept for document 02, item 2)
+ *   ranges[15]       1 where a response states the length of content that it does not have: a final response to a HEAD, or 304; else 0
+ *   ranges[16]       that length, its low 32 bits: it has at most 15 digits, which 32 bits do not hold
+ *   ranges[17]       its high 32 bits
+ *   ranges[18]       0 (kept for document 02, item 8)
+ *   ranges[19]       0 (kept for document 02, item 3)
+ *   ranges[20..28]   status and number of fields of each informational head; 0 for those that are not there
  *   then             4 numbers for each field of the informational heads, in order,
  *                    4 numbers for each of the H header fields,
  *                    2 numbers for each of the C chunks,
@@ -39,33 +45,39 @@
 extern "C" {
 #endif
 
-#define OSPIRNAR_RANGES_MOST 2070
+#define OSPIRNAR_RANGES_MOST 2076
 
-/* The first HTTP/1.1 request of a stream, under the scheme told (0 http, 1 https; another number is 4 at 0). */
+/* What a call is told. `scheme`: 0 http, 1 https; another number is 4 at 0, first. `head`: whether the message answers a HEAD, 0 no, any other number yes; its final
+ * response then ends behind its head, whatever length that states. On a request `head` means nothing. */
+
+/* The first HTTP/1.1 request of a stream, under the scheme told. */
 uint32_t ospirnar_read_request(const uint8_t *input, size_t input_len, uint32_t scheme, uint32_t *ranges, size_t ranges_len, size_t *place);
 
 /* The first HTTP/1.1 response of a stream. */
-uint32_t ospirnar_read_response(const uint8_t *input, size_t input_len, uint32_t *ranges, size_t ranges_len, size_t *place);
+uint32_t ospirnar_read_response(const uint8_t *input, size_t input_len, uint32_t head, uint32_t *ranges, size_t ranges_len, size_t *place);
 
 /* One Binary HTTP message: the whole input, zero padding included, so that an accepted message is as long as the input and there is no call for more. */
-uint32_t ospirnar_read_binary(const uint8_t *input, size_t input_len, uint32_t *ranges, size_t ranges_len, size_t *place);
+uint32_t ospirnar_read_binary(const uint8_t *input, size_t input_len, uint32_t head, uint32_t *ranges, size_t ranges_len, size_t *place);
 
 /* Turning. The message is read by the reader of its form and written in the other, or anew, into `output`: 0 and *place the number of octets written, all behind
  * them as it was. Otherwise no octet of `output` is altered: the reader's refusal (1 with the input's length where more octets are needed), then, into HTTP/1.1, 14 at
- * 0 for a request of the other scheme, then 8 at 0 where what would be written is above a size of its form, then 13 at 0 where it is more than output_len. */
+ * 0 for a request of the other scheme, then 8 at 0 where what would be written is above a size of its form, then 13 at 0 where it is more than output_len.
+ * Off a stream, *taken is how many octets of the input the message is, so that the next one begins behind them; 0 on any refusal. It is always written. */
 
 /* The first HTTP/1.1 request of a stream, under the scheme told, as Binary HTTP. */
-uint32_t ospirnar_request_to_binary(const uint8_t *input, size_t input_len, uint32_t scheme, uint8_t *output, size_t output_len, size_t *place);
+uint32_t ospirnar_request_to_binary(const uint8_t *input, size_t input_len, uint32_t scheme, uint8_t *output, size_t output_len, size_t *place,
+                                    size_t *taken);
 
 /* The first HTTP/1.1 response of a stream as Binary HTTP. */
-uint32_t ospirnar_response_to_binary(const uint8_t *input, size_t input_len, uint8_t *output, size_t output_len, size_t *place);
+uint32_t ospirnar_response_to_binary(const uint8_t *input, size_t input_len, uint32_t head, uint8_t *output, size_t output_len, size_t *place,
+                                     size_t *taken);
 
 /* A Binary message anew: known length, shortest integers, all sections, no padding. */
-uint32_t ospirnar_binary_to_binary(const uint8_t *input, size_t input_len, uint8_t *output, size_t output_len, size_t *place);
+uint32_t ospirnar_binary_to_binary(const uint8_t *input, size_t input_len, uint32_t head, uint8_t *output, size_t output_len, size_t *place);
 
-/* A Binary message, request or response, as HTTP/1.1 on a connection of the scheme told (0 http, 1 https; another number is 4 at 0, first). Calls that each write behind
+/* A Binary message, request or response, as HTTP/1.1 on a connection of the scheme told. Calls that each write behind
  * what the calls before them wrote make a stream, from which ospirnar_read_request under the same scheme takes the same requests in the same order. */
-uint32_t ospirnar_binary_to_http1(const uint8_t *input, size_t input_len, uint32_t scheme, uint8_t *output, size_t output_len, size_t *place);
+uint32_t ospirnar_binary_to_http1(const uint8_t *input, size_t input_len, uint32_t scheme, uint32_t head, uint8_t *output, size_t output_len, size_t *place);
 
 /* The listing of an HTTP/1.1 request stream under http, as the listing program prints it, into `output`; *place is its length. All behind it stays as
  * it was. 13 at 0 where it does not fit; nothing else is refused. */
@@ -79,15 +91,17 @@ uint32_t ospirnar_listing(const uint8_t *input, size_t input_len, uint8_t *outpu
  * *number and *place are those of the reader of that form: 0 and 0 for an accepted message, found or not; 1 and the input's length where more octets are needed, and the
  * number and place of a refusal, with the answer 0. All four are always written; nothing else is. */
 
-/* To the first HTTP/1.1 request of a stream, under the scheme told (0 http, 1 https; another number is 4 at 0). */
+/* To the first HTTP/1.1 request of a stream, under the scheme told. */
 uint32_t ospirnar_request_field(const uint8_t *input, size_t input_len, uint32_t scheme, const uint8_t *name, size_t name_len, uint32_t *number, size_t *place,
                                 size_t *start, size_t *length);
 
 /* To the first HTTP/1.1 response of a stream. */
-uint32_t ospirnar_response_field(const uint8_t *input, size_t input_len, const uint8_t *name, size_t name_len, uint32_t *number, size_t *place, size_t *start, size_t *length);
+uint32_t ospirnar_response_field(const uint8_t *input, size_t input_len, uint32_t head, const uint8_t *name, size_t name_len, uint32_t *number, size_t *place,
+                                 size_t *start, size_t *length);
 
 /* To a Binary HTTP message: the whole input. */
-uint32_t ospirnar_binary_field(const uint8_t *input, size_t input_len, const uint8_t *name, size_t name_len, uint32_t *number, size_t *place, size_t *start, size_t *length);
+uint32_t ospirnar_binary_field(const uint8_t *input, size_t input_len, uint32_t head, const uint8_t *name, size_t name_len, uint32_t *number, size_t *place,
+                               size_t *start, size_t *length);
 
 /* Bundles (document 02, item 1): entries one behind the other, at most 256, each a head of four octets and a Binary message as ospirnar_binary_to_binary writes it. The
  * head is a number of 32 bits, most significant octet first: 7 bits flock (1 to 127), 1 bit delivered, 2 bits kind (0 request, 1 response), 22 bits length of the

@@ -9,11 +9,17 @@ use Rattle.octets.specs.Refusals.{noRoom}
 use Rattle.output.specs.Splice.{splice, part, Put}
 use Rattle.output.proofs.Laws.{elements-length, put-then}
 use Rattle.messages.specs.declared.Record.{Record}
-use Rattle.capi.specs.Entries.{recordNumbers, Numbered}
+use Rattle.messages.specs.declared.StatedLength.{StatedLength}
+use Rattle.messages.specs.declared.StatedLength.the-variants.{Missing, Of}
+use Rattle.capi.specs.Entries.{controlNumbers, countNumbers, statedNumbers, recordNumbers, Numbered}
 
-pub record-size : (r : Record) → length (recordNumbers r) ≡ 14
+pub record-size : (r : Record) → length (recordNumbers r) ≡ 20
 unfolding recordNumbers
-record-size r = refl
+record-size r = go (r .stated)
+  where
+    go : (t : StatedLength) → length (controlNumbers r ++ countNumbers r ++ statedNumbers t) ≡ 20
+    go Missing = refl
+    go (Of n) = refl
 
 pub lists-size : (a b c : List ℕ) (h k l : ℕ) → length (part a 0 h ++ part b 0 k ++ part c 0 l) ≡ h + k + l
 lists-size a b c h k l =
@@ -27,7 +33,7 @@ lists-size a b c h k l =
     )
 
 pub message-size : (r : Record) (d a b c : List ℕ) (h k l : ℕ)
-    → length ((recordNumbers r ++ part d 0 8) ++ (part a 0 h ++ part b 0 k ++ part c 0 l)) ≡ 22 + h + k + l
+    → length ((recordNumbers r ++ part d 0 8) ++ (part a 0 h ++ part b 0 k ++ part c 0 l)) ≡ 28 + h + k + l
 message-size r d a b c h k l =
     omega (
       arith,

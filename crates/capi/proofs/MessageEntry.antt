@@ -12,6 +12,7 @@ use Rattle.messages.specs.Message.{FieldRead, InformationalRead, Start, request
 use Rattle.messages.specs.Names.{kept}
 use Rattle.messages.specs.Answers.{informationalNumbers, informationalLines, informationalIn, padded, recordFrom, recordOf}
 use Rattle.messages.specs.declared.Record.{Record}
+use Rattle.messages.specs.declared.Told.{Told}
 use Rattle.messages.specs.declared.Outcome.{Outcome}
 use Rattle.messages.specs.declared.Outcome.the-variants as outcome
 use Rattle.messages.proofs.Noting.{kept-few}
@@ -117,8 +118,8 @@ module _ (s : List ℕ) {x : Answer Message} {hs hs′ ns ns′ cs cs′ ts ts�
         entered g ns′ u u′ f input place number (fields-are .0) (y .1) (y .2) (y .3) heads-padded q
 
 -- messages that the readers accept
-pub response-ok : (s : List ℕ) {hs hs′ cs cs′ ts ts′ : List ℕ} {r : Record} (g : Given (readResponse s) hs hs′ cs cs′ ts ts′ r) → Sound s (g .message)
-response-ok s g = response-sound s (g .long) (g .message) (g .taken) .sound
+pub response-ok : (t : Told) (s : List ℕ) {hs hs′ cs cs′ ts ts′ : List ℕ} {r : Record} (g : Given (readResponse t s) hs hs′ cs cs′ ts ts′ r) → Sound s (g .message)
+response-ok t s g = response-sound t s (g .long) (g .message) (g .taken) .sound
 
-pub binary-ok : (s : List ℕ) {hs hs′ cs cs′ ts ts′ : List ℕ} {r : Record} (g : Given (readBinary s) hs hs′ cs cs′ ts ts′ r) → Sound s (g .message)
-binary-ok s g = binary-sound s (g .long) (g .message) (g .taken) .sound
+pub binary-ok : (t : Told) (s : List ℕ) {hs hs′ cs cs′ ts ts′ : List ℕ} {r : Record} (g : Given (readBinary t s) hs hs′ cs cs′ ts ts′ r) → Sound s (g .message)
+binary-ok t s g = binary-sound t s (g .long) (g .message) (g .taken) .sound

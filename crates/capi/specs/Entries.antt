@@ -1,6 +1,6 @@
 -- What the entries for C leave and answer (01, "The two forms and the meaning between them": readers and writers are called with numbers and byte slices;
--- "Numbers a call answers with"). include/ospirnar.h has the layout.
-use Prim.Native.Nat.{ℕ, _+_, _*_, _≤_}
+-- "Numbers a call answers with"; 02, item 5). include/ospirnar.h has the layout.
+use Prim.Native.Nat.{ℕ, _+_, _*_, _/_, _%_, _≤_}
 use mathlib.Core.Path.{_≡_}
 use mathlib.Core.Bool.{Bool, true, false, cond}
 use mathlib.Core.List.{List, [], _∷_, _++_}
@@ -16,7 +16,10 @@ use Rattle.messages.specs.Room.{informationalRoom}
 use Rattle.messages.specs.Answers.{chunksNumbers, informationalNumbers, informationalIn, padded, recordOf, readingOf, numberOf, placeOf}
 use Rattle.messages.specs.declared.Part.{Part}
 use Rattle.messages.specs.declared.Record.{Record}
+use Rattle.messages.specs.declared.StatedLength.{StatedLength}
+use Rattle.messages.specs.declared.StatedLength.the-variants.{Missing, Of}
 use Rattle.ranges.specs.Ranges.{headNumbers, trailerNumbers}
+use Rattle.turn.specs.Turn.{takenFrom}
 use Rattle.question.specs.declared.Found.{Found}
 use Rattle.question.specs.declared.Found.the-variants as found
 use Rattle.question.specs.declared.Asked.{Asked}
@@ -33,19 +36,32 @@ controlNumbers r = (cond (r .response) 1 0 ∷ r .scheme ∷ []) ++ partNumbers 
 abbrev pub countNumbers : Record → List ℕ
 countNumbers r = (r .status ∷ r .informational ∷ []) ++ (r .headers ∷ r .chunks ∷ []) ++ (r .content ∷ r .trailers ∷ [])
 
+-- one above the largest number of 32 bits
+abbrev pub wordEnd : ℕ
+wordEnd = 4294967296
+
+-- a stated length: whether there is one, then its low and its high 32 bits. The number before it and the two behind it are 0: they are kept for items of
+-- document 02 that have not landed
+abbrev pub statedNumbers : StatedLength → List ℕ
+statedNumbers Missing = (0 ∷ 0 ∷ []) ++ (0 ∷ 0 ∷ []) ++ (0 ∷ 0 ∷ [])
+statedNumbers (Of n) = (0 ∷ 1 ∷ []) ++ (n % wordEnd ∷ n / wordEnd ∷ []) ++ (0 ∷ 0 ∷ [])
+
 -- the numbers of a record, but for the message's length
 unfoldable pub recordNumbers : Record → List ℕ
-recordNumbers r = controlNumbers r ++ countNumbers r
+recordNumbers r = controlNumbers r ++ countNumbers r ++ statedNumbers (r .stated)
 
--- how many numbers control data have, the status and the counts, and a record
+-- how many numbers control data have, the status and the counts, a stated length with what is kept beside it, and a record
 abbrev pub controlCount : ℕ
 controlCount = 8
 
 abbrev pub countsCount : ℕ
 countsCount = 6
 
+abbrev pub statedCount : ℕ
+statedCount = 6
+
 abbrev pub recordCount : ℕ
-recordCount = controlCount + countsCount
+recordCount = controlCount + countsCount + statedCount
 
 -- with those of the informational heads
 abbrev pub startCount : ℕ
@@ -120,6 +136,11 @@ pub record EntryServed (y : Reply) (o o′ : List ℕ) (place number : ℕ) : Ty
   pub answers : number ≡ writtenNumber (writtenOf y (length o))
   pub places : place ≡ writtenPlace (writtenOf y (length o))
   pub after : o′ ≡ lentAfter y o
+
+-- the same of a turning off a stream, where x is the reader's answer: it says too how many octets of the stream it took
+pub record EntryTaken (x : Answer Message) (y : Reply) (o o′ : List ℕ) (taken place number : ℕ) : Type 0 where
+  pub served : EntryServed y o o′ place number
+  pub takes : taken ≡ takenFrom x (writtenOf y (length o))
 
 -- ---- the answer of a field entry; C can't be handed a slice back, so start and length stand for the part of the message
 

@@ -17,7 +17,7 @@ ghost use Rattle.octets.specs.Limits.{linesMost, informationalMost};
 ghost use Rattle.ranges.specs.Ranges.{placesEnd};
 ghost use Rattle.binary.specs.Read.{readBinary};
 ghost use Rattle.http1.specs.Read.{readRequest, readResponse};
-ghost use Rattle.messages.specs.Told.{plain};
+ghost use Rattle.messages.specs.Told.{plain, withHead};
 ghost use Rattle.messages.specs.Room.{sectionRoom, headsRoom, informationalRoom, chunksRoom};
 ghost use Rattle.output.specs.Reply.{writes};
 ghost use Rattle.listing.specs.Listing.{listingOf};
@@ -75,7 +75,7 @@ pub extern "C" fn ospirnar_read_request(
     enter_request(
         &t,
         input,
-        Told { scheme },
+        Told { scheme, head: 0 },
         ranges,
         place,
         &mut headers,
@@ -106,6 +106,7 @@ fn heads_fields(heads: &[u32]) -> usize
 fn enter_response(
     t: &[u8; 256],
     input: &[u8],
+    told: Told,
     ranges: &mut [u32],
     place: &mut usize,
     headers: &mut [u32],
@@ -116,10 +117,10 @@ fn enter_response(
     requires { ⌜ (now t ≡ classes) × (headsRoom ≤ length (now headers))
         × (informationalRoom ≤ length (now heads)) × (chunksRoom ≤ length (now chunks)) × (sectionRoom ≤ length (now trailers))
         × (now heads ≡ noHeads) ⌝ }
-    ensures { λ r. ⌜ Entered (readResponse (now (input .entry))) (length (now (input .entry)))
+    ensures { λ r. ⌜ Entered (readResponse told (now (input .entry))) (length (now (input .entry)))
         (now (ranges .entry)) (now (ranges .exit)) (now (place .exit)) r ⌝ }
 {
-    let o = response_in(t, input, headers, heads, chunks, trailers);
+    let o = response_in(t, input, told, headers, heads, chunks, trailers);
     match o {
         Outcome::More => {
             *place = input.len();
@@ -144,10 +145,15 @@ fn all_fields(heads: &[u32], fields: usize) -> usize
     heads_fields(heads) + fields
 }
 
-// The first HTTP/1.1 response of a stream.
+// The first HTTP/1.1 response of a stream, told whether it answers a HEAD.
 #[no_mangle]
-pub extern "C" fn ospirnar_read_response(input: &[u8], ranges: &mut [u32], place: &mut usize) -> u32
-    ensures { λ r. ⌜ Entered (readResponse (now (input .entry))) (length (now (input .entry)))
+pub extern "C" fn ospirnar_read_response(
+    input: &[u8],
+    head: u32,
+    ranges: &mut [u32],
+    place: &mut usize,
+) -> u32
+    ensures { λ r. ⌜ Entered (readResponse (withHead head (plain 0)) (now (input .entry))) (length (now (input .entry)))
         (now (ranges .entry)) (now (ranges .exit)) (now (place .exit)) r ⌝ }
 {
     let t = class_table();
@@ -158,6 +164,7 @@ pub extern "C" fn ospirnar_read_response(input: &[u8], ranges: &mut [u32], place
     enter_response(
         &t,
         input,
+        Told { scheme: 0, head },
         ranges,
         place,
         &mut headers,
@@ -171,6 +178,7 @@ pub extern "C" fn ospirnar_read_response(input: &[u8], ranges: &mut [u32], place
 fn enter_binary(
     t: &[u8; 256],
     input: &[u8],
+    told: Told,
     ranges: &mut [u32],
     place: &mut usize,
     headers: &mut [u32],
@@ -181,10 +189,10 @@ fn enter_binary(
     requires { ⌜ (now t ≡ classes) × (headsRoom ≤ length (now headers))
         × (informationalRoom ≤ length (now heads)) × (chunksRoom ≤ length (now chunks)) × (sectionRoom ≤ length (now trailers))
         × (now heads ≡ noHeads) ⌝ }
-    ensures { λ r. ⌜ Entered (readBinary (now (input .entry))) (length (now (input .entry)))
+    ensures { λ r. ⌜ Entered (readBinary told (now (input .entry))) (length (now (input .entry)))
         (now (ranges .entry)) (now (ranges .exit)) (now (place .exit)) r ⌝ }
 {
-    let o = binary_in(t, input, headers, heads, chunks, trailers);
+    let o = binary_in(t, input, told, headers, heads, chunks, trailers);
     match o {
         Outcome::More => {
             *place = input.len();
@@ -201,10 +209,15 @@ fn enter_binary(
     }
 }
 
-// One Binary message: the whole input.
+// One Binary message, told whether it answers a HEAD: the whole input.
 #[no_mangle]
-pub extern "C" fn ospirnar_read_binary(input: &[u8], ranges: &mut [u32], place: &mut usize) -> u32
-    ensures { λ r. ⌜ Entered (readBinary (now (input .entry))) (length (now (input .entry)))
+pub extern "C" fn ospirnar_read_binary(
+    input: &[u8],
+    head: u32,
+    ranges: &mut [u32],
+    place: &mut usize,
+) -> u32
+    ensures { λ r. ⌜ Entered (readBinary (withHead head (plain 0)) (now (input .entry))) (length (now (input .entry)))
         (now (ranges .entry)) (now (ranges .exit)) (now (place .exit)) r ⌝ }
 {
     let t = class_table();
@@ -215,6 +228,7 @@ pub extern "C" fn ospirnar_read_binary(input: &[u8], ranges: &mut [u32], place: 
     enter_binary(
         &t,
         input,
+        Told { scheme: 0, head },
         ranges,
         place,
         &mut headers,

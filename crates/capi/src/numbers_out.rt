@@ -1,6 +1,7 @@
 // Numbers put into lent ranges.
 use messages::Part;
 use messages::Record;
+use messages::StatedLength;
 use octets::Refusals;
 ghost use mathlib.Core.Path.{_≡_};
 ghost use mathlib.Core.List.{[], _∷_, _++_};
@@ -10,8 +11,8 @@ ghost use lib.ListN.{length};
 ghost use Rattle.output.specs.Splice.{part, Put};
 ghost use Rattle.messages.specs.Room.{informationalRoom};
 ghost use Rattle.ranges.specs.Ranges.{SmallRecord};
-ghost use Rattle.capi.specs.Entries.{partNumbers, controlNumbers, recordNumbers, startNumbers, listNumbers, Numbered};
-ghost use Rattle.capi.specs.Entries.{controlCount, countsCount, recordCount, startCount, fieldsMost};
+ghost use Rattle.capi.specs.Entries.{partNumbers, controlNumbers, statedNumbers, recordNumbers, startNumbers, listNumbers, Numbered};
+ghost use Rattle.capi.specs.Entries.{controlCount, statedCount, recordCount, startCount, fieldsMost};
 
 // The first `len` numbers of src, from `at` on in out.
 fn put_numbers(out: &mut [u32], at: usize, src: &[u32], len: usize) -> usize
@@ -67,24 +68,37 @@ fn kind_number(response: bool) -> u32
     0
 }
 
-// Status and counts, behind the control data.
-fn put_counts(
+fn put_six(
     out: &mut [u32],
     at: usize,
-    status: u32,
-    heads: u32,
-    headers: u32,
-    chunks: u32,
-    content: u32,
-    trailers: u32,
+    a: u32,
+    b: u32,
+    c: u32,
+    d: u32,
+    e: u32,
+    f: u32,
 ) -> usize
-    requires { ⌜ at + countsCount ≤ length (now out) ⌝ }
-    ensures { λ z. ⌜ Put (now (out .entry)) at
-        ((status ∷ heads ∷ []) ++ (headers ∷ chunks ∷ []) ++ (content ∷ trailers ∷ [])) countsCount (now (out .exit)) z ⌝ }
+    requires { ⌜ at + 6 ≤ length (now out) ⌝ }
+    ensures { λ z. ⌜ Put (now (out .entry)) at ((a ∷ b ∷ []) ++ (c ∷ d ∷ []) ++ (e ∷ f ∷ [])) 6 (now (out .exit)) z ⌝ }
 {
-    let a = put_two(out, at, status, heads);
-    let b = put_two(out, a, headers, chunks);
-    put_two(out, b, content, trailers)
+    let i = put_two(out, at, a, b);
+    let j = put_two(out, i, c, d);
+    put_two(out, j, e, f)
+}
+
+// A stated length, and the zeros beside it.
+fn put_stated(out: &mut [u32], at: usize, stated: StatedLength) -> usize
+    requires { ⌜ at + statedCount ≤ length (now out) ⌝ }
+    ensures { λ z. ⌜ Put (now (out .entry)) at (statedNumbers stated) statedCount (now (out .exit)) z ⌝ }
+{
+    match stated {
+        StatedLength::Missing => return put_six(out, at, 0, 0, 0, 0, 0, 0),
+        StatedLength::Of(n) => {
+            let low = (n % 4294967296) as u32;
+            let high = (n / 4294967296) as u32;
+            return put_six(out, at, 0, 1, low, high, 0, 0);
+        }
+    }
 }
 
 // The numbers of a record.
@@ -93,7 +107,7 @@ fn put_record(out: &mut [u32], r: Record) -> usize
     ensures { λ z. ⌜ Put (now (out .entry)) 0 (recordNumbers r) recordCount (now (out .exit)) z ⌝ }
 {
     let a = put_control(out, r);
-    put_counts(
+    let b = put_six(
         out,
         a,
         r.status,
@@ -102,7 +116,9 @@ fn put_record(out: &mut [u32], r: Record) -> usize
         r.chunks as u32,
         r.content as u32,
         r.trailers as u32,
-    )
+    );
+    let stated = r.stated;
+    put_stated(out, b, stated)
 }
 
 // The numbers of a record, and of its informational heads.
@@ -156,7 +172,7 @@ pub(crate) fn give_message(
     let h = fields * 4;
     let c = r.chunks * 2;
     let k = r.trailers * 4;
-    let n = 22 + h + c + k;
+    let n = 28 + h + c + k;
     if ranges.len() < n {
         *place = 0;
         return Refusals::NO_ROOM;

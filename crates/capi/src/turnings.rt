@@ -6,9 +6,10 @@ use turning::from_binary::binary_to_http1;
 use turning::to_binary::request_to_binary;
 use turning::to_binary::response_to_binary;
 ghost use mathlib.Core.Path.{_≡_};
-ghost use Rattle.messages.specs.Told.{plain};
+ghost use Rattle.messages.specs.Told.{plain, withHead};
+ghost use Rattle.http1.specs.Read.{readRequest, readResponse};
 ghost use Rattle.turn.specs.Turn.{requestToBinary, responseToBinary, binaryToBinary, binaryToHttp1};
-ghost use Rattle.capi.specs.Entries.{EntryServed};
+ghost use Rattle.capi.specs.Entries.{EntryServed, EntryTaken};
 
 // The first HTTP/1.1 request of a stream, under the scheme told, as Binary.
 #[no_mangle]
@@ -17,53 +18,58 @@ pub extern "C" fn ospirnar_request_to_binary(
     scheme: u32,
     output: &mut [u8],
     place: &mut usize,
+    taken: &mut usize,
 ) -> u32
-    ensures { λ r. ⌜ EntryServed (requestToBinary (plain scheme) (now (input .entry)))
-        (now (output .entry)) (now (output .exit)) (now (place .exit)) r ⌝ }
+    ensures { λ r. ⌜ EntryTaken (readRequest (plain scheme) (now (input .entry))) (requestToBinary (plain scheme) (now (input .entry)))
+        (now (output .entry)) (now (output .exit)) (now (taken .exit)) (now (place .exit)) r ⌝ }
 {
-    let w = request_to_binary(input, Told { scheme }, output);
+    let w = request_to_binary(input, Told { scheme, head: 0 }, output, taken);
     give_written(w, place)
 }
 
-// The first HTTP/1.1 response of a stream as Binary.
+// The first HTTP/1.1 response of a stream, told whether it answers a HEAD, as Binary.
 #[no_mangle]
 pub extern "C" fn ospirnar_response_to_binary(
     input: &[u8],
+    head: u32,
     output: &mut [u8],
     place: &mut usize,
+    taken: &mut usize,
 ) -> u32
-    ensures { λ r. ⌜ EntryServed (responseToBinary (now (input .entry)))
-        (now (output .entry)) (now (output .exit)) (now (place .exit)) r ⌝ }
+    ensures { λ r. ⌜ EntryTaken (readResponse (withHead head (plain 0)) (now (input .entry))) (responseToBinary (withHead head (plain 0)) (now (input .entry)))
+        (now (output .entry)) (now (output .exit)) (now (taken .exit)) (now (place .exit)) r ⌝ }
 {
-    let w = response_to_binary(input, output);
+    let w = response_to_binary(input, Told { scheme: 0, head }, output, taken);
     give_written(w, place)
 }
 
-// A Binary message anew as Binary.
+// A Binary message, told whether it answers a HEAD, anew as Binary.
 #[no_mangle]
 pub extern "C" fn ospirnar_binary_to_binary(
     input: &[u8],
+    head: u32,
     output: &mut [u8],
     place: &mut usize,
 ) -> u32
-    ensures { λ r. ⌜ EntryServed (binaryToBinary (now (input .entry)))
+    ensures { λ r. ⌜ EntryServed (binaryToBinary (withHead head (plain 0)) (now (input .entry)))
         (now (output .entry)) (now (output .exit)) (now (place .exit)) r ⌝ }
 {
-    let w = binary_to_binary(input, output);
+    let w = binary_to_binary(input, Told { scheme: 0, head }, output);
     give_written(w, place)
 }
 
-// A Binary message as HTTP/1.1 on a connection of the scheme told.
+// A Binary message, told whether it answers a HEAD, as HTTP/1.1 on a connection of the scheme told.
 #[no_mangle]
 pub extern "C" fn ospirnar_binary_to_http1(
     input: &[u8],
     scheme: u32,
+    head: u32,
     output: &mut [u8],
     place: &mut usize,
 ) -> u32
-    ensures { λ r. ⌜ EntryServed (binaryToHttp1 (plain scheme) (now (input .entry)))
+    ensures { λ r. ⌜ EntryServed (binaryToHttp1 (withHead head (plain scheme)) (now (input .entry)))
         (now (output .entry)) (now (output .exit)) (now (place .exit)) r ⌝ }
 {
-    let w = binary_to_http1(input, Told { scheme }, output);
+    let w = binary_to_http1(input, Told { scheme, head }, output);
     give_written(w, place)
 }
