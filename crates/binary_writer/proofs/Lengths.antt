@@ -1,23 +1,28 @@
 -- What is written is as long as the numbers say.
 use Prim.Native.Nat.{ℕ, zero, suc, _+_, _*_}
-use mathlib.Core.Path.{_≡_, refl, _∙_}
+use mathlib.Core.Path.{_≡_, refl, sym, ap, _∙_}
+use native.Mathlib.Omega.{arith}
 use mathlib.Core.Bool.{Bool, true, false, cond}
-use mathlib.Core.List.{List, _++_, map}
+use mathlib.Core.List.{List, [], _∷_, _++_, map, append-nil, append-assoc}
 use lib.Dec.{eqb}
 use lib.ListN.{length, getD, length-append, length-map}
 use Rattle.octets.specs.Text.{lowerOf}
 use Rattle.octets.specs.Ascii.{ascii}
+use Rattle.numbers.specs.Digits.{countOf, digits}
+use Rattle.numbers.proofs.DigitLaws.{digits-length}
 use Rattle.numbers.specs.Integer.{intLen, tagOf, intBytes}
 use Rattle.numbers.specs.Places.{push}
 use Rattle.numbers.proofs.IntegerLaws.{int-length}
 use Rattle.output.specs.Splice.{part}
 use Rattle.output.proofs.Laws.{elements-length}
-use Rattle.messages.specs.Meaning.{fieldMeans}
+use Rattle.messages.specs.Meaning.{Field, fieldMeans, lengthField, statedFields}
+use Rattle.messages.specs.declared.StatedLength.{StatedLength}
+use Rattle.messages.specs.declared.StatedLength.the-variants.{Missing, Of}
 use Rattle.messages.specs.declared.Part.{Part}
 use Rattle.messages.specs.declared.Record.{Record}
 use Rattle.ranges.specs.Entries.{fieldIn, fieldsIn, headsIn, partIn, controlIn, meaningIn, MessageWithin}
 use Rattle.binary_writer.specs.Write.{counted, fieldBytes, fieldsBytes, sectionBytes, schemeBytes, informationalBytes, controlBytes, binaryOf}
-use Rattle.binary_writer.specs.Sizes.{countedSize, entrySize, fieldsSize, sectionSize, headsSize, schemeSize, controlSize, messageSize}
+use Rattle.binary_writer.specs.Sizes.{countedSize, entrySize, fieldsSize, sectionSize, statedSize, headerSize, headsSize, schemeSize, controlSize, messageSize}
 
 counted-length : (w : List ℕ) (n : ℕ) → length w ≡ n → length (counted w) ≡ countedSize n
 unfolding counted
@@ -52,6 +57,56 @@ module _ (s ranges : List ℕ) where
   pub section-length : (k n : ℕ) → length (sectionBytes (map fieldMeans (fieldsIn s ranges k n))) ≡ sectionSize ranges k n
   unfolding sectionBytes
   section-length k n = counted-length _ _ (fields-length k n)
+
+-- a stated length: what is written of it, and how long that is
+pub record StatedIs (x : StatedLength) (w : List ℕ) (n : ℕ) : Type 0 where
+  pub bytes : fieldsBytes (statedFields x) ≡ w
+  pub size : statedSize x ≡ n
+
+pub is-missing : {x : StatedLength} → x ≡ Missing → StatedIs x [] 0
+unfolding fieldsBytes
+is-missing e = rw e (record { bytes = refl; size = refl })
+
+name-is : counted (ascii "content-length") ≡ 14 ∷ ascii "content-length"
+unfolding counted intBytes intLen tagOf push
+name-is = refl
+
+pub is-of : {x : StatedLength} {n : ℕ} → x ≡ Of n
+    → StatedIs x ((14 ∷ ascii "content-length") ++ intBytes (countOf 10 n) ++ digits 10 n) (15 + intLen (countOf 10 n) + countOf 10 n)
+unfolding fieldsBytes fieldBytes lengthField
+is-of {x} {n} e =
+    let w : List ℕ = 14 ∷ ascii "content-length" in
+    rw e
+    (record {
+      bytes =
+          append-nil (counted (ascii "content-length") ++ counted (digits 10 n))
+          ∙ rw (name-is, counted-is (digits 10 n) (countOf 10 n) (digits-length 10 n)) (sym (append-assoc w (intBytes (countOf 10 n)) (digits 10 n)));
+      size = omega arith;
+    })
+
+stated-length : (x : StatedLength) → length (fieldsBytes (statedFields x)) ≡ statedSize x
+unfolding intLen
+stated-length Missing = let e = is-missing refl in ap length (e .bytes) ∙ sym (e .size)
+stated-length (Of n) = let e = is-of refl in ap length (e .bytes) ∙ simp (length-append, int-length, digits-length) (omega arith)
+
+-- fields behind others
+pub fields-append : (a b : List Field) → fieldsBytes (a ++ b) ≡ fieldsBytes a ++ fieldsBytes b
+unfolding fieldsBytes
+fields-append [] b = refl
+fields-append (f ∷ a) b = rw (fields-append a b) (sym (append-assoc (fieldBytes f) (fieldsBytes a) (fieldsBytes b)))
+
+-- the fields of a final header section, and the section
+module _ (x : StatedLength) (s ranges : List ℕ) (k n : ℕ) where
+  pub header-fields : length (fieldsBytes (statedFields x ++ map fieldMeans (fieldsIn s ranges k n))) ≡ statedSize x + fieldsSize ranges k n
+  header-fields =
+      let fs = map fieldMeans (fieldsIn s ranges k n) in
+      ap length (fields-append (statedFields x) fs)
+      ∙ length-append (fieldsBytes (statedFields x)) (fieldsBytes fs)
+      ∙ rw (stated-length x, fields-length s ranges k n)
+
+  header-length : length (sectionBytes (statedFields x ++ map fieldMeans (fieldsIn s ranges k n))) ≡ headerSize x ranges k n
+  unfolding sectionBytes
+  header-length = counted-length _ _ header-fields
 
 pub heads-length : (s hs ns : List ℕ) (i n : ℕ) → length (informationalBytes (headsIn s hs ns i n)) ≡ headsSize hs ns i n
 unfolding informationalBytes headsIn headsSize
@@ -94,7 +149,7 @@ message-length {s} {r} {hs} {ns} {cs} {ts} w =
       length-append,
       length-append,
       control-length (r .response) s r hs ns,
-      section-length s hs,
+      header-length (r .stated) s hs,
       counted-length _ _ (w .content),
       section-length s ts,
     )

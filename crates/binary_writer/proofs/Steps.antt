@@ -1,6 +1,6 @@
 -- Steps of the loops that measure, and of those that write.
 use Prim.Native.Nat.{ℕ, suc, _+_, _-_, _*_, _<_, _≤_}
-use mathlib.Core.Path.{_≡_, refl, _∙_}
+use mathlib.Core.Path.{_≡_, refl, ap, _∙_}
 use mathlib.Core.Bool.{true, false}
 use mathlib.Core.List.{List, [], _∷_, _++_, map}
 use native.Mathlib.Nat.{add-zero, sub-zero}
@@ -9,18 +9,22 @@ use lib.ListN.{getD}
 use borrow.Author.Tests.{eq-eqb, ne-eqb}
 use Rattle.octets.specs.Ascii.{ascii}
 use Rattle.octets.specs.Text.{lowerOf}
+use Rattle.numbers.specs.Digits.{countOf, digits}
 use Rattle.numbers.specs.Integer.{integerEnd, intLen, tagOf, intBytes}
 use Rattle.numbers.specs.Places.{push}
 use Rattle.numbers.proofs.IntegerLaws.{int-some}
-use Rattle.output.specs.Splice.{part, Put, Left}
+use Rattle.output.specs.Splice.{part, Put, Puts, Left}
 use Rattle.output.proofs.Laws.{put-then, put-as, left-start, left-turn}
-use Rattle.messages.specs.Meaning.{Informational, request, response, fieldMeans, contentOf}
+use Rattle.output.proofs.Room.{puts-then}
+use Rattle.messages.specs.Meaning.{Informational, request, response, fieldMeans, contentOf, statedFields}
+use Rattle.messages.specs.declared.StatedLength.{StatedLength}
+use Rattle.messages.specs.declared.StatedLength.the-variants.{Of}
 use Rattle.messages.specs.declared.Record.{Record}
 use Rattle.ranges.specs.Entries.{fieldIn, fieldsIn, chunksIn, fieldsBefore, headsIn, partIn, controlIn, meaningIn, FieldsWithin}
 use Rattle.ranges.proofs.Entries.{fields-more, fields-none, heads-more, heads-none}
-use Rattle.binary_writer.proofs.Lengths.{counted-is, fields-length}
+use Rattle.binary_writer.proofs.Lengths.{counted-is, fields-length, header-fields, fields-append, is-of}
 use Rattle.binary_writer.specs.Write.{counted, fieldBytes, fieldsBytes, sectionBytes, schemeBytes, informationalBytes, controlBytes, binaryOf}
-use Rattle.binary_writer.specs.Sizes.{countedSize, entrySize, fieldsSize, sectionSize, headSize, headsSize, schemeSize, controlSize, messageSize}
+use Rattle.binary_writer.specs.Sizes.{countedSize, entrySize, fieldsSize, sectionSize, statedSize, headerSize, headSize, headsSize, schemeSize, controlSize, messageSize}
 
 -- ---- measuring
 
@@ -79,10 +83,15 @@ module _ (r : Record) (hs ns : List ℕ) where
   size-request e = rw e
 
   pub size-message : (ts : List ℕ) {control k headers content trailers : ℕ} → control ≡ controlSize (r .response) r hs ns → k ≡ fieldsBefore ns (r .informational)
-      → headers ≡ sectionSize hs k (r .headers) → content ≡ countedSize (r .content) → trailers ≡ sectionSize ts 0 (r .trailers)
+      → headers ≡ headerSize (r .stated) hs k (r .headers) → content ≡ countedSize (r .content) → trailers ≡ sectionSize ts 0 (r .trailers)
       → control + headers + content + trailers ≡ messageSize r hs ns ts
   unfolding messageSize
   size-message ts a b c d e = rw (a, c, b, d, e)
+
+-- what a final header section counts
+pub header-sum : (x : StatedLength) (ranges : List ℕ) (k n : ℕ) {a b : ℕ} → a ≡ statedSize x → b ≡ fieldsSize ranges k n
+    → a + b ≡ statedSize x + fieldsSize ranges k n
+header-sum x ranges k n e f = rw (e, f)
 
 -- ---- writing
 
@@ -102,6 +111,12 @@ module _ {o o₁ : List ℕ} {at r n : ℕ} where
   pub put-https : (n ≡ 0 → ⊥) → Put o at (5 ∷ ascii "https") 6 o₁ r → Put o at (counted (schemeBytes n)) (schemeSize n) o₁ r
   unfolding schemeBytes
   put-https e p = rw (scheme-https n e, ne-eqb n 0 e) (put-as (https-is, refl) p)
+
+-- name and digits of a stated length, one behind the other
+pub put-length : {x : StatedLength} {n c : ℕ} {o o₁ o₂ o₃ : List ℕ} {at a b r : ℕ} → x ≡ Of n → c ≡ countOf 10 n
+    → Puts o at (14 ∷ ascii "content-length") 15 o₁ a → Puts o₁ a (intBytes c) (intLen c) o₂ b → Puts o₂ b (digits 10 n) (countOf 10 n) o₃ r
+    → Puts o at (fieldsBytes (statedFields x)) (statedSize x) o₃ r
+put-length e f p q t h = let z = is-of e in put-as (z .bytes, z .size) (puts-then (puts-then p (rw f at q)) t (omega (arith, z .size, h)))
 
 -- name and value of an entry, one behind the other
 module _ (s ranges : List ℕ) (k : ℕ) {o o₁ o₂ : List ℕ} {at a r name nlen value vlen : ℕ} where
@@ -140,6 +155,22 @@ module _ (s ranges : List ℕ) (k n : ℕ) where
       → Put o at (sectionBytes (map fieldMeans (fieldsIn s ranges k n))) (sectionSize ranges k n) o₂ r
   unfolding sectionBytes
   put-section e p q = put-as (counted-is _ _ (fields-length s ranges k n), refl) (put-then (rw e at p) q)
+
+  -- a final header section: the count, the field of a stated length, the fields
+  pub put-header : (x : StatedLength) {o o₁ o₂ o₃ : List ℕ} {at a b r size : ℕ} → size ≡ statedSize x + fieldsSize ranges k n → Put o at (intBytes size) (intLen size) o₁ a
+      → Put o₁ a (fieldsBytes (statedFields x)) (statedSize x) o₂ b
+      → Put o₂ b (fieldsBytes (map fieldMeans (fieldsIn s ranges k n))) (fieldsSize ranges k n) o₃ r
+      → Put o at (sectionBytes (statedFields x ++ map fieldMeans (fieldsIn s ranges k n))) (headerSize x ranges k n) o₃ r
+  unfolding sectionBytes
+  put-header x e p q t =
+      let fs = map fieldMeans (fieldsIn s ranges k n) in
+      put-as
+      (
+        counted-is _ _ (header-fields x s ranges k n)
+        ∙ ap (λ (w : List ℕ). intBytes (statedSize x + fieldsSize ranges k n) ++ w) (fields-append (statedFields x) fs),
+        refl,
+      )
+      (put-then (rw e at p) (put-then q t))
 
 -- the same section by other names of its numbers
 pub within-as : {l : ℕ} {ranges : List ℕ} {k k′ c c′ : ℕ} → k ≡ k′ → c ≡ c′ → FieldsWithin l ranges k′ c′ → FieldsWithin l ranges k c
@@ -204,7 +235,7 @@ module _ (s : List ℕ) (r : Record) (hs ns : List ℕ) {o o₁ : List ℕ} {a :
 
   pub put-message : (cs ts : List ℕ) {o₂ o₃ o₄ : List ℕ} {k b d z : ℕ} → k ≡ fieldsBefore ns (r .informational)
       → Put o 0 (controlBytes (controlIn (r .response) s r hs ns)) (controlSize (r .response) r hs ns) o₁ a
-      → Put o₁ a (sectionBytes (map fieldMeans (fieldsIn s hs k (r .headers)))) (sectionSize hs k (r .headers)) o₂ b
+      → Put o₁ a (sectionBytes (statedFields (r .stated) ++ map fieldMeans (fieldsIn s hs k (r .headers)))) (headerSize (r .stated) hs k (r .headers)) o₂ b
       → Put o₂ b (counted (contentOf (chunksIn s cs 0 (r .chunks)))) (countedSize (r .content)) o₃ d
       → Put o₃ d (sectionBytes (map fieldMeans (fieldsIn s ts 0 (r .trailers)))) (sectionSize ts 0 (r .trailers)) o₄ z
       → Put o 0 (binaryOf (meaningIn s r hs ns cs ts)) (messageSize r hs ns ts) o₄ z

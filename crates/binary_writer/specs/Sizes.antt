@@ -4,9 +4,12 @@ use mathlib.Core.Bool.{Bool, true, false, cond}
 use mathlib.Core.List.{List}
 use lib.Dec.{eqb}
 use lib.ListN.{getD}
+use Rattle.numbers.specs.Digits.{countOf}
 use Rattle.numbers.specs.Integer.{intLen}
 use Rattle.messages.specs.declared.Part.{Part}
 use Rattle.messages.specs.declared.Record.{Record}
+use Rattle.messages.specs.declared.StatedLength.{StatedLength}
+use Rattle.messages.specs.declared.StatedLength.the-variants.{Missing, Of}
 use Rattle.ranges.specs.Entries.{fieldsBefore}
 
 -- so many octets with their count in front
@@ -25,6 +28,15 @@ fieldsSize ranges k (suc n) = entrySize ranges k + fieldsSize ranges (k + 1) n
 -- a section of them
 abbrev pub sectionSize : List ℕ → ℕ → ℕ → ℕ
 sectionSize ranges k n = countedSize (fieldsSize ranges k n)
+
+-- the field of a stated length: `content-length` with its count, and as many digits as there are, with theirs
+abbrev pub statedSize : StatedLength → ℕ
+statedSize Missing = 0
+statedSize (Of n) = 15 + countedSize (countOf 10 n)
+
+-- a final header section: the field of a stated length, then the fields of n entries from the entry k on
+abbrev pub headerSize : StatedLength → List ℕ → ℕ → ℕ → ℕ
+headerSize stated ranges k n = countedSize (statedSize stated + fieldsSize ranges k n)
 
 -- the informational head i: its status, then its section
 abbrev pub headSize : List ℕ → List ℕ → ℕ → ℕ
@@ -55,7 +67,7 @@ controlSize false r hs ns = requestSize (r .method) (r .scheme) (r .authority) (
 -- a whole message
 unfoldable pub messageSize : Record → List ℕ → List ℕ → List ℕ → ℕ
 messageSize r hs ns ts =
-    controlSize (r .response) r hs ns + sectionSize hs (fieldsBefore ns (r .informational)) (r .headers)
+    controlSize (r .response) r hs ns + headerSize (r .stated) hs (fieldsBefore ns (r .informational)) (r .headers)
     + countedSize (r .content) + sectionSize ts 0 (r .trailers)
 
 -- bounds, so that no sum passes 2 ^ 62. The count in front of a part
@@ -77,6 +89,14 @@ fieldsMost = 549755814784
 -- a section of them: count and fields
 abbrev pub sectionMost : ℕ
 sectionMost = 549755814792
+
+-- the field of a stated length: a name of 14 octets with its count, at most 20 digits with theirs
+abbrev pub statedMost : ℕ
+statedMost = 43
+
+-- a final header section: count, that field, 64 fields
+abbrev pub headerMost : ℕ
+headerMost = 549755814835
 
 -- an informational head: status and section
 abbrev pub headMost : ℕ

@@ -1,6 +1,8 @@
 // How long a message is in Binary, by its numbers alone.
 use messages::Part;
 use messages::Record;
+use messages::StatedLength;
+use numbers::digit_count;
 use numbers::int_len;
 use ranges::fields_before;
 use ranges::number_at;
@@ -11,9 +13,10 @@ ghost use lib.ListN.{length};
 ghost use Rattle.numbers.specs.Integer.{integerEnd, intLen};
 ghost use Rattle.octets.specs.Limits.{linesMost};
 ghost use Rattle.ranges.specs.Entries.{HeadsCounted, MessageWithin};
-ghost use Rattle.binary_writer.specs.Sizes.{countedSize, entrySize, fieldsSize, sectionSize, headsSize};
+ghost use Rattle.binary_writer.specs.Sizes.{countedSize, entrySize, fieldsSize, sectionSize, statedSize, headerSize, headsSize};
 ghost use Rattle.binary_writer.specs.Sizes.{schemeSize, requestSize, responseSize, controlSize, messageSize};
-ghost use Rattle.binary_writer.specs.Sizes.{countMost, schemeMost, entryMost, fieldsMost, sectionMost, headMost, headsMost, partMost, controlMost};
+ghost use Rattle.binary_writer.specs.Sizes.{countMost, schemeMost, entryMost, fieldsMost, sectionMost, statedMost, headerMost, headMost, headsMost};
+ghost use Rattle.binary_writer.specs.Sizes.{partMost, controlMost};
 
 // So many octets with their count in front.
 fn counted_size(n: usize) -> usize
@@ -53,6 +56,25 @@ fn section_size(ranges: &[u32], k: usize, n: usize) -> usize
     ensures { λ r. ⌜ (r ≡ sectionSize (now (ranges .entry)) k n) × (r ≤ sectionMost) ⌝ }
 {
     let size = fields_size(ranges, k, n);
+    counted_size(size)
+}
+
+// The field of a stated length.
+pub(crate) fn stated_size(stated: StatedLength) -> usize
+    ensures { λ r. ⌜ (r ≡ statedSize stated) × (r ≤ statedMost) ⌝ }
+{
+    match stated {
+        StatedLength::Missing => return 0,
+        StatedLength::Of(n) => return 15 + counted_size(digit_count(n, 10)),
+    }
+}
+
+// A final header section: that field, then the fields of n entries from the entry k on.
+fn header_size(stated: StatedLength, ranges: &[u32], k: usize, n: usize) -> usize
+    requires { ⌜ ((k + n) * 4 ≤ length (now ranges)) × (n ≤ linesMost) ⌝ }
+    ensures { λ r. ⌜ (r ≡ headerSize stated (now (ranges .entry)) k n) × (r ≤ headerMost) ⌝ }
+{
+    let size = stated_size(stated) + fields_size(ranges, k, n);
     counted_size(size)
 }
 
@@ -132,7 +154,8 @@ pub(crate) fn message_size(r: Record, fields: &[u32], heads: &[u32], trailers: &
 {
     let control = control_size(r, fields, heads);
     let k = fields_before(heads, r.informational);
-    let headers = section_size(fields, k, r.headers);
+    let stated = r.stated;
+    let headers = header_size(stated, fields, k, r.headers);
     let content = counted_size(r.content);
     control + headers + content + section_size(trailers, 0, r.trailers)
 }

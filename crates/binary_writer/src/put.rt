@@ -1,7 +1,11 @@
 // The parts of a message written as Binary, each at a place of the lent octets; the answer is the place behind it.
 use crate::measure::fields_size;
+use crate::measure::stated_size;
 use messages::Part;
 use messages::Record;
+use messages::StatedLength;
+use numbers::digit_count;
+use output::put_decimal;
 use output::put_int;
 use output::put_lower;
 use output::put_octet;
@@ -17,11 +21,11 @@ ghost use lib.ListN.{length};
 ghost use Rattle.octets.specs.Text.{lowerOf};
 ghost use Rattle.numbers.specs.Integer.{integerEnd, intLen, intBytes};
 ghost use Rattle.output.specs.Splice.{part, Put};
-ghost use Rattle.messages.specs.Meaning.{request, response};
+ghost use Rattle.messages.specs.Meaning.{request, response, statedFields};
 ghost use Rattle.ranges.specs.Entries.{fieldNamed, fieldsNamed, contentIn, headsIn, partIn, controlIn, meaningIn};
 ghost use Rattle.ranges.specs.Entries.{PartWithin, EntryWithin, FieldsWithin, HeadsWithin, ChunksWithin, MessageWithin, HeadWithin};
 ghost use Rattle.binary_writer.specs.Write.{counted, fieldBytes, fieldsBytes, sectionBytes, schemeBytes, informationalBytes, controlBytes, binaryOf};
-ghost use Rattle.binary_writer.specs.Sizes.{countedSize, entrySize, fieldsSize, sectionSize, headsSize};
+ghost use Rattle.binary_writer.specs.Sizes.{countedSize, entrySize, fieldsSize, sectionSize, statedSize, headerSize, headsSize};
 ghost use Rattle.binary_writer.specs.Sizes.{schemeSize, requestSize, responseSize, controlSize, messageSize};
 
 // So many octets of the source with their count in front.
@@ -101,6 +105,42 @@ fn put_section(out: &mut [u8], at: usize, s: &[u8], ranges: &[u32], k: usize, n:
     let size = fields_size(ranges, k, n);
     let a = put_int(out, at, size);
     put_fields(out, a, s, ranges, k, n)
+}
+
+// The field of a stated length, where there is one.
+fn put_stated(out: &mut [u8], at: usize, stated: StatedLength) -> usize
+    requires { ⌜ at + statedSize stated ≤ length (now out) ⌝ }
+    ensures { λ r. ⌜ Put (now (out .entry)) at (fieldsBytes (statedFields stated)) (statedSize stated) (now (out .exit)) r ⌝ }
+{
+    match stated {
+        StatedLength::Missing => return at,
+        StatedLength::Of(n) => {
+            let a = put_text(out, at, b"\x0econtent-length");
+            let b = put_int(out, a, digit_count(n, 10));
+            return put_decimal(out, b, n);
+        }
+    }
+}
+
+// A final header section: that field, then the fields of n entries from the entry k on.
+fn put_header(
+    out: &mut [u8],
+    at: usize,
+    stated: StatedLength,
+    s: &[u8],
+    ranges: &[u32],
+    k: usize,
+    n: usize,
+) -> usize
+    requires { ⌜ FieldsWithin (length (now s)) (now ranges) k n × (at + headerSize stated (now ranges) k n ≤ length (now out)) ⌝ }
+    ensures { λ r. ⌜ Put (now (out .entry)) at
+        (sectionBytes (statedFields stated ++ fieldsNamed (now (s .entry)) (now (ranges .entry)) k n))
+        (headerSize stated (now (ranges .entry)) k n) (now (out .exit)) r ⌝ }
+{
+    let size = stated_size(stated) + fields_size(ranges, k, n);
+    let a = put_int(out, at, size);
+    let b = put_stated(out, a, stated);
+    put_fields(out, b, s, ranges, k, n)
 }
 
 // The status and the section of an informational head.
@@ -223,7 +263,8 @@ pub(crate) fn put_message(
 {
     let k = fields_before(heads, r.informational);
     let a = put_control_data(out, s, r, fields, heads);
-    let b = put_section(out, a, s, fields, k, r.headers);
+    let stated = r.stated;
+    let b = put_header(out, a, stated, s, fields, k, r.headers);
     let d = put_content(out, b, s, chunks, r.chunks, r.content);
     put_section(out, d, s, trailers, 0, r.trailers)
 }

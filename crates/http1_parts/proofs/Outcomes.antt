@@ -48,7 +48,7 @@ value-before l f e = go (fieldLens (l .text)) refl e
     go : (x : FieldLine) → fieldLens (l .text) ≡ x → onField l x ≡ good f → Before (l .place + length (l .text)) f
     go (field.Of n b k) q g =
         let v = field-within (l .text) n b k q in
-        let r : FieldRead = record { name = piece (l .place) (take n (l .text)); value = piece (l .place + b) (take k (drop b (l .text))) } in
+        let r : FieldRead = record { name = piece (l .place) (take n (l .text)); value = piece (l .place + b) (take k (drop b (l .text))); place = l .place } in
         let z : r ≡ f = cc in
         let m : length (take k (drop b (l .text))) ≡ k = length-take-le k (drop b (l .text)) (omega (arith, v, length-drop b (l .text))) in
         subst (Before (l .place + length (l .text))) z (omega (arith, v, m))

@@ -37,9 +37,9 @@ SectionRoom k o = k * 4 + sectionRoom ≤ length o
 unfoldable pub noField : ℕ → ℕ
 noField lines = cond (leb linesMost lines) tooLarge badSyntax
 
--- a field line of s by places and lengths: its name has n octets from i on, its value l from v on
+-- a field line of s at the place i, by places and lengths: its name has n octets from there on, its value l from v on
 abbrev pub lineAt : List ℕ → ℕ → ℕ → ℕ → ℕ → FieldRead
-lineAt s i n v l = record { name = piece i (take n (drop i s)); value = piece v (take l (drop v s)) }
+lineAt s i n v l = record { name = piece i (take n (drop i s)); value = piece v (take l (drop v s)); place = i }
 
 -- a line's value ends at or before n
 abbrev pub Before : ℕ → FieldRead → Type 0

@@ -10,14 +10,16 @@ use Rattle.script.specs.Do.{_>>=_, andThen, tell, Judged, good, wrong}
 use Rattle.script.proofs.Laws.{run-done, run-stop}
 use Rattle.script.proofs.Places.{run-bind}
 use Rattle.output.specs.Splice.{splice}
-use Rattle.messages.specs.Message.{InformationalRead, responseStart, isResponse, Message, plainMessage}
+use Rattle.messages.specs.Message.{InformationalRead, responseStart, isResponse, Message, statingMessage}
 use Rattle.messages.specs.Names.{kept, keptTrailers}
 use Rattle.messages.specs.Notes.{notesOf, bodyAnswer}
-use Rattle.messages.specs.Rules.{framingOf, responseBody}
+use Rattle.messages.specs.Rules.{framingOf, responseBody, statedIn}
 use Rattle.messages.specs.Answers.{fieldsNumbers, chunksNumbers, informationalNumbers, informationalLines, informationalIn, recordOf}
 use Rattle.messages.specs.declared.Body.{Body}
 use Rattle.messages.specs.declared.BodyAnswer.the-variants as body
 use Rattle.messages.specs.declared.Notes.{Notes}
+use Rattle.messages.specs.declared.StatedLength.{StatedLength}
+use Rattle.messages.specs.declared.Told.{Told}
 use Rattle.messages.specs.declared.Outcome.{Outcome}
 use Rattle.messages.specs.declared.Outcome.the-variants as outcome
 use Rattle.messages.proofs.Lengths.{body-read, body-refused}
@@ -36,58 +38,58 @@ use Rattle.http1_reader.proofs.ResponseHeads.{framing-noted}
 -- ---- behind the final head
 
 -- the message with a content
-abbrev responseWith : List InformationalRead → ℕ → Lines → Content → Message
-responseWith is n h c = plainMessage (responseStart is n) (h .lines) (c .chunks) (c .trailers)
+abbrev responseWith : StatedLength → List InformationalRead → ℕ → Lines → Content → Message
+responseWith st is n h c = statingMessage st (responseStart is n) (h .lines) (c .chunks) (c .trailers)
 
-abbrev withContent : List InformationalRead → ℕ → Lines → Judged Body → Script Message
-withContent is n h j = tell j >>= λ b. content b >>= λ c. done (responseWith is n h c)
+abbrev withContent : StatedLength → List InformationalRead → ℕ → Lines → Judged Body → Script Message
+withContent st is n h j = tell j >>= λ b. content b >>= λ c. done (responseWith st is n h c)
 
-final-content : (is : List InformationalRead) (n : ℕ) (h : Lines) (b : Body) (s : List ℕ) (e : ℕ)
-    → run (withContent is n h (good b)) e (drop e s) ≡ andThen (run (content b) e (drop e s)) (λ j c. accepted j (responseWith is n h c))
+final-content : (st : StatedLength) (is : List InformationalRead) (n : ℕ) (h : Lines) (b : Body) (s : List ℕ) (e : ℕ)
+    → run (withContent st is n h (good b)) e (drop e s) ≡ andThen (run (content b) e (drop e s)) (λ j c. accepted j (responseWith st is n h c))
 unfolding _>>=_
-final-content is n h b s e = run-bind (content b) (λ c. done (responseWith is n h c)) s e ∙ go (run (content b) e (drop e s))
+final-content st is n h b s e = run-bind (content b) (λ c. done (responseWith st is n h c)) s e ∙ go (run (content b) e (drop e s))
   where
-    go : (x : Answer Content) → andThen x (λ j c. run (done (responseWith is n h c)) j (drop j s)) ≡ andThen x (λ j c. accepted j (responseWith is n h c))
-    go (accepted j c) = run-done (responseWith is n h c) j (drop j s)
+    go : (x : Answer Content) → andThen x (λ j c. run (done (responseWith st is n h c)) j (drop j s)) ≡ andThen x (λ j c. accepted j (responseWith st is n h c))
+    go (accepted j c) = run-done (responseWith st is n h c) j (drop j s)
     go (refused k p) = refl
     go more = refl
 
-module _ (s : List ℕ) (status e c k : ℕ) (notes : Notes) where
+module _ (t : Told) (s : List ℕ) (status e c k : ℕ) (notes : Notes) where
   judged : (is : List InformationalRead) (h : Lines) → HeadsFacts s is h e c k notes
-      → responseBody status (h .end) (framingOf (h .lines)) ≡ responseBody status e (notes .framing)
+      → responseBody t status (h .end) (framingOf (h .lines)) ≡ responseBody t status e (notes .framing)
   judged is h f = rw (f .end, framing-noted notes h (f .noted)) refl
 
-  pub final-refused : (cs cs′ ts ts′ : List ℕ) (i p : ℕ) → bodyAnswer (responseBody status e (notes .framing)) ≡ body.Refused i p
-      → FinalRead s status e c k notes cs cs′ ts ts′ (outcome.Refusal i p)
+  pub final-refused : (cs cs′ ts ts′ : List ℕ) (i p : ℕ) → bodyAnswer (responseBody t status e (notes .framing)) ≡ body.Refused i p
+      → FinalRead t s status e c k notes cs cs′ ts ts′ (outcome.Refusal i p)
   unfolding afterFinal _>>=_
   final-refused cs cs′ ts ts′ i p g =
       record {
         by = λ is h f.
-            let z : run (withContent is status h (responseBody status (h .end) (framingOf (h .lines)))) e (drop e s) ≡ refused i p =
-            ap (λ (j : Judged Body). run (withContent is status h j) e (drop e s)) (judged is h f ∙ body-refused _ i p g) ∙ run-stop i p e (drop e s) in
+            let z : run (withContent (statedIn t status (framingOf (h .lines))) is status h (responseBody t status (h .end) (framingOf (h .lines)))) e (drop e s) ≡ refused i p =
+            ap (λ (j : Judged Body). run (withContent (statedIn t status (framingOf (h .lines))) is status h j) e (drop e s)) (judged is h f ∙ body-refused _ i p g) ∙ run-stop i p e (drop e s) in
             subst (λ (x : Answer Message). RestSays x cs cs′ ts ts′ (outcome.Refusal i p)) (sym z) refl;
       }
 
-  module _ (b : Body) (g : bodyAnswer (responseBody status e (notes .framing)) ≡ body.Read b) where
+  module _ (b : Body) (g : bodyAnswer (responseBody t status e (notes .framing)) ≡ body.Read b) where
     pub final-within : SizedWithin b
-    final-within = fits-within b (response-framed status e (notes .framing) b (body-read _ b g) .framed .fits)
+    final-within = fits-within b (response-framed t status e (notes .framing) b (body-read _ b g) .fits)
 
-    pub final-read : (cs cs′ ts ts′ : List ℕ) (d : ContentRead) (r : Outcome) → Contented (run (content b) e (drop e s)) cs cs′ ts ts′ d
-        → r ≡ responseOutcome status c k d → FinalRead s status e c k notes cs cs′ ts ts′ r
+    pub final-read : (cs cs′ ts ts′ : List ℕ) (st : StatedLength) (d : ContentRead) (r : Outcome) → st ≡ statedIn t status (notes .framing) → Contented (run (content b) e (drop e s)) cs cs′ ts ts′ d
+        → r ≡ responseOutcome st status c k d → FinalRead t s status e c k notes cs cs′ ts ts′ r
     unfolding afterFinal recordOf
-    final-read cs cs′ ts ts′ d r w o =
+    final-read cs cs′ ts ts′ st d r i w o =
         record {
           by = λ is h f.
-              let z : run (withContent is status h (responseBody status (h .end) (framingOf (h .lines)))) e (drop e s)
-              ≡ andThen (run (content b) e (drop e s)) (λ j c. accepted j (responseWith is status h c)) =
-              ap (λ (j : Judged Body). run (withContent is status h j) e (drop e s)) (judged is h f ∙ body-read _ b g) ∙ final-content is status h b s e in
+              let z : run (withContent (statedIn t status (framingOf (h .lines))) is status h (responseBody t status (h .end) (framingOf (h .lines)))) e (drop e s)
+              ≡ andThen (run (content b) e (drop e s)) (λ j c. accepted j (responseWith (statedIn t status (framingOf (h .lines))) is status h c)) =
+              ap (λ (j : Judged Body). run (withContent (statedIn t status (framingOf (h .lines))) is status h j) e (drop e s)) (judged is h f ∙ body-read _ b g) ∙ final-content (statedIn t status (framingOf (h .lines))) is status h b s e in
               subst (λ (x : Answer Message). RestSays x cs cs′ ts ts′ r) (sym z) (go is h f (run (content b) e (drop e s)) (w .says));
         }
       where
         go : (is : List InformationalRead) (h : Lines) → HeadsFacts s is h e c k notes → (x : Answer Content) → ContentSays x cs cs′ ts ts′ d
-            → RestSays (andThen x (λ j c. accepted j (responseWith is status h c))) cs cs′ ts ts′ r
-        go is h f (accepted j l) u = (o ∙ rw (u .0, f .heads, f .fields) refl, u .1, u .2)
-        go is h f (refused i p) u = o ∙ rw u refl
+            → RestSays (andThen x (λ j c. accepted j (responseWith (statedIn t status (framingOf (h .lines))) is status h c))) cs cs′ ts ts′ r
+        go is h f (accepted j l) u = (o ∙ rw (u .0, f .heads, f .fields, i, framing-noted notes h (f .noted)) refl, u .1, u .2)
+        go is h f (refused j p) u = o ∙ rw u refl
         go is h f more u = o ∙ rw u refl
 
 -- ---- the whole
@@ -97,41 +99,41 @@ record OfHeads (is : List InformationalRead) (n : ℕ) (h : Lines) (m : Message)
   pub start : m .start ≡ responseStart is n
   pub lines : m .lines ≡ h .lines
 
-of-heads : (is : List InformationalRead) (n : ℕ) (h : Lines) (s : List ℕ) (e : ℕ) → Says (λ j m. OfHeads is n h m) (run (afterFinal is n h) e (drop e s))
+of-heads : (t : Told) (is : List InformationalRead) (n : ℕ) (h : Lines) (s : List ℕ) (e : ℕ) → Says (λ j m. OfHeads is n h m) (run (afterFinal t is n h) e (drop e s))
 unfolding afterFinal _>>=_
-of-heads is n h s e = go (responseBody n (h .end) (framingOf (h .lines)))
+of-heads t is n h s e = go (responseBody t n (h .end) (framingOf (h .lines)))
   where
-    with-content : (x : Answer Content) → Says (λ j m. OfHeads is n h m) (andThen x (λ j c. accepted j (responseWith is n h c)))
+    with-content : (x : Answer Content) → Says (λ j m. OfHeads is n h m) (andThen x (λ j c. accepted j (responseWith (statedIn t n (framingOf (h .lines))) is n h c)))
     with-content (accepted j c) = record { start = refl; lines = refl }
     with-content (refused k p) = tt
     with-content more = tt
 
-    go : (j : Judged Body) → Says (λ j m. OfHeads is n h m) (run (withContent is n h j) e (drop e s))
-    go (good b) = subst (λ (x : Answer Message). Says (λ j m. OfHeads is n h m) x) (sym (final-content is n h b s e)) (with-content (run (content b) e (drop e s)))
+    go : (j : Judged Body) → Says (λ j m. OfHeads is n h m) (run (withContent (statedIn t n (framingOf (h .lines))) is n h j) e (drop e s))
+    go (good b) = subst (λ (x : Answer Message). Says (λ j m. OfHeads is n h m) x) (sym (final-content (statedIn t n (framingOf (h .lines))) is n h b s e)) (with-content (run (content b) e (drop e s)))
     go (wrong k p) = subst (λ (x : Answer Message). Says (λ j m. OfHeads is n h m) x) (sym (run-stop k p e (drop e s))) tt
 
-module _ {x : Answer Message} {s hs hs′ ns ns′ : List ℕ} {r : HeadsRead} (w : HeadsTaken x s hs hs′ ns ns′ r) where
+module _ {x : Told → Answer Message} {s hs hs′ ns ns′ : List ℕ} {r : HeadsRead} (w : HeadsTaken x s hs hs′ ns ns′ r) (t : Told) where
   taken : (r′ : HeadsRead) → r ≡ r′ → HeadsSays x s hs hs′ ns ns′ r′
   taken r′ q = subst (λ (z : HeadsRead). HeadsSays x s hs hs′ ns ns′ z) q (w .says)
 
-  pub responded-more : (cs cs′ ts ts′ : List ℕ) → r ≡ heads-read.More → Responded x hs hs′ ns ns′ cs cs′ ts ts′ outcome.More
+  pub responded-more : (cs cs′ ts ts′ : List ℕ) → r ≡ heads-read.More → Responded (x t) hs hs′ ns ns′ cs cs′ ts ts′ outcome.More
   responded-more cs cs′ ts ts′ q =
-      subst (λ (z : Answer Message). Responded z hs hs′ ns ns′ cs cs′ ts ts′ outcome.More) (sym (taken heads-read.More q)) (record { says = refl; informational = tt })
+      subst (λ (z : Answer Message). Responded z hs hs′ ns ns′ cs cs′ ts ts′ outcome.More) (sym (taken heads-read.More q t)) (record { says = refl; informational = tt })
 
-  pub responded-refused : (cs cs′ ts ts′ : List ℕ) (i p : ℕ) → r ≡ heads-read.Refused i p → Responded x hs hs′ ns ns′ cs cs′ ts ts′ (outcome.Refusal i p)
+  pub responded-refused : (cs cs′ ts ts′ : List ℕ) (i p : ℕ) → r ≡ heads-read.Refused i p → Responded (x t) hs hs′ ns ns′ cs cs′ ts ts′ (outcome.Refusal i p)
   responded-refused cs cs′ ts ts′ i p q =
-      subst (λ (z : Answer Message). Responded z hs hs′ ns ns′ cs cs′ ts ts′ (outcome.Refusal i p)) (sym (taken (heads-read.Refused i p) q))
+      subst (λ (z : Answer Message). Responded z hs hs′ ns ns′ cs cs′ ts ts′ (outcome.Refusal i p)) (sym (taken (heads-read.Refused i p) q t))
       (record { says = refl; informational = tt })
 
   module _ (n e c k : ℕ) (notes : Notes) (q : r ≡ heads-read.Done n e c k notes) where
     pub final-place : (e ≤ length s) × (e ≤ headMost)
     final-place = let d = taken (heads-read.Done n e c k notes) q in (d .3, d .4)
 
-    pub responded-final : (cs cs′ ts ts′ : List ℕ) (o : Outcome) → FinalRead s n e c k notes cs cs′ ts ts′ o → Responded x hs hs′ ns ns′ cs cs′ ts ts′ o
+    pub responded-final : (cs cs′ ts ts′ : List ℕ) (o : Outcome) → FinalRead t s n e c k notes cs cs′ ts ts′ o → Responded (x t) hs hs′ ns ns′ cs cs′ ts ts′ o
     responded-final cs cs′ ts ts′ o f =
         let d = taken (heads-read.Done n e c k notes) q in
-        subst (λ (z : Answer Message). Responded z hs hs′ ns ns′ cs cs′ ts ts′ o) (sym (d .5))
-        (go (d .0) (d .1) (d .6) (d .7) (run (afterFinal (d .0) n (d .1)) e (drop e s)) (of-heads (d .0) n (d .1) s e) (f .by (d .0) (d .1) (d .2)))
+        subst (λ (z : Answer Message). Responded z hs hs′ ns ns′ cs cs′ ts ts′ o) (sym (d .5 t))
+        (go (d .0) (d .1) (d .6) (d .7) (run (afterFinal t (d .0) n (d .1)) e (drop e s)) (of-heads t (d .0) n (d .1) s e) (f .by (d .0) (d .1) (d .2)))
       where
         go : (is : List InformationalRead) (h : Lines) → hs′ ≡ splice hs 0 (fieldsNumbers (informationalLines is ++ kept true (h .lines)))
             → ns′ ≡ splice ns 0 (informationalNumbers is) → (y : Answer Message) → Says (λ j m. OfHeads is n h m) y → RestSays y cs cs′ ts ts′ o

@@ -13,6 +13,7 @@ use Rattle.messages.specs.Message.{InformationalRead}
 use Rattle.messages.specs.Names.{kept}
 use Rattle.messages.specs.Answers.{fieldsNumbers, informationalNumbers, informationalLines}
 use Rattle.messages.specs.declared.Notes.{Notes}
+use Rattle.messages.specs.declared.Told.{Told}
 use Rattle.messages.proofs.Noting.{kept-few}
 use Rattle.http1.specs.Read.{Lines, informationalRead, heads, readResponse}
 use Rattle.ranges.proofs.HeadsStored.{lines-snoc, fields-more, numbers-more}
@@ -33,7 +34,7 @@ pub record HeadsTo (s hs₀ hs ns₀ ns : List ℕ) (i left count base : ℕ) : 
   pub few : base ≤ count * linesMost
   pub stored : hs ≡ splice hs₀ 0 (fieldsNumbers (informationalLines read))
   pub numbers : ns ≡ splice ns₀ 0 (informationalNumbers read)
-  pub turn : readResponse s ≡ run (heads (suc (informationalMost - count)) read left) i (drop i s)
+  pub turn : (t : Told) → readResponse t s ≡ run (heads t (suc (informationalMost - count)) read left) i (drop i s)
 
 pub heads-start : (s hs ns : List ℕ) → HeadsTo s hs hs ns ns 0 headMost 0 0
 unfolding readResponse informationalLines informationalNumbers fieldsNumbers
@@ -48,29 +49,29 @@ heads-start s hs ns =
       few = omega arith;
       stored = refl;
       numbers = refl;
-      turn = refl;
+      turn = λ t. refl;
     }
 
 module _ {s hs₀ hs hs′ ns₀ ns : List ℕ} {i left count base : ℕ} (to : HeadsTo s hs₀ hs ns₀ ns i left count base) {r : HeadRead}
-    (w : Headed (SoManyHeads count) (λ f is. run (heads (suc f) is left) i (drop i s)) s base hs hs′ r) where
+    (w : Headed (SoManyHeads count) (λ f is t. run (heads t (suc f) is left) i (drop i s)) s base hs hs′ r) where
   says : (r′ : HeadRead) → r ≡ r′
-      → HeadSays (run (heads (suc (informationalMost - count)) (to .read) left) i (drop i s)) (informationalMost - count) (to .read) s base hs hs′ r′
+      → HeadSays (λ t. run (heads t (suc (informationalMost - count)) (to .read) left) i (drop i s)) (informationalMost - count) (to .read) s base hs hs′ r′
   says r′ e =
-      subst (λ (z : HeadRead). HeadSays (run (heads (suc (informationalMost - count)) (to .read) left) i (drop i s)) (informationalMost - count) (to .read) s base hs hs′ z) e
+      subst (λ (z : HeadRead). HeadSays (λ t. run (heads t (suc (informationalMost - count)) (to .read) left) i (drop i s)) (informationalMost - count) (to .read) s base hs hs′ z) e
       (w .by (informationalMost - count) (to .read) (to .counted))
 
-  pub heads-more : (ns′ : List ℕ) → r ≡ head.More → HeadsTaken (readResponse s) s hs₀ hs′ ns₀ ns′ heads-read.More
-  heads-more ns′ e = record { says = to .turn ∙ says head.More e }
+  pub heads-more : (ns′ : List ℕ) → r ≡ head.More → HeadsTaken (λ t. readResponse t s) s hs₀ hs′ ns₀ ns′ heads-read.More
+  heads-more ns′ e = record { says = λ t. to .turn t ∙ says head.More e t }
 
-  pub heads-refused : (ns′ : List ℕ) (k p : ℕ) → r ≡ head.Refused k p → HeadsTaken (readResponse s) s hs₀ hs′ ns₀ ns′ (heads-read.Refused k p)
-  heads-refused ns′ k p e = record { says = to .turn ∙ says (head.Refused k p) e }
+  pub heads-refused : (ns′ : List ℕ) (k p : ℕ) → r ≡ head.Refused k p → HeadsTaken (λ t. readResponse t s) s hs₀ hs′ ns₀ ns′ (heads-read.Refused k p)
+  heads-refused ns′ k p e = record { says = λ t. to .turn t ∙ says (head.Refused k p) e t }
 
   -- the fields of one head more
   stored-more : {e k : ℕ} {h : Lines} → HeadStored s base hs hs′ e k h → hs′ ≡ splice hs₀ 0 (fieldsNumbers (informationalLines (to .read) ++ kept true (h .lines)))
   stored-more {h = h} q = fields-more hs₀ (informationalLines (to .read)) (kept true (h .lines)) (to .fields) (to .stored) (q .stored)
 
   module _ (n e k : ℕ) where
-    pub heads-final : (notes : Notes) → r ≡ head.Final n e k notes → HeadsTaken (readResponse s) s hs₀ hs′ ns₀ ns (heads-read.Done n e count (k - base) notes)
+    pub heads-final : (notes : Notes) → r ≡ head.Final n e k notes → HeadsTaken (λ t. readResponse t s) s hs₀ hs′ ns₀ ns (heads-read.Done n e count (k - base) notes)
     heads-final notes q =
         let d = says (head.Final n e k notes) q in
         record {
@@ -80,7 +81,7 @@ module _ {s hs₀ hs hs′ ns₀ ns : List ℕ} {i left count base : ℕ} (to : 
             record { end = d .1 .end; heads = to .counted; fields = omega (arith, d .1 .count); noted = d .2 },
             d .1 .within,
             omega (arith, d .1 .left),
-            to .turn ∙ d .3,
+            λ t. to .turn t ∙ d .3 t,
             stored-more (d .1),
             to .numbers,
           );
@@ -113,5 +114,5 @@ module _ {s hs₀ hs hs′ ns₀ ns : List ℕ} {i left count base : ℕ} (to : 
             few = omega (arith, few, to .few);
             stored = stored-more (d .1) ∙ rw (lines-snoc (to .read) x) refl;
             numbers = numbers-more ns₀ (to .read) x (to .counted) (to .numbers) f stores;
-            turn = to .turn ∙ d .4 ∙ ap (λ (m : ℕ). run (heads m (to .read ++ x ∷ []) l) e (drop e s)) g;
+            turn = λ t. to .turn t ∙ d .4 t ∙ ap (λ (m : ℕ). run (heads t m (to .read ++ x ∷ []) l) e (drop e s)) g;
           }

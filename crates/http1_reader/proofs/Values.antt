@@ -37,15 +37,15 @@ pub request-by-value : (t : Told) (s : List ℕ) {hs′ cs′ ts′ : List ℕ} 
     → readingFrom o (replicate 8 0) hs′ ts′ cs′ ≡ readingOf (readRequest t s)
 request-by-value t s h = by-value s (requested (replicate 8 0) h (λ n m e. sound-request t s n m e .1)) (λ n m e. sound-request t s n m e .0)
 
-sound-response : (s : List ℕ) (n : ℕ) (m : Message) → readResponse s ≡ accepted n m → Sound s m
-sound-response s n m e = response-sound s n m e .sound
+sound-response : (t : Told) (s : List ℕ) (n : ℕ) (m : Message) → readResponse t s ≡ accepted n m → Sound s m
+sound-response t s n m e = response-sound t s n m e .sound
 
 -- a response that was read is held
-pub response-held : (s : List ℕ) {hs hs′ ns ns′ cs cs′ ts ts′ : List ℕ} {o : Outcome} {r : Record} → Responded (readResponse s) hs hs′ ns ns′ cs cs′ ts ts′ o
-    → o ≡ outcome.Message r → 1280 ≤ length hs → 8 ≤ length ns → 512 ≤ length cs → 256 ≤ length ts → IsHeld (readResponse s) s r hs′ ns′ cs′ ts′
-response-held s h e = held s h e (sound-response s)
+pub response-held : (t : Told) (s : List ℕ) {hs hs′ ns ns′ cs cs′ ts ts′ : List ℕ} {o : Outcome} {r : Record} → Responded (readResponse t s) hs hs′ ns ns′ cs cs′ ts ts′ o
+    → o ≡ outcome.Message r → 1280 ≤ length hs → 8 ≤ length ns → 512 ≤ length cs → 256 ≤ length ts → IsHeld (readResponse t s) s r hs′ ns′ cs′ ts′
+response-held t s h e = held s h e (sound-response t s)
 
-pub response-by-value : (s : List ℕ) {hs′ ns′ cs′ ts′ : List ℕ} {o : Outcome}
-    → Responded (readResponse s) (replicate 1280 0) hs′ (replicate 8 0) ns′ (replicate 512 0) cs′ (replicate 256 0) ts′ o
-    → readingFrom o ns′ hs′ ts′ cs′ ≡ readingOf (readResponse s)
-response-by-value s h = by-value s h (sound-response s)
+pub response-by-value : (t : Told) (s : List ℕ) {hs′ ns′ cs′ ts′ : List ℕ} {o : Outcome}
+    → Responded (readResponse t s) (replicate 1280 0) hs′ (replicate 8 0) ns′ (replicate 512 0) cs′ (replicate 256 0) ts′ o
+    → readingFrom o ns′ hs′ ts′ cs′ ≡ readingOf (readResponse t s)
+response-by-value t s h = by-value s h (sound-response t s)

@@ -17,6 +17,8 @@ use Rattle.messages.specs.Rules.{authorityIn, framingOf, requestBody}
 use Rattle.messages.specs.declared.Notes.{Notes}
 use Rattle.messages.specs.Answers.{fieldsNumbers, chunksNumbers, partAt, partOf, requestRecord, recordOf}
 use Rattle.messages.specs.declared.Counts.{Counts}
+use Rattle.messages.specs.declared.StatedLength.{StatedLength}
+use Rattle.messages.specs.declared.StatedLength.the-variants.{Missing}
 use Rattle.http1.specs.Lines.{RequestRead}
 use Rattle.http1.specs.Read.{Lines, afterHead, afterRequestLine}
 use Rattle.sound.specs.Placed.{Each}
@@ -47,14 +49,15 @@ pub record RequestJudged (s : List ℕ) (end : ℕ) (notes : Notes) (r : HeadAns
 
 -- ---- requests
 
--- the counts of a message of length n: kept header fields, chunks and the octets in them, kept trailer fields
-abbrev pub countsWith : ℕ → ℕ → ℕ → ℕ → ℕ → Counts
-countsWith fields n chunks total trailers = record { headers = fields; chunks = chunks; content = total; trailers = trailers; length = n }
+-- the counts of a message of length n: kept header fields, chunks and the octets in them, kept trailer fields; and its stated length
+abbrev pub countsWith : StatedLength → ℕ → ℕ → ℕ → ℕ → ℕ → Counts
+countsWith stated fields n chunks total trailers =
+    record { headers = fields; chunks = chunks; content = total; trailers = trailers; length = n; stated = stated }
 
 -- the outcome of a request whose content was read
 abbrev pub requestOutcome : Told → ℕ → ℕ → ℕ → ℕ → ℕ → ContentRead → Outcome
 requestOutcome t method path start len fields (content.Done n k total m) =
-    outcome.Message (requestRecord (t .scheme) (partAt 0 method) (partAt start len) (partAt (method + 1) path) (countsWith fields n k total m))
+    outcome.Message (requestRecord (t .scheme) (partAt 0 method) (partAt start len) (partAt (method + 1) path) (countsWith Missing fields n k total m))
 requestOutcome t method path start len fields (content.Refused k p) = outcome.Refusal k p
 requestOutcome t method path start len fields content.More = outcome.More
 

@@ -12,6 +12,7 @@ use messages::Notes;
 use messages::Outcome;
 use messages::Part;
 use messages::Reading;
+use messages::StatedLength;
 use messages::Told;
 use messages::answers::request_record;
 use messages::parts::is_scheme;
@@ -60,6 +61,7 @@ fn request_outcome(
                 content: total,
                 trailers,
                 length: end,
+                stated: StatedLength::Missing,
             };
             let method_part = Part {
                 start: 0,

@@ -12,10 +12,13 @@ use messages::Counts;
 use messages::Notes;
 use messages::Outcome;
 use messages::Reading;
+use messages::StatedLength;
+use messages::Told;
 use messages::answers::response_record;
 use messages::parts::is_informational;
 use messages::sections::nothing_stated;
 use messages::sections::response_body;
+use messages::sections::stated_in;
 use octets::Limits;
 use octets::Refusals;
 use octets::class_table;
@@ -157,7 +160,7 @@ fn next_head(
 // number of kept fields of each informational head in `informational`.
 fn read_heads(t: &[u8; 256], s: &[u8], headers: &mut [u32], informational: &mut [u32]) -> HeadsRead
     requires { ⌜ (now t ≡ classes) × (headsRoom ≤ length (now headers)) × (informationalRoom ≤ length (now informational)) ⌝ }
-    ensures { λ r. ⌜ HeadsTaken (readResponse (now (s .entry))) (now (s .entry))
+    ensures { λ r. ⌜ HeadsTaken (λ told. readResponse told (now (s .entry))) (now (s .entry))
         (now (headers .entry)) (now (headers .exit)) (now (informational .entry)) (now (informational .exit)) r ⌝ }
 {
     let mut i: usize = 0;
@@ -198,8 +201,14 @@ fn read_heads(t: &[u8; 256], s: &[u8], headers: &mut [u32], informational: &mut 
 }
 
 // The outcome of a response whose content was read.
-fn response_outcome(read: ContentRead, status: u32, heads: usize, fields: usize) -> Outcome
-    ensures { λ r. ⌜ r ≡ responseOutcome status heads fields read ⌝ }
+fn response_outcome(
+    read: ContentRead,
+    stated: StatedLength,
+    status: u32,
+    heads: usize,
+    fields: usize,
+) -> Outcome
+    ensures { λ r. ⌜ r ≡ responseOutcome stated status heads fields read ⌝ }
 {
     match read {
         ContentRead::More => Outcome::More,
@@ -216,6 +225,7 @@ fn response_outcome(read: ContentRead, status: u32, heads: usize, fields: usize)
                 content: total,
                 trailers,
                 length: end,
+                stated,
             };
             Outcome::Message(response_record(heads, status, counts))
         }
@@ -226,6 +236,7 @@ fn response_outcome(read: ContentRead, status: u32, heads: usize, fields: usize)
 fn after_final(
     t: &[u8; 256],
     s: &[u8],
+    told: Told,
     status: u32,
     end: usize,
     heads: usize,
@@ -236,24 +247,26 @@ fn after_final(
 ) -> Outcome
     requires { ⌜ (now t ≡ classes) × (end ≤ length (now s)) × (end ≤ headMost)
         × (chunksRoom ≤ length (now chunks)) × (sectionRoom ≤ length (now trailers)) ⌝ }
-    ensures { λ r. ⌜ FinalRead (now (s .entry)) status end heads fields notes
+    ensures { λ r. ⌜ FinalRead told (now (s .entry)) status end heads fields notes
         (now (chunks .entry)) (now (chunks .exit)) (now (trailers .entry)) (now (trailers .exit)) r ⌝ }
 {
     let f = notes.framing;
-    let b = response_body(status as usize, f, end);
+    let b = response_body(told, status as usize, f, end);
     match b {
         BodyAnswer::Refused { number, place } => return Outcome::Refusal { number, place },
         BodyAnswer::Read(body) => {
             let c = read_content(t, s, end, body, chunks, trailers);
-            return response_outcome(c, status, heads, fields);
+            let stated = stated_in(told, status as usize, f);
+            return response_outcome(c, stated, status, heads, fields);
         }
     }
 }
 
-// The first response of s: its outcome, and the ranges of an accepted one in the lent space.
+// The first response of s, as told: its outcome, and the ranges of an accepted one in the lent space.
 pub fn response_in(
     t: &[u8; 256],
     s: &[u8],
+    told: Told,
     headers: &mut [u32],
     informational: &mut [u32],
     chunks: &mut [u32],
@@ -261,7 +274,7 @@ pub fn response_in(
 ) -> Outcome
     requires { ⌜ (now t ≡ classes) × (headsRoom ≤ length (now headers)) × (informationalRoom ≤ length (now informational))
         × (chunksRoom ≤ length (now chunks)) × (sectionRoom ≤ length (now trailers)) ⌝ }
-    ensures { λ r. ⌜ Responded (readResponse (now (s .entry)))
+    ensures { λ r. ⌜ Responded (readResponse told (now (s .entry)))
         (now (headers .entry)) (now (headers .exit)) (now (informational .entry)) (now (informational .exit))
         (now (chunks .entry)) (now (chunks .exit)) (now (trailers .entry)) (now (trailers .exit)) r ⌝ }
 {
@@ -275,13 +288,13 @@ pub fn response_in(
             heads,
             kept,
             notes,
-        } => return after_final(t, s, status, end, heads, kept, notes, chunks, trailers),
+        } => return after_final(t, s, told, status, end, heads, kept, notes, chunks, trailers),
     }
 }
 
-// The first response of a stream: its answer by value.
-pub fn read_response(input: &[u8]) -> Reading
-    ensures { λ r. ⌜ r ≡ readingOf (readResponse (now (input .entry))) ⌝ }
+// The first response of a stream, as told: its answer by value.
+pub fn read_response(input: &[u8], told: Told) -> Reading
+    ensures { λ r. ⌜ r ≡ readingOf (readResponse told (now (input .entry))) ⌝ }
 {
     let t = class_table();
     let mut informational = [0u32; 8];
@@ -291,6 +304,7 @@ pub fn read_response(input: &[u8]) -> Reading
     let o = response_in(
         &t,
         input,
+        told,
         &mut headers,
         &mut informational,
         &mut chunks,

@@ -71,17 +71,18 @@ module _ (t : Told) where
 
 -- ---- responses
 
-pub response-stays : Stable readResponse
-unfolding readResponse
-response-stays s u h = stable (heads (suc informationalMost) [] headMost) 0 s u h
+module _ (t : Told) where
+  pub response-stays : Stable (readResponse t)
+  unfolding readResponse
+  response-stays s u h = stable (heads t (suc informationalMost) [] headMost) 0 s u h
 
-heads-within : (f : ℕ) (s : List ℕ) (n : ℕ) (m : Message) → run (heads (suc f) [] headMost) 0 s ≡ accepted n m → (0 < n) × (n ≤ length s)
-unfolding heads _>>=_
-heads-within f s n m e = let h = line-accepted _ _ _ _ 0 s n m e in (omega arith, omega arith)
+  heads-within : (f : ℕ) (s : List ℕ) (n : ℕ) (m : Message) → run (heads t (suc f) [] headMost) 0 s ≡ accepted n m → (0 < n) × (n ≤ length s)
+  unfolding heads _>>=_
+  heads-within f s n m e = let h = line-accepted _ _ _ _ 0 s n m e in (omega arith, omega arith)
 
-pub response-within : Within readResponse
-unfolding readResponse
-response-within s n m e = heads-within informationalMost s n m e
+  pub response-within : Within (readResponse t)
+  unfolding readResponse
+  response-within s n m e = heads-within informationalMost s n m e
 
-pub response-front : Front readResponse
-response-front = front readResponse response-within response-stays
+  pub response-front : Front (readResponse t)
+  response-front = front (readResponse t) response-within response-stays

@@ -26,7 +26,7 @@ line-at s l f e y = go (fieldLens (l .text)) refl e
     go : (x : FieldLine) → fieldLens (l .text) ≡ x → onField l x ≡ good f → LineAt s f
     go (field.Of n b k) q g =
         let v = field-view (l .text) n b k q in
-        let r : FieldRead = record { name = piece (l .place) (take n (l .text)); value = piece (l .place + b) (take k (drop b (l .text))) } in
+        let r : FieldRead = record { name = piece (l .place) (take n (l .text)); value = piece (l .place + b) (take k (drop b (l .text))); place = l .place } in
         let z : r ≡ f = cc in
         let x : LineAt s r = record {
           lies = record { name = lies-front n y; value = lies-from b k (omega (arith, v .within)) y };

@@ -217,18 +217,18 @@ module _ {s : List ℕ} where
 
   -- ---- responses
 
-  stops-final : {at : ℕ} (hs : List InformationalRead) (n : ℕ) (h : Lines) → SectionIn s h → Refusing s (λ n m. Unit {0}) at (afterFinal hs n h)
+  stops-final : {at : ℕ} (t : Told) (hs : List InformationalRead) (n : ℕ) (h : Lines) → SectionIn s h → Refusing s (λ n m. Unit {0}) at (afterFinal t hs n h)
   unfolding afterFinal
-  stops-final hs n h k =
-      stops-judged (λ x. Unit {0}) (responseBody n (h .end) (framingOf (h .lines))) _
-      (response-judged http1Last s wide (h .end) (k .end) n (framingOf (h .lines)) (framing-in (length s) (h .lines) (k .lines))) λ v c.
+  stops-final t hs n h k =
+      stops-judged (λ x. Unit {0}) (responseBody t n (h .end) (framingOf (h .lines))) _
+      (response-judged http1Last s wide (h .end) (k .end) t n (framingOf (h .lines)) (framing-in (length s) (h .lines) (k .lines))) λ v c.
       stops-then _ (stops-content v) λ j d z.
       stops-done tt
 
-  stops-heads : (f : ℕ) {at : ℕ} (hs : List InformationalRead) (left : ℕ) → Refusing s (λ n m. Unit {0}) at (heads f hs left)
+  stops-heads : (t : Told) (f : ℕ) {at : ℕ} (hs : List InformationalRead) (left : ℕ) → Refusing s (λ n m. Unit {0}) at (heads t f hs left)
   unfolding heads
-  stops-heads zero hs left = stops-stop (too-large (omega arith))
-  stops-heads (suc f) {at} hs left =
+  stops-heads t zero hs left = stops-stop (too-large (omega arith))
+  stops-heads t (suc f) {at} hs left =
       stops-bind _ (stops-word (lineWithin left) (line-refuses left) λ w g i.
       let j : at ≤ length s = omega arith in
       stops-judged (λ x. Unit {0}) (statusOf (piece at w)) _ (status-line s (piece at w) j) λ n a.
@@ -237,8 +237,8 @@ module _ {s : List ℕ} where
       stops-if (leb informationalMost (length hs)) (λ c. stops-stop (too-large j)) λ c.
       stops-then _ (stops-section (less left (piece at w))) λ m h k.
       stops-judged (λ x. Unit {0}) (nothingStated (h .end) (framingOf (h .lines))) _ (nothing-judged http1Last s wide (h .end) (k .end) (framingOf (h .lines))) λ u d.
-      stops-heads f _ _)
-      (λ b. stops-then _ (stops-section (less left (piece at w))) λ m h k. stops-final hs n h k))
+      stops-heads t f _ _)
+      (λ b. stops-then _ (stops-section (less left (piece at w))) λ m h k. stops-final t hs n h k))
 
 -- ---- both readers
 
@@ -255,4 +255,5 @@ request-refused t s n p e = on (isScheme (t .scheme)) e
 
 pub response-refused : ResponsesRefused
 unfolding readResponse
-response-refused s n p e = stops-all (λ i m. Unit {0}) (heads (suc informationalMost) [] headMost) n p (stops-heads (suc informationalMost) [] headMost) e
+response-refused t s n p e =
+    stops-all (λ i m. Unit {0}) (heads t (suc informationalMost) [] headMost) n p (stops-heads t (suc informationalMost) [] headMost) e

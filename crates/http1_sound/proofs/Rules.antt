@@ -1,29 +1,32 @@
 -- What the rules on host and lengths leave through.
-use Prim.Native.Nat.{ℕ, _≤_}
+use Prim.Native.Nat.{ℕ, _<_, _≤_}
 use mathlib.Core.Path.{_≡_, refl, sym, subst}
-use mathlib.Core.Bool.{Bool, true, false, cond, not}
+use mathlib.Core.Bool.{Bool, true, false, cond}
 use mathlib.Core.List.{List, [], map}
 use native.Mathlib.Omega.{arith}
 use borrow.Author.Tests.{eq-eqb, leb-true}
-use lib.Dec.{leb}
+use lib.Dec.{leb, eqb}
 use lib.ListN.{length}
-use Rattle.octets.specs.Limits.{contentMost}
+use Rattle.octets.specs.Limits.{linesMost, contentMost}
 use Rattle.octets.specs.Refusals.{tooLarge}
 use Rattle.octets.specs.Text.{isEmpty}
 use Rattle.script.specs.Do.{Piece, piece, good, wrong}
 use Rattle.messages.specs.Message.{FieldRead}
-use Rattle.messages.specs.Control.{isBodyless}
+use Rattle.messages.specs.Control.{endsAtHead}
 use Rattle.messages.specs.Names.{kept, keptTrailers}
-use Rattle.messages.specs.Rules.{authorityIn, requestBody, nothingStated, contentBody, responseBody, agrees}
-use Rattle.messages.specs.Meaning.{fieldMeans, contentOf}
-use Rattle.messages.specs.Valid.{validBody}
+use Rattle.messages.specs.Rules.{authorityIn, requestBody, bodylessRule, contentBody, responseBody, lengthIn, agrees}
+use Rattle.messages.specs.Notes.{isClashing}
+use Rattle.messages.specs.Meaning.{Informational, response, Meaning, fieldMeans, contentOf}
+use Rattle.messages.specs.Valid.{validBody, validStated}
 use Rattle.messages.specs.declared.Body.{Body}
 use Rattle.messages.specs.declared.Body.the-variants.{Sized, InChunks}
 use Rattle.messages.specs.declared.Framing.{Framing}
 use Rattle.messages.specs.declared.Framing.the-variants.{Unstated, Stated, Chunked, Clashing}
 use Rattle.messages.specs.declared.Kind.the-variants as kind
+use Rattle.messages.specs.declared.Told.{Told}
 use Rattle.http1.specs.Read.{Content}
-use Rattle.sound.proofs.Rules.{HostIs, authority-is, nothing-stated}
+use Rattle.sound.proofs.Rules.{HostIs, authority-is}
+use Rattle.sound.proofs.Stated.{bodyless, content-not-204}
 
 -- ---- host
 
@@ -76,29 +79,57 @@ content-framed end (Stated n p) b e = request-framed end (Stated n p) b e
 content-framed end Chunked b e = request-framed end Chunked b e
 content-framed end Clashing b e = request-framed end Clashing b e
 
--- nothing is stated, and there is no content
-none-framed : (end : ℕ) (f : Framing) (b : Body) → nothingStated end f ≡ good b → Framed f b × (b ≡ Sized 0)
-none-framed end f b e =
-    let h = nothing-stated end f b e in
-    let x : Framed Unstated (Sized 0) = record { fits = omega arith; stated = λ c g. refl } in
-    (rw (h .0, h .1) x, h .1)
-
 -- content without octets and trailers is valid of any head
 empty-body : (t : Bool) (c : Content) → Fills (Sized 0) c → validBody t (contentOf (c .chunks)) (map fieldMeans (keptTrailers (c .trailers))) ≡ true
 unfolding validBody isEmpty keptTrailers kept
 empty-body true c h = refl
 empty-body false c h = rw (eq-eqb (length (contentOf (c .chunks))) 0 (h .0), h .1)
 
-pub record ResponseFramed (n : ℕ) (f : Framing) (b : Body) : Type 0 where
-  pub framed : Framed f b
-  pub body : (c : Content) → Fills b c → validBody (not (isBodyless n)) (contentOf (c .chunks)) (map fieldMeans (keptTrailers (c .trailers))) ≡ true
+-- a body that the rule of responses lets through, told t, behind the head of a status n
+pub record ResponseFramed (t : Told) (n : ℕ) (f : Framing) (b : Body) : Type 0 where
+  pub fits : Fits b
+  pub once : isClashing f ≡ false
+  pub none : eqb n 204 ≡ true → f ≡ Unstated
+  -- where the response ends at its head there is nothing
+  pub empty : endsAtHead t n ≡ true → (body : Bool) (c : Content) → Fills b c
+      → validBody body (contentOf (c .chunks)) (map fieldMeans (keptTrailers (c .trailers))) ≡ true
+  pub valid : endsAtHead t n ≡ true → (hs : List Informational) (w : Meaning) → w .control ≡ response hs n → validBody false (w .content) (w .trailers) ≡ true
+      → ((k p : ℕ) → f ≡ Stated k p → length (w .headers) < linesMost) → validStated (lengthIn f) w ≡ true
+  -- elsewhere the content is as long as the head states
+  pub stated : endsAtHead t n ≡ false → (c : Content) → Fills b c → agrees f (length (contentOf (c .chunks))) ≡ true
 
-pub response-framed : (n end : ℕ) (f : Framing) (b : Body) → responseBody n end f ≡ good b → ResponseFramed n f b
-unfolding responseBody validBody
-response-framed n end f b e = go (isBodyless n) refl e
+content-once : (end : ℕ) (f : Framing) (b : Body) → contentBody end f ≡ good b → isClashing f ≡ false
+unfolding contentBody requestBody
+content-once end Unstated b e = refl
+content-once end (Stated n p) b e = refl
+content-once end Chunked b e = refl
+content-once end Clashing b e = let z : _≡_ {A = ℕ} 0 1 = cc in absurd (omega arith)
+
+no-both : {A : Type 0} {x : Bool} → x ≡ true → x ≡ false → A
+no-both p q = let z : _≡_ {A = ℕ} 0 1 = cc in absurd (omega arith)
+
+pub response-framed : (t : Told) (n end : ℕ) (f : Framing) (b : Body) → responseBody t n end f ≡ good b → ResponseFramed t n f b
+unfolding responseBody
+response-framed t n end f b e = go (endsAtHead t n) refl e
   where
-    go : (t : Bool) → isBodyless n ≡ t → cond t (nothingStated end f) (contentBody end f) ≡ good b → ResponseFramed n f b
+    go : (x : Bool) → endsAtHead t n ≡ x → cond x (bodylessRule t n end f) (contentBody end f) ≡ good b → ResponseFramed t n f b
     go true q g =
-        let h = none-framed end f b g in
-        record { framed = h .0; body = λ c x. empty-body (not (isBodyless n)) c (rw (h .1) at x) }
-    go false q g = record { framed = content-framed end f b g; body = λ c x. rw q }
+        let h = bodyless t n end f b g in
+        record {
+          fits = rw (h .empty) (omega arith);
+          once = h .once;
+          none = h .none;
+          empty = λ o body c x. empty-body body c (rw (h .empty) at x);
+          valid = λ o. h .valid;
+          stated = λ o. no-both q o;
+        }
+    go false q g =
+        let h = content-framed end f b g in
+        record {
+          fits = h .fits;
+          once = content-once end f b g;
+          none = content-not-204 t n q f;
+          empty = λ o. no-both o q;
+          valid = λ o. no-both o q;
+          stated = λ o. h .stated;
+        }

@@ -1,31 +1,36 @@
 -- What the two readers of HTTP/1.1 accept is sound.
 use Prim.Native.Nat.{ℕ, zero, suc, _≤_}
-use mathlib.Core.Path.{_≡_, refl}
-use mathlib.Core.Bool.{Bool, true, false, cond}
-use mathlib.Core.List.{List, [], _∷_, _++_}
+use mathlib.Core.Path.{_≡_, refl, ap, _∙_}
+use mathlib.Core.Bool.{Bool, true, false, cond, not}
+use mathlib.Core.List.{List, [], _∷_, _++_, map}
 use native.Mathlib.Omega.{arith}
 use borrow.Author.Tests.{leb-false}
 use lib.Dec.{leb}
-use lib.ListN.{length}
-use Rattle.octets.specs.Limits.{headMost, informationalMost}
+use lib.ListN.{length, length-map}
+use Rattle.octets.specs.Limits.{headMost, linesMost, informationalMost}
 use Rattle.octets.specs.Refusals.{notSupported, tooLarge}
 use Rattle.script.specs.Script.{accepted, refused, Script, stop, run, Every}
 use Rattle.script.specs.Do.{_>>=_, Piece, piece, word, tell, good}
 use Rattle.script.proofs.Do.{every-bind, every-tell, every-then}
 use Rattle.script.proofs.Sound.{says, sound-all}
+use Rattle.messages.specs.Told.{withHead}
 use Rattle.messages.specs.declared.Told.{Told}
-use Rattle.messages.specs.Message.{InformationalRead, requestStart, responseStart, Message, plainMessage}
-use Rattle.messages.specs.Control.{statusVerdict, isInformational}
-use Rattle.messages.specs.Rules.{authorityIn, framingOf, requestBody, nothingStated, responseBody}
-use Rattle.messages.specs.Valid.{isScheme, validBody}
+use Rattle.messages.specs.Message.{InformationalRead, requestStart, responseStart, Message, plainMessage, statingMessage}
+use Rattle.messages.specs.Control.{statusVerdict, isInformational, isBodyless, endsAtHead}
+use Rattle.messages.specs.Names.{kept, keptTrailers}
+use Rattle.messages.specs.Rules.{authorityIn, framingOf, requestBody, nothingStated, responseBody, lengthIn, statedIn}
+use Rattle.messages.specs.Meaning.{fieldMeans, contentOf, meaning}
+use Rattle.messages.specs.Valid.{isScheme, validBody, validStated, suits}
 use Rattle.messages.specs.declared.Body.{Body}
+use Rattle.messages.specs.declared.StatedLength.{StatedLength}
 use Rattle.messages.specs.declared.Kind.the-variants as kind
 use Rattle.http1.specs.Lines.{RequestRead, requestOf, statusOf}
 use Rattle.http1.specs.Read.{lineWithin, less, Lines, section, Content, content, afterHead, request, readRequest, afterFinal, heads, readResponse}
-use Rattle.sound.specs.Sound.{Sound, LengthAgrees}
+use Rattle.sound.specs.Sound.{Sound, StatesLength}
 use Rattle.http1_sound.specs.Read.{IsRequest, IsResponse, SoundRequest, RequestsSound, ResponsesSound, Http1Reads}
 use Rattle.sound.proofs.Parts.{SectionAt, request-valid, HeadsAt, head-at, heads-none, heads-snoc, heads-lie, heads-good, response-valid, PartsAt, parts-sound}
 use Rattle.sound.proofs.Rules.{HostIs, host-lies}
+use Rattle.sound.proofs.Stated.{stated-few, content-status, none-stated}
 use Rattle.http1_sound.proofs.Rules.{host-is, Fills, request-framed, ResponseFramed, response-framed}
 use Rattle.http1_sound.proofs.Lines.{RequestAt, request-at, status-good}
 use Rattle.http1_sound.proofs.Sections.{every-section, ContentAt, every-content}
@@ -42,6 +47,7 @@ unfolding validBody
 request-parts s t q a h c e r k p x = record {
   control = request-valid (q .method .text) (a .text) (q .path .text) (t .scheme) (r .methodGood) e (p .good) (r .pathGood);
   body = refl;
+  stated = none-stated _;
   start = (r .method, host-lies s (h .lines) a k p, r .path);
   heads = tt;
   lines = k;
@@ -54,10 +60,11 @@ request-parts s t q a h c e r k p x = record {
 record RequestEnd (t : Told) (s : List ℕ) (m : Message) : Type 0 where
   sound : Sound s m
   request : IsRequest t (m .lines) (m .start)
-  stated : LengthAgrees (framingOf (m .lines)) m
+  suits : suits t (meaning m) ≡ true
+  stated : StatesLength t (m .start) (framingOf (m .lines)) m
 
 every-request : (s : List ℕ) (t : Told) (at : ℕ) → isScheme (t .scheme) ≡ true → Every s (λ n m. RequestEnd t s m) at (request t)
-unfolding request afterHead
+unfolding request afterHead suits meaning
 every-request s t at sc =
     every-bind s _ at (word (lineWithin headMost)) _ λ w g y.
     every-bind s _ _ (tell (requestOf (piece at w))) _ (every-tell s _ _ (requestOf (piece at w)) λ q e.
@@ -70,7 +77,8 @@ every-request s t at sc =
     record {
       sound = parts-sound s (requestMessage t q a h c) (request-parts s t q a h c sc (request-at s (piece at w) q e y) k o (x .0));
       request = (refl, o .line, o .one, o .same);
-      stated = f .stated c (x .1);
+      suits = refl;
+      stated = (f .stated c (x .1), refl);
     })))
 
 pub request-sound : RequestsSound
@@ -81,20 +89,43 @@ request-sound t s n m e = go (isScheme (t .scheme)) refl e
     go true q g =
         let h = says (λ i x. RequestEnd t s x × (i ≤ length s)) (sound-all (λ i x. RequestEnd t s x) (request t) s (every-request s t 0 q)) g in
         let w = request-within t s n m e in
-        record { sound = h .0 .sound; request = h .0 .request; stated = h .0 .stated; some = w .0; within = w .1 }
+        record { sound = h .0 .sound; request = h .0 .request; suits = h .0 .suits; stated = h .0 .stated; some = w .0; within = w .1 }
     go false q g = let z : _≡_ {A = ℕ} 0 1 = cc in absurd (omega arith)
 
 -- ---- responses
 
-abbrev responseMessage : List InformationalRead → ℕ → Lines → Content → Message
-responseMessage hs n h c = plainMessage (responseStart hs n) (h .lines) (c .chunks) (c .trailers)
+abbrev responseMessage : Told → List InformationalRead → ℕ → Lines → Content → Message
+responseMessage t hs n h c = statingMessage (statedIn t n (framingOf (h .lines))) (responseStart hs n) (h .lines) (c .chunks) (c .trailers)
 
-response-parts : (s : List ℕ) (hs : List InformationalRead) (n : ℕ) (h : Lines) (b : Body) (c : Content) → HeadsAt s hs → statusVerdict n ≡ 0
-    → isInformational n ≡ false → SectionAt s (h .lines) → ResponseFramed n (framingOf (h .lines)) b → ContentAt s c → Fills b c
-    → PartsAt s (responseMessage hs n h c)
-response-parts s hs n h b c a v i k f x y = record {
+-- a body as its status has it, and as it suits what is told; and a stated length that is valid
+record ResponseTail (t : Told) (hs : List InformationalRead) (n : ℕ) (h : Lines) (c : Content) : Type 0 where
+  body : validBody (not (isBodyless n)) (contentOf (c .chunks)) (map fieldMeans (keptTrailers (c .trailers))) ≡ true
+  suits : suits t (meaning (responseMessage t hs n h c)) ≡ true
+  valid : validStated (statedIn t n (framingOf (h .lines))) (meaning (responseMessage t hs n h c)) ≡ true
+
+response-tail : (t : Told) (hs : List InformationalRead) (n : ℕ) (h : Lines) (b : Body) (c : Content) → length (h .lines) ≤ linesMost
+    → ResponseFramed t n (framingOf (h .lines)) b → Fills b c → ResponseTail t hs n h c
+unfolding suits meaning statedIn validBody
+response-tail t hs n h b c few f y = go (endsAtHead t n) refl
+  where
+    go : (x : Bool) → endsAtHead t n ≡ x → ResponseTail t hs n h c
+    go true q = record {
+      body = f .empty q (not (isBodyless n)) c y;
+      suits = rw q (f .empty q false c y);
+      valid =
+          let z : statedIn t n (framingOf (h .lines)) ≡ lengthIn (framingOf (h .lines)) = rw q in
+          ap (λ (x : StatedLength). validStated x (meaning (responseMessage t hs n h c))) z
+          ∙ f .valid q _ (meaning (responseMessage t hs n h c)) refl (f .empty q false c y) λ k p e.
+          rw (length-map (kept true (h .lines)) fieldMeans) (stated-few true (h .lines) few k p e);
+    }
+    go false q = record { body = rw (content-status t n q); suits = rw q; valid = rw q (none-stated _) }
+
+response-parts : (s : List ℕ) (t : Told) (hs : List InformationalRead) (n : ℕ) (h : Lines) (c : Content) → HeadsAt s hs → statusVerdict n ≡ 0
+    → isInformational n ≡ false → SectionAt s (h .lines) → ContentAt s c → ResponseTail t hs n h c → PartsAt s (responseMessage t hs n h c)
+response-parts s t hs n h c a v i k x y = record {
   control = response-valid s hs n a v i;
-  body = f .body c y;
+  body = y .body;
+  stated = y .valid;
   start = heads-lie s hs a;
   heads = heads-good s hs a;
   lines = k;
@@ -104,40 +135,43 @@ response-parts s hs n h b c a v i k f x y = record {
 }
 
 -- what is known of each response at its end
-record ResponseEnd (s : List ℕ) (m : Message) : Type 0 where
+record ResponseEnd (t : Told) (s : List ℕ) (m : Message) : Type 0 where
   sound : Sound s m
   response : IsResponse (m .start)
-  stated : LengthAgrees (framingOf (m .lines)) m
+  suits : suits t (meaning m) ≡ true
+  stated : StatesLength t (m .start) (framingOf (m .lines)) m
 
-every-final : (s : List ℕ) (at : ℕ) (hs : List InformationalRead) (n : ℕ) (h : Lines) → HeadsAt s hs → statusVerdict n ≡ 0 → isInformational n ≡ false
-    → SectionAt s (h .lines) → Every s (λ i m. ResponseEnd s m) at (afterFinal hs n h)
+every-final : (s : List ℕ) (t : Told) (at : ℕ) (hs : List InformationalRead) (n : ℕ) (h : Lines) → HeadsAt s hs → statusVerdict n ≡ 0 → isInformational n ≡ false
+    → SectionAt s (h .lines) → Every s (λ i m. ResponseEnd t s m) at (afterFinal t hs n h)
 unfolding afterFinal
-every-final s at hs n h a v i k =
-    every-bind s _ at (tell (responseBody n (h .end) (framingOf (h .lines)))) _ (every-tell s _ _ (responseBody n (h .end) (framingOf (h .lines))) λ b r.
-    let f = response-framed n (h .end) (framingOf (h .lines)) b r in
-    every-then s (λ j c. ContentAt s c × Fills b c) _ _ (content b) _ (every-content s b _ (f .framed .fits)) λ j c x.
+every-final s t at hs n h a v i k =
+    every-bind s _ at (tell (responseBody t n (h .end) (framingOf (h .lines)))) _ (every-tell s _ _ (responseBody t n (h .end) (framingOf (h .lines))) λ b r.
+    let f = response-framed t n (h .end) (framingOf (h .lines)) b r in
+    every-then s (λ j c. ContentAt s c × Fills b c) _ _ (content b) _ (every-content s b _ (f .fits)) λ j c x.
+    let y = response-tail t hs n h b c (k .few) f (x .1) in
     record {
-      sound = parts-sound s (responseMessage hs n h c) (response-parts s hs n h b c a v i k f (x .0) (x .1));
+      sound = parts-sound s (responseMessage t hs n h c) (response-parts s t hs n h c a v i k (x .0) y);
       response = tt;
-      stated = f .framed .stated c (x .1);
+      suits = y .suits;
+      stated = record { once = f .once; none = f .none; stated = refl; agrees = λ o. f .stated o c (x .1) };
     })
 
-every-heads : (s : List ℕ) (f at : ℕ) (hs : List InformationalRead) (left : ℕ) → HeadsAt s hs → Every s (λ i m. ResponseEnd s m) at (heads f hs left)
+every-heads : (s : List ℕ) (t : Told) (f at : ℕ) (hs : List InformationalRead) (left : ℕ) → HeadsAt s hs → Every s (λ i m. ResponseEnd t s m) at (heads t f hs left)
 unfolding heads
-every-heads s zero at hs left a = tt
-every-heads s (suc f) at hs left a =
+every-heads s t zero at hs left a = tt
+every-heads s t (suc f) at hs left a =
     every-bind s _ at (word (lineWithin left)) _ λ w g y.
     every-bind s _ _ (tell (statusOf (piece at w))) _ (every-tell s _ _ (statusOf (piece at w)) λ n e.
     pick (less left (piece at w)) _ n (status-good (piece at w) n e) (isInformational n) refl (leb informationalMost (length hs)) refl
-    (λ i h l b. every-heads s f i (hs ++ h ∷ []) l b))
+    (λ i h l b. every-heads s t f i (hs ++ h ∷ []) l b))
   where
     pick : (l i n : ℕ) → statusVerdict n ≡ 0 → (b : Bool) → isInformational n ≡ b → (c : Bool) → leb informationalMost (length hs) ≡ c
-        → ((j : ℕ) (h : InformationalRead) (k : ℕ) → HeadsAt s (hs ++ h ∷ []) → Every s (λ z m. ResponseEnd s m) j (heads f (hs ++ h ∷ []) k))
-        → Every s (λ z m. ResponseEnd s m) i
+        → ((j : ℕ) (h : InformationalRead) (k : ℕ) → HeadsAt s (hs ++ h ∷ []) → Every s (λ z m. ResponseEnd t s m) j (heads t f (hs ++ h ∷ []) k))
+        → Every s (λ z m. ResponseEnd t s m) i
         (cond b
         (cond c (stop tooLarge at)
-        (section l >>= λ h. tell (nothingStated (h .end) (framingOf (h .lines))) >>= λ u. heads f (hs ++ record { status = n; lines = h .lines } ∷ []) (h .left)))
-        (section l >>= λ h. afterFinal hs n h))
+        (section l >>= λ h. tell (nothingStated (h .end) (framingOf (h .lines))) >>= λ u. heads t f (hs ++ record { status = n; lines = h .lines } ∷ []) (h .left)))
+        (section l >>= λ h. afterFinal t hs n h))
     pick l i n v true p true q ih = tt
     pick l i n v true p false q ih =
         every-then s (λ j h. SectionAt s (h .lines)) _ i (section l) _ (every-section s l i) λ j h k.
@@ -145,15 +179,26 @@ every-heads s (suc f) at hs left a =
         ih _ _ _ (heads-snoc s hs _ a (head-at s n (h .lines) v p k) (leb-false informationalMost (length hs) q)))
     pick l i n v false p c q ih =
         every-then s (λ j h. SectionAt s (h .lines)) _ i (section l) _ (every-section s l i) λ j h k.
-        every-final s j hs n h a v p k
+        every-final s t j hs n h a v p k
 
 pub response-sound : ResponsesSound
 unfolding readResponse
-response-sound s n m e =
-    let sc : Script Message = heads (suc informationalMost) [] headMost in
-    let h = says (λ i x. ResponseEnd s x × (i ≤ length s)) (sound-all (λ i x. ResponseEnd s x) sc s (every-heads s (suc informationalMost) 0 [] headMost (heads-none s))) e in
-    let w = response-within s n m e in
-    record { sound = h .0 .sound; response = h .0 .response; stated = h .0 .stated; some = w .0; within = w .1 }
+response-sound t s n m e =
+    let sc : Script Message = heads t (suc informationalMost) [] headMost in
+    let h = says (λ i x. ResponseEnd t s x × (i ≤ length s)) (sound-all (λ i x. ResponseEnd t s x) sc s (every-heads s t (suc informationalMost) 0 [] headMost (heads-none s))) e in
+    let w = response-within t s n m e in
+    record { sound = h .0 .sound; response = h .0 .response; suits = h .0 .suits; stated = h .0 .stated; some = w .0; within = w .1 }
+
+-- a request does not look at whether a message answers a HEAD
+pub request-head-unused : (t : Told) (h : ℕ) (s : List ℕ) → readRequest (withHead h t) s ≡ readRequest t s
+unfolding readRequest request afterHead
+request-head-unused t h s = refl
 
 pub http1-reads : Http1Reads
-http1-reads = record { requests = request-front; responses = response-front; requestsSound = request-sound; responsesSound = response-sound }
+http1-reads = record {
+  requests = request-front;
+  responses = response-front;
+  requestsSound = request-sound;
+  responsesSound = response-sound;
+  headUnused = request-head-unused;
+}

@@ -12,32 +12,34 @@ use Rattle.octets.specs.Ascii.{ascii}
 use Rattle.numbers.specs.Digits.{digits, countOf}
 use Rattle.numbers.proofs.DigitLaws.{digits-length}
 use Rattle.messages.specs.declared.Record.{Record}
-use Rattle.messages.specs.Control.{isBodyless}
-use Rattle.http1_writer.specs.Write.{crlf, fieldText, lengthField, codingField}
+use Rattle.messages.specs.Control.{endsAtHead}
+use Rattle.messages.specs.Meaning.{lengthField}
+use Rattle.messages.specs.declared.Told.{Told}
+use Rattle.http1_writer.specs.Write.{crlf, fieldText, codingField, statedLine}
 use Rattle.http1_writer.specs.Numbered.{unmeasuredIn, lengthLineIn, linesText, lengthText, lengthSize, lengthCount}
 use Rattle.http1_writer.specs.declared.LengthLine.{LengthLine}
 use Rattle.http1_writer.specs.declared.LengthLine.the-variants.{Nothing, Length, Chunked}
 
--- whether there is one
-pub unmeasured-response : (r : Record) → r .response ≡ true → isBodyless (r .status) ≡ unmeasuredIn r
-unfolding unmeasuredIn
-unmeasured-response r e = rw e
+module _ (t : Told) (r : Record) where
+  -- whether it says how long the content is
+  pub unmeasured-response : r .response ≡ true → endsAtHead t (r .status) ≡ unmeasuredIn t r
+  unfolding unmeasuredIn
+  unmeasured-response e = rw e
 
-pub unmeasured-request : (r : Record) → r .response ≡ false → eqb (r .content) 0 ≡ unmeasuredIn r
-unfolding unmeasuredIn
-unmeasured-request r e = rw e
+  pub unmeasured-request : r .response ≡ false → eqb (r .content) 0 ≡ unmeasuredIn t r
+  unfolding unmeasuredIn
+  unmeasured-request e = rw e
 
--- which it is
-module _ (r : Record) where
-  pub line-none : r .trailers ≡ 0 → unmeasuredIn r ≡ true → Nothing ≡ lengthLineIn r
+  -- which it is
+  pub line-stated : r .trailers ≡ 0 → unmeasuredIn t r ≡ true → statedLine (r .stated) ≡ lengthLineIn t r
   unfolding lengthLineIn unmeasuredIn
-  line-none z u = rw (z, u)
+  line-stated z u = rw (z, u)
 
-  pub line-length : r .trailers ≡ 0 → unmeasuredIn r ≡ false → Length (r .content) ≡ lengthLineIn r
+  pub line-length : r .trailers ≡ 0 → unmeasuredIn t r ≡ false → Length (r .content) ≡ lengthLineIn t r
   unfolding lengthLineIn unmeasuredIn
   line-length z u = rw (z, u)
 
-  pub line-chunked : (r .trailers ≡ 0 → ⊥) → Chunked ≡ lengthLineIn r
+  pub line-chunked : (r .trailers ≡ 0 → ⊥) → Chunked ≡ lengthLineIn t r
   unfolding lengthLineIn
   line-chunked z = rw (ne-eqb (r .trailers) 0 z)
 

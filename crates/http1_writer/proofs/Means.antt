@@ -15,14 +15,15 @@ use Rattle.numbers.proofs.DigitLaws.{digits-length}
 use Rattle.output.specs.Reply.{writes, refuses}
 use Rattle.output.proofs.Laws.{elements-length}
 use Rattle.messages.specs.declared.Record.{Record}
-use Rattle.messages.specs.Control.{isBodyless}
+use Rattle.messages.specs.Control.{endsAtHead}
 use Rattle.messages.specs.Meaning.{Field, contentOf}
 use Rattle.messages.specs.Valid.{noFields}
 use Rattle.ranges.specs.Entries.{fieldsIn, chunksIn, headsIn, partIn, controlIn, fieldsBefore, meaningIn, fieldsNamed}
+use Rattle.messages.specs.declared.StatedLength.{StatedLength}
 use Rattle.messages.specs.declared.Told.{Told}
 use Rattle.http1_writer.specs.declared.LengthLine.{LengthLine}
 use Rattle.http1_writer.specs.Write.{fieldText, sectionText, requestLine, statusLine, informationalText, hostField, unmeasured, lineFor, lengthLine, lengthFields, hostLine, headLines, startText, headText, bodyText, http1Of, http1Fits, onConnection, toHttp1}
-use Rattle.http1_writer.specs.Numbered.{headsSize, statusSize, requestSize, hostSize, unmeasuredIn, lengthLineIn, linesText, lengthText, lengthSize, lengthCount, leadTextIn, leadSize, headTextIn, headSize, headCount, trailersFit, fitsIn, connectedIn}
+use Rattle.http1_writer.specs.Numbered.{headsSize, statusSize, requestSize, hostSize, unmeasuredIn, lengthLineIn, linesText, lengthText, lengthSize, lengthCount, leadTextIn, leadSize, headTextIn, headSize, messageTextIn, headCount, trailersFit, fitsIn, connectedIn}
 use Rattle.http1_writer.proofs.Turns.{section-length, heads-length}
 
 -- lines before a section
@@ -44,15 +45,15 @@ module _ (s fs : List ℕ) where
 
 -- ---- the head
 
-lines-same : {a a′ b b′ : Bool} {n n′ : ℕ} → a ≡ a′ → b ≡ b′ → n ≡ n′ → lineFor a b n ≡ lineFor a′ b′ n′
-lines-same p q e = cc
+lines-same : {a a′ b b′ : Bool} (x : StatedLength) {n n′ : ℕ} → a ≡ a′ → b ≡ b′ → n ≡ n′ → lineFor a b x n ≡ lineFor a′ b′ x n′
+lines-same x p q e = cc
 
 module _ (s : List ℕ) (r : Record) (hs ns : List ℕ) where
-  unmeasured-means : (b : Bool) (content : List ℕ) → length content ≡ r .content
-      → unmeasured (controlIn b s r hs ns) content ≡ cond b (isBodyless (r .status)) (eqb (r .content) 0)
+  unmeasured-means : (t : Told) (b : Bool) (content : List ℕ) → length content ≡ r .content
+      → unmeasured t (controlIn b s r hs ns) content ≡ cond b (endsAtHead t (r .status)) (eqb (r .content) 0)
   unfolding isEmpty
-  unmeasured-means true content e = refl
-  unmeasured-means false content e = rw e
+  unmeasured-means t true content e = refl
+  unmeasured-means t false content e = rw e
 
   head-with : (b : Bool) (l h : List Field)
       → startText (controlIn b s r hs ns) ++ sectionText (hostLine (controlIn b s r hs ns) ++ l ++ h)
@@ -104,15 +105,16 @@ to-same : {a a′ b b′ : Bool} (w : List ℕ) → a ≡ a′ → b ≡ b′
     → cond a (cond b (writes w) (refuses tooLarge 0)) (refuses otherScheme 0) ≡ cond a′ (cond b′ (writes w) (refuses tooLarge 0)) (refuses otherScheme 0)
 to-same w p q = cc
 
-module _ (s : List ℕ) (r : Record) (hs ns cs ts : List ℕ) (e : length (contentOf (chunksIn s cs 0 (r .chunks))) ≡ r .content) where
+module _ (t : Told) (s : List ℕ) (r : Record) (hs ns cs ts : List ℕ) (e : length (contentOf (chunksIn s cs 0 (r .chunks))) ≡ r .content) where
   -- the one decision: what the code decides by numbers is the length line of the meaning
-  length-means : lengthLine (meaningIn s r hs ns cs ts) ≡ lengthLineIn r
+  length-means : lengthLine t (meaningIn s r hs ns cs ts) ≡ lengthLineIn t r
   unfolding meaningIn lengthLine lengthLineIn unmeasuredIn
-  length-means = lines-same (no-fields s ts (r .trailers)) (unmeasured-means s r hs ns (r .response) (contentOf (chunksIn s cs 0 (r .chunks))) e) e
+  length-means =
+      lines-same (r .stated) (no-fields s ts (r .trailers)) (unmeasured-means s r hs ns t (r .response) (contentOf (chunksIn s cs 0 (r .chunks))) e) e
 
   -- for the length line l that was decided
-  module _ {l : LengthLine} (d : l ≡ lengthLineIn r) where
-    pub head-means : headText (meaningIn s r hs ns cs ts) ≡ headTextIn s r l hs ns
+  module _ {l : LengthLine} (d : l ≡ lengthLineIn t r) where
+    pub head-means : headText t (meaningIn s r hs ns cs ts) ≡ headTextIn s r l hs ns
     unfolding meaningIn headText headLines headTextIn leadTextIn lengthText
     head-means =
         let h = fieldsNamed s hs (fieldsBefore ns (r .informational)) (r .headers) in
@@ -120,7 +122,7 @@ module _ (s : List ℕ) (r : Record) (hs ns cs ts : List ℕ) (e : length (conte
         ap (λ (x : LengthLine). startText c ++ sectionText (hostLine c ++ lengthFields x ++ h)) (length-means ∙ sym d)
         ∙ head-with s r hs ns (r .response) (lengthFields l) h
 
-    pub count-means : length (headLines (meaningIn s r hs ns cs ts)) ≡ headCount r l
+    pub count-means : length (headLines t (meaningIn s r hs ns cs ts)) ≡ headCount r l
     unfolding meaningIn headLines headCount lengthCount
     count-means =
         let h = fieldsNamed s hs (fieldsBefore ns (r .informational)) (r .headers) in
@@ -129,11 +131,11 @@ module _ (s : List ℕ) (r : Record) (hs ns cs ts : List ℕ) (e : length (conte
         ∙ count-with s r hs ns (r .response) (lengthFields l) h
         ∙ ap (λ (n : ℕ). cond (r .response) 0 1 + length (lengthFields l) + n) (fields-count s hs (fieldsBefore ns (r .informational)) (r .headers))
 
-    pub http1-means : http1Of (meaningIn s r hs ns cs ts) ≡ headTextIn s r l hs ns ++ bodyText (contentOf (chunksIn s cs 0 (r .chunks))) (fieldsNamed s ts 0 (r .trailers))
-    unfolding meaningIn http1Of
+    pub http1-means : http1Of t (meaningIn s r hs ns cs ts) ≡ messageTextIn s r l hs ns cs ts
+    unfolding meaningIn http1Of messageTextIn
     http1-means = ap (λ (h : List ℕ). h ++ bodyText (contentOf (chunksIn s cs 0 (r .chunks))) (fieldsNamed s ts 0 (r .trailers))) head-means
 
-    pub fits-means : http1Fits (meaningIn s r hs ns cs ts) ≡ fitsIn (headSize r l hs ns) r l ts
+    pub fits-means : http1Fits t (meaningIn s r hs ns cs ts) ≡ fitsIn (headSize r l hs ns) r l ts
     unfolding meaningIn http1Fits fitsIn trailersFit
     fits-means =
         fits-same
@@ -142,15 +144,15 @@ module _ (s : List ℕ) (r : Record) (hs ns cs ts : List ℕ) (e : length (conte
         (no-fields s ts (r .trailers))
         (section-length s ts 0 (r .trailers))
 
-  connected-with : (t : Told) (b : Bool) → onConnection t (controlIn b s r hs ns) ≡ cond b true (eqb (r .scheme) (t .scheme))
-  connected-with t true = refl
-  connected-with t false = refl
+  connected-with : (b : Bool) → onConnection t (controlIn b s r hs ns) ≡ cond b true (eqb (r .scheme) (t .scheme))
+  connected-with true = refl
+  connected-with false = refl
 
   -- what is to be written, by the tests on numbers
-  pub to-means : (t : Told) {l : LengthLine} → l ≡ lengthLineIn r
+  pub to-means : {l : LengthLine} → l ≡ lengthLineIn t r
       → toHttp1 t (meaningIn s r hs ns cs ts)
       ≡ cond (connectedIn t r)
-      (cond (fitsIn (headSize r l hs ns) r l ts) (writes (http1Of (meaningIn s r hs ns cs ts))) (refuses tooLarge 0))
+      (cond (fitsIn (headSize r l hs ns) r l ts) (writes (http1Of t (meaningIn s r hs ns cs ts))) (refuses tooLarge 0))
       (refuses otherScheme 0)
   unfolding meaningIn toHttp1 connectedIn
-  to-means t d = to-same (http1Of (meaningIn s r hs ns cs ts)) (connected-with t (r .response)) (fits-means d)
+  to-means d = to-same (http1Of t (meaningIn s r hs ns cs ts)) (connected-with (r .response)) (fits-means d)

@@ -18,39 +18,41 @@ use Rattle.messages.specs.declared.Record.{Record}
 use Rattle.messages.specs.Meaning.{contentOf}
 use Rattle.ranges.specs.Entries.{chunksIn, meaningIn, MessageWithin, fieldsNamed}
 use Rattle.http1_writer.specs.declared.LengthLine.{LengthLine}
-use Rattle.http1_writer.specs.Write.{bodyText, http1Of, toHttp1}
-use Rattle.http1_writer.specs.Numbered.{bodySize, lengthLineIn, headTextIn, headSize, fitsIn, connectedIn}
+use Rattle.http1_writer.specs.Write.{bodyText, toHttp1}
+use Rattle.http1_writer.specs.Numbered.{bodySize, lengthLineIn, headTextIn, headSize, messageTextIn, fitsIn, connectedIn}
 use Rattle.http1_writer.proofs.Body.{body-long}
 use Rattle.http1_writer.proofs.Means.{head-long, http1-means, to-means}
 
-module _ {s : List ℕ} {r : Record} {l : LengthLine} {hs ns cs ts : List ℕ} (w : MessageWithin s r hs ns cs ts) (d : l ≡ lengthLineIn r) where
+module _ {s : List ℕ} {r : Record} {hs ns cs ts : List ℕ} (w : MessageWithin s r hs ns cs ts) (l : LengthLine) where
   -- a message that may be written: the room is too small, or head and body are put
   pub message-small : {o : List ℕ} → length o < headSize r l hs ns + bodySize (r .content) ts (r .trailers)
-      → Served (writes (http1Of (meaningIn s r hs ns cs ts))) o o (Refused noRoom 0)
+      → Served (writes (messageTextIn s r l hs ns cs ts)) o o (Refused noRoom 0)
+  unfolding messageTextIn
   message-small {o} h =
       let b = bodyText (contentOf (chunksIn s cs 0 (r .chunks))) (fieldsNamed s ts 0 (r .trailers)) in
       let e = length-append (headTextIn s r l hs ns) b in
       let k : length o < length (headTextIn s r l hs ns ++ b) =
       omega (arith, h, e, head-long s r hs ns l, body-long s ts (contentOf (chunksIn s cs 0 (r .chunks))) (r .content) (w .content) (r .trailers)) in
-      rw (http1-means s r hs ns cs ts (w .content) d) (serve-small k)
+      serve-small k
 
   pub message-done : {o o₁ o₂ : List ℕ} {a z : ℕ} → headSize r l hs ns + bodySize (r .content) ts (r .trailers) ≤ length o
       → Put o 0 (headTextIn s r l hs ns) (headSize r l hs ns) o₁ a
       → Put o₁ a (bodyText (contentOf (chunksIn s cs 0 (r .chunks))) (fieldsNamed s ts 0 (r .trailers))) (bodySize (r .content) ts (r .trailers)) o₂ z
-      → Served (writes (http1Of (meaningIn s r hs ns cs ts))) o o₂ (Done z)
-  message-done h p q = rw (http1-means s r hs ns cs ts (w .content) d) (serve-done h (put-then p q))
+      → Served (writes (messageTextIn s r l hs ns cs ts)) o o₂ (Done z)
+  unfolding messageTextIn
+  message-done h p q = serve-done h (put-then p q)
 
   -- the tests
-  module _ (t : Told) where
+  module _ (t : Told) (d : l ≡ lengthLineIn t r) where
     pub served-large : (o : List ℕ) → connectedIn t r ≡ true → fitsIn (headSize r l hs ns) r l ts ≡ false
         → Served (toHttp1 t (meaningIn s r hs ns cs ts)) o o (Refused tooLarge 0)
-    served-large o c f = rw (to-means s r hs ns cs ts (w .content) t d, c, f) (serve-wrong o tooLarge 0)
+    served-large o c f = rw (to-means t s r hs ns cs ts (w .content) d, c, f) (serve-wrong o tooLarge 0)
 
     pub served-fitting : {o o′ : List ℕ} {z : Written} → connectedIn t r ≡ true → fitsIn (headSize r l hs ns) r l ts ≡ true
-        → Served (writes (http1Of (meaningIn s r hs ns cs ts))) o o′ z
+        → Served (writes (messageTextIn s r l hs ns cs ts)) o o′ z
         → Served (toHttp1 t (meaningIn s r hs ns cs ts)) o o′ z
-    served-fitting c f x = rw (to-means s r hs ns cs ts (w .content) t d, c, f) x
+    served-fitting c f x = rw (to-means t s r hs ns cs ts (w .content) d, c, f, http1-means t s r hs ns cs ts (w .content) d) x
 
 pub served-other : {s : List ℕ} {r : Record} {hs ns cs ts : List ℕ} → MessageWithin s r hs ns cs ts → (t : Told) (o : List ℕ) → connectedIn t r ≡ false
     → Served (toHttp1 t (meaningIn s r hs ns cs ts)) o o (Refused otherScheme 0)
-served-other {s} {r} {hs} {ns} {cs} {ts} w t o c = rw (to-means s r hs ns cs ts (w .content) t {l = lengthLineIn r} refl, c) (serve-wrong o otherScheme 0)
+served-other {s} {r} {hs} {ns} {cs} {ts} w t o c = rw (to-means t s r hs ns cs ts (w .content) {l = lengthLineIn t r} refl, c) (serve-wrong o otherScheme 0)

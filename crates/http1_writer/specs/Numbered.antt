@@ -7,14 +7,14 @@ use lib.Dec.{eqb, leb}
 use lib.ListN.{length, getD}
 use Rattle.octets.specs.Limits.{headMost, trailerMost, linesMost}
 use Rattle.numbers.specs.Digits.{countOf}
-use Rattle.messages.specs.Control.{isBodyless}
+use Rattle.messages.specs.Control.{endsAtHead}
 use Rattle.messages.specs.declared.Part.{Part}
 use Rattle.messages.specs.declared.Told.{Told}
 use Rattle.messages.specs.declared.Record.{Record}
 use Rattle.messages.specs.Meaning.{Field}
-use Rattle.ranges.specs.Entries.{fieldsNamed, fieldsBefore, headsIn, partIn}
+use Rattle.ranges.specs.Entries.{fieldsNamed, fieldsBefore, headsIn, partIn, contentIn}
 use Rattle.http1_writer.specs.declared.LengthLine.{LengthLine}
-use Rattle.http1_writer.specs.Write.{fieldText, sectionText, requestLine, statusLine, informationalText, hostField, lineFor, lengthFields}
+use Rattle.http1_writer.specs.Write.{fieldText, sectionText, requestLine, statusLine, informationalText, hostField, lineFor, lengthFields, bodyText}
 
 -- the field line of the entry k
 abbrev pub lineSize : List ℕ → ℕ → ℕ
@@ -52,13 +52,13 @@ bodySize n ts count = cond (eqb count 0) n (chunkSize n + 1 + 2 + sectionSize ts
 
 -- ---- the length line
 
--- whether a message without trailers goes without a length line
-unfoldable pub unmeasuredIn : Record → Bool
-unmeasuredIn r = cond (r .response) (isBodyless (r .status)) (eqb (r .content) 0)
+-- whether no length line says how long the content of a message without trailers is
+unfoldable pub unmeasuredIn : Told → Record → Bool
+unmeasuredIn t r = cond (r .response) (endsAtHead t (r .status)) (eqb (r .content) 0)
 
 -- the length line of a message
-unfoldable pub lengthLineIn : Record → LengthLine
-lengthLineIn r = lineFor (eqb (r .trailers) 0) (unmeasuredIn r) (r .content)
+unfoldable pub lengthLineIn : Told → Record → LengthLine
+lengthLineIn t r = lineFor (eqb (r .trailers) 0) (unmeasuredIn t r) (r .stated) (r .content)
 
 -- lines one behind the other
 unfoldable pub linesText : List Field → List ℕ
@@ -100,6 +100,10 @@ headTextIn s r l hs ns = leadTextIn s r hs ns ++ lengthText l ++ sectionText (fi
 -- how long they are
 unfoldable pub headSize : Record → LengthLine → List ℕ → List ℕ → ℕ
 headSize r l hs ns = leadSize r hs ns + lengthSize l + sectionSize hs (fieldsBefore ns (r .informational)) (r .headers)
+
+-- a whole message, with this length line
+unfoldable pub messageTextIn : List ℕ → Record → LengthLine → List ℕ → List ℕ → List ℕ → List ℕ → List ℕ
+messageTextIn s r l hs ns cs ts = headTextIn s r l hs ns ++ bodyText (contentIn s cs (r .chunks)) (fieldsNamed s ts 0 (r .trailers))
 
 -- how many field lines the final head has: host, length line and fields
 unfoldable pub headCount : Record → LengthLine → ℕ

@@ -1,7 +1,9 @@
 // The length line of a head: decided once, by `length_line`; all below take its answer.
 use crate::LengthLine;
 use messages::Record;
-use messages::parts::is_bodyless;
+use messages::StatedLength;
+use messages::Told;
+use messages::parts::ends_at_head;
 use numbers::digit_count;
 use output::put_decimal;
 use output::put_text;
@@ -9,25 +11,37 @@ ghost use mathlib.Core.Path.{_≡_};
 ghost use Prim.Native.Nat.{_+_, _≤_};
 ghost use lib.ListN.{length};
 ghost use Rattle.output.specs.Splice.{Put};
+ghost use Rattle.http1_writer.specs.Write.{statedLine};
 ghost use Rattle.http1_writer.specs.Numbered.{unmeasuredIn, lengthLineIn, lengthText, lengthSize, lengthCount, lengthBound};
 
-// Whether a message without trailers goes without a length line.
-fn is_unmeasured(r: Record) -> bool
-    ensures { λ b. ⌜ b ≡ unmeasuredIn r ⌝ }
+// The length line of a stated length.
+fn stated_line(stated: StatedLength) -> LengthLine
+    ensures { λ l. ⌜ l ≡ statedLine stated ⌝ }
+{
+    match stated {
+        StatedLength::Missing => LengthLine::Nothing,
+        StatedLength::Of(n) => LengthLine::Length(n),
+    }
+}
+
+// Whether no length line says how long the content of a message without trailers is.
+fn is_unmeasured(told: Told, r: Record) -> bool
+    ensures { λ b. ⌜ b ≡ unmeasuredIn told r ⌝ }
 {
     if r.response {
-        return is_bodyless(r.status as usize);
+        return ends_at_head(told, r.status as usize);
     }
     r.content == 0
 }
 
 // Which length line a message has.
-pub(crate) fn length_line(r: Record) -> LengthLine
-    ensures { λ l. ⌜ l ≡ lengthLineIn r ⌝ }
+pub(crate) fn length_line(told: Told, r: Record) -> LengthLine
+    ensures { λ l. ⌜ l ≡ lengthLineIn told r ⌝ }
 {
     if r.trailers == 0 {
-        if is_unmeasured(r) {
-            return LengthLine::Nothing;
+        if is_unmeasured(told, r) {
+            let stated = r.stated;
+            return stated_line(stated);
         }
         return LengthLine::Length(r.content);
     }

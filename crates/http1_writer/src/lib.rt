@@ -29,10 +29,10 @@ ghost use Rattle.output.specs.Reply.{writes, Served};
 ghost use Rattle.messages.specs.Message.{Message};
 ghost use Rattle.ranges.specs.Ranges.{Held, HeldServed};
 ghost use Rattle.ranges.specs.Entries.{meaningIn, MessageWithin};
-ghost use Rattle.http1_writer.specs.Write.{http1Of, toHttp1};
-ghost use Rattle.http1_writer.specs.Numbered.{lengthLineIn, headSize, headBound};
+ghost use Rattle.http1_writer.specs.Write.{toHttp1};
+ghost use Rattle.http1_writer.specs.Numbered.{messageTextIn, headSize, headBound};
 
-// A message within the sizes, with its length line, whose heads are of so many octets; 13 at 0 where there is no room for it.
+// A message within the sizes, with this length line, whose heads are of so many octets; 13 at 0 where there is no room for it.
 fn put_message(
     s: &[u8],
     r: Record,
@@ -44,10 +44,10 @@ fn put_message(
     head: usize,
     out: &mut [u8],
 ) -> Written
-    requires { ⌜ MessageWithin (now s) r (now headers) (now heads) (now chunks) (now trailers) × (line ≡ lengthLineIn r)
+    requires { ⌜ MessageWithin (now s) r (now headers) (now heads) (now chunks) (now trailers)
         × (head ≡ headSize r line (now headers) (now heads)) × (head ≤ headBound) ⌝ }
     ensures { λ w. ⌜ Served
-        (writes (http1Of (meaningIn (now (s .entry)) r (now (headers .entry)) (now (heads .entry)) (now (chunks .entry)) (now (trailers .entry)))))
+        (writes (messageTextIn (now (s .entry)) r line (now (headers .entry)) (now (heads .entry)) (now (chunks .entry)) (now (trailers .entry))))
         (now (out .entry)) (now (out .exit)) w ⌝ }
 {
     let size = head + body_size(r.content, trailers, r.trailers);
@@ -79,7 +79,7 @@ fn write_named(
         (now (out .entry)) (now (out .exit)) w ⌝ }
 {
     if is_connected(told, r) {
-        let line = length_line(r);
+        let line = length_line(told, r);
         let head = measure_head(r, line, headers, heads);
         if sizes_fit(head, r, line, trailers) {
             return put_message(s, r, line, headers, heads, chunks, trailers, head, out);

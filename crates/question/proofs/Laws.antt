@@ -139,13 +139,13 @@ module _ (s name : List ℕ) where
   unfolding requestQuestion
   request-lies t = question-lies (length s) (readRequest t s) (λ n m e. request-sound t s n m e .sound)
 
-  pub response-lies : LiesIn s (responseQuestion name s .found)
+  pub response-lies : (t : Told) → LiesIn s (responseQuestion t name s .found)
   unfolding responseQuestion
-  response-lies = question-lies (length s) (readResponse s) (λ n m e. response-sound s n m e .sound)
+  response-lies t = question-lies (length s) (readResponse t s) (λ n m e. response-sound t s n m e .sound)
 
-  pub binary-lies : LiesIn s (binaryQuestion name s .found)
+  pub binary-lies : (t : Told) → LiesIn s (binaryQuestion t name s .found)
   unfolding binaryQuestion
-  binary-lies = question-lies (length s) (readBinary s) (λ n m e. binary-sound s n m e .sound)
+  binary-lies t = question-lies (length s) (readBinary t s) (λ n m e. binary-sound t s n m e .sound)
 
 module _ (s : List ℕ) {a : Asked} (q : Question) (e : a ≡ askedOf q) (l : LiesIn s (q .found)) where
   found-is : a .found ≡ foundOf (q .found)

@@ -109,29 +109,29 @@ pub fn request_found(s: &[u8], told: Told, name: &[u8]) -> Asked
     asked_from(s, o, &headers, &heads, name)
 }
 
-// The field question to the first HTTP/1.1 response of s.
-pub fn response_found(s: &[u8], name: &[u8]) -> Asked
-    ensures { λ r. ⌜ r ≡ askedOf (responseQuestion (now (name .entry)) (now (s .entry))) ⌝ }
+// The field question to the first HTTP/1.1 response of s, as told.
+pub fn response_found(s: &[u8], told: Told, name: &[u8]) -> Asked
+    ensures { λ r. ⌜ r ≡ askedOf (responseQuestion told (now (name .entry)) (now (s .entry))) ⌝ }
 {
     let t = class_table();
     let mut headers = [0u32; 1280];
     let mut heads = [0u32; 8];
     let mut chunks = [0u32; 512];
     let mut trailers = [0u32; 256];
-    let o = response_in(&t, s, &mut headers, &mut heads, &mut chunks, &mut trailers);
+    let o = response_in(&t, s, told, &mut headers, &mut heads, &mut chunks, &mut trailers);
     asked_from(s, o, &headers, &heads, name)
 }
 
-// The field question to the Binary message that s is.
-pub fn binary_found(s: &[u8], name: &[u8]) -> Asked
-    ensures { λ r. ⌜ r ≡ askedOf (binaryQuestion (now (name .entry)) (now (s .entry))) ⌝ }
+// The field question to the Binary message that s is, as told.
+pub fn binary_found(s: &[u8], told: Told, name: &[u8]) -> Asked
+    ensures { λ r. ⌜ r ≡ askedOf (binaryQuestion told (now (name .entry)) (now (s .entry))) ⌝ }
 {
     let t = class_table();
     let mut headers = [0u32; 1280];
     let mut heads = [0u32; 8];
     let mut chunks = [0u32; 512];
     let mut trailers = [0u32; 256];
-    let o = binary_in(&t, s, &mut headers, &mut heads, &mut chunks, &mut trailers);
+    let o = binary_in(&t, s, told, &mut headers, &mut heads, &mut chunks, &mut trailers);
     asked_from(s, o, &headers, &heads, name)
 }
 
@@ -175,32 +175,34 @@ pub fn request_field<'a>(
     field_or(s, a, default, number, place)
 }
 
-// The same for the final head of the first HTTP/1.1 response of s.
+// The same for the final head of the first HTTP/1.1 response of s, as told.
 pub fn response_field<'a>(
     s: &'a [u8],
+    told: Told,
     name: &[u8],
     default: &'a [u8],
     number: &mut u32,
     place: &mut usize,
 ) -> &'a [u8]
-    ensures { λ r. ⌜ Answered (responseQuestion (now (name .entry)) (now (s .entry)))
+    ensures { λ r. ⌜ Answered (responseQuestion told (now (name .entry)) (now (s .entry)))
         (now («default» .entry)) (ptr (s .entry)) (ptr («default» .entry)) (now r) (ptr r) (now (number .exit)) (now (place .exit)) ⌝ }
 {
-    let a = response_found(s, name);
+    let a = response_found(s, told, name);
     field_or(s, a, default, number, place)
 }
 
-// The same for the Binary message that s is.
+// The same for the Binary message that s is, as told.
 pub fn binary_field<'a>(
     s: &'a [u8],
+    told: Told,
     name: &[u8],
     default: &'a [u8],
     number: &mut u32,
     place: &mut usize,
 ) -> &'a [u8]
-    ensures { λ r. ⌜ Answered (binaryQuestion (now (name .entry)) (now (s .entry)))
+    ensures { λ r. ⌜ Answered (binaryQuestion told (now (name .entry)) (now (s .entry)))
         (now («default» .entry)) (ptr (s .entry)) (ptr («default» .entry)) (now r) (ptr r) (now (number .exit)) (now (place .exit)) ⌝ }
 {
-    let a = binary_found(s, name);
+    let a = binary_found(s, told, name);
     field_or(s, a, default, number, place)
 }

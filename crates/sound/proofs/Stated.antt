@@ -14,6 +14,7 @@ use Rattle.octets.specs.Text.{lowerOf, sameText}
 use Rattle.numbers.specs.Digits.{numOf}
 use Rattle.script.specs.Do.{Judged, good, wrong}
 use Rattle.messages.specs.Message.{FieldRead}
+use Rattle.messages.specs.Control.{isBodyless, endsAtHead}
 use Rattle.messages.specs.Names.{lineKind, sameKind, linesOf, isEndToEnd, kept}
 use Rattle.messages.specs.Told.{isYes}
 use Rattle.messages.specs.Rules.{framingFrom, framingOf, binaryFramingOf, nothingStated, lengthAlone, bodylessRule, lengthIn}
@@ -120,6 +121,20 @@ bodyless t n end f b e = go (eqb n 204) refl e
     go : (x : Bool) → eqb n 204 ≡ x → cond x (nothingStated end f) (lengthAlone t end f) ≡ good b → Bodyless n f b
     go true q g = let h = nothing-stated end f b g in rw (h .0, h .1) (unstated-bodyless n)
     go false q g = alone-bodyless t n end f b q g
+
+-- a final response that may have content has another status than 204 and 304
+module _ (t : Told) (n : ℕ) (o : endsAtHead t n ≡ false) where
+  pub content-status : isBodyless n ≡ false
+  unfolding endsAtHead
+  content-status = go (isBodyless n) refl o
+    where
+      go : (b : Bool) → isBodyless n ≡ b → cond b true (isYes (t .head)) ≡ false → isBodyless n ≡ false
+      go true q e = let z : _≡_ {A = ℕ} 0 1 = cc in absurd (omega arith)
+      go false q e = q
+
+  pub content-not-204 : (f : Framing) → eqb n 204 ≡ true → f ≡ Unstated
+  unfolding isBodyless
+  content-not-204 f e = let z : true ≡ false = rw e at content-status in let y : _≡_ {A = ℕ} 0 1 = cc in absurd (omega arith)
 
 -- a message without a stated length
 pub none-stated : (w : Meaning) → validStated (lengthIn Unstated) w ≡ true

@@ -1,4 +1,5 @@
--- What the code of the turning into HTTP/1.1 promises, in terms of `binaryToHttp1` (turn/specs/Turn; 01, "How we write"), once the scheme told is judged.
+-- What the code of the turnings promises behind a judgement: in terms of `binaryToHttp1`, once the scheme told is judged, and of `takenFrom`, once the message
+-- is accepted (turn/specs/Turn; 01, "How we write").
 use mathlib.Core.List.{List}
 use Prim.Native.Nat.{ℕ}
 use lib.ListN.{length}
@@ -6,8 +7,15 @@ use Rattle.messages.specs.declared.Told.{Told}
 use Rattle.binary.specs.Read.{readBinary}
 use Rattle.http1_writer.specs.Write.{toHttp1}
 use Rattle.output.specs.Reply.{Reply}
+use Rattle.output.specs.declared.Written.{Written}
+use Rattle.output.specs.declared.Written.the-variants.{Done, Refused}
 use Rattle.turn.specs.Turn.{replyFrom}
 
 -- a Binary input as HTTP/1.1, behind the judgement of the scheme that is told
 unfoldable pub readToHttp1 : Told → List ℕ → Reply
-readToHttp1 t s = replyFrom (length s) (readBinary s) (toHttp1 t)
+readToHttp1 t s = replyFrom (length s) (readBinary t s) (toHttp1 t)
+
+-- how many octets were taken of a message of n octets that was accepted, where the writer answered so
+abbrev pub takenBy : Written → ℕ → ℕ
+takenBy (Done k) n = n
+takenBy (Refused number place) n = 0

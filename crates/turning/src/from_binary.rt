@@ -19,6 +19,7 @@ ghost use Rattle.turning.specs.Behind.{readToHttp1};
 fn turn_anew(
     t: &[u8; 256],
     input: &[u8],
+    told: Told,
     out: &mut [u8],
     headers: &mut [u32],
     heads: &mut [u32],
@@ -27,9 +28,9 @@ fn turn_anew(
 ) -> Written
     requires { ⌜ (now t ≡ classes) × (headsRoom ≤ length (now headers))
         × (informationalRoom ≤ length (now heads)) × (chunksRoom ≤ length (now chunks)) × (sectionRoom ≤ length (now trailers)) ⌝ }
-    ensures { λ r. ⌜ Served (binaryToBinary (now (input .entry))) (now (out .entry)) (now (out .exit)) r ⌝ }
+    ensures { λ r. ⌜ Served (binaryToBinary told (now (input .entry))) (now (out .entry)) (now (out .exit)) r ⌝ }
 {
-    let o = binary_in(t, input, headers, heads, chunks, trailers);
+    let o = binary_in(t, input, told, headers, heads, chunks, trailers);
     match o {
         Outcome::More => return Written::Refused {
             number: Refusals::MORE_NEEDED,
@@ -48,9 +49,9 @@ fn turn_anew(
     }
 }
 
-// A Binary message written anew as Binary.
-pub fn binary_to_binary(input: &[u8], out: &mut [u8]) -> Written
-    ensures { λ r. ⌜ Served (binaryToBinary (now (input .entry))) (now (out .entry)) (now (out .exit)) r ⌝ }
+// A Binary message, as told, written anew as Binary.
+pub fn binary_to_binary(input: &[u8], told: Told, out: &mut [u8]) -> Written
+    ensures { λ r. ⌜ Served (binaryToBinary told (now (input .entry))) (now (out .entry)) (now (out .exit)) r ⌝ }
 {
     let t = class_table();
     let mut headers = [0u32; 1280];
@@ -60,6 +61,7 @@ pub fn binary_to_binary(input: &[u8], out: &mut [u8]) -> Written
     turn_anew(
         &t,
         input,
+        told,
         out,
         &mut headers,
         &mut heads,
@@ -68,7 +70,7 @@ pub fn binary_to_binary(input: &[u8], out: &mut [u8]) -> Written
     )
 }
 
-// The message as HTTP/1.1 on a connection of the scheme told, through working space for the ranges.
+// The message, as told, as HTTP/1.1 on a connection of the scheme told, through working space for the ranges.
 fn turn_http1(
     t: &[u8; 256],
     input: &[u8],
@@ -83,7 +85,7 @@ fn turn_http1(
         × (informationalRoom ≤ length (now heads)) × (chunksRoom ≤ length (now chunks)) × (sectionRoom ≤ length (now trailers)) ⌝ }
     ensures { λ r. ⌜ Served (readToHttp1 told (now (input .entry))) (now (out .entry)) (now (out .exit)) r ⌝ }
 {
-    let o = binary_in(t, input, headers, heads, chunks, trailers);
+    let o = binary_in(t, input, told, headers, heads, chunks, trailers);
     match o {
         Outcome::More => return Written::Refused {
             number: Refusals::MORE_NEEDED,
@@ -103,7 +105,7 @@ fn turn_http1(
     }
 }
 
-// A Binary message as HTTP/1.1 on a connection of the scheme told.
+// A Binary message, as told, as HTTP/1.1 on a connection of the scheme told.
 pub fn binary_to_http1(input: &[u8], told: Told, out: &mut [u8]) -> Written
     ensures { λ r. ⌜ Served (binaryToHttp1 told (now (input .entry))) (now (out .entry)) (now (out .exit)) r ⌝ }
 {

@@ -12,8 +12,19 @@ ghost use Prim.Native.Nat.{_≤_};
 ghost use lib.ListN.{length};
 ghost use Rattle.octets.specs.Table.{classes};
 ghost use Rattle.messages.specs.Room.{sectionRoom, headsRoom, informationalRoom, chunksRoom};
-ghost use Rattle.output.specs.Reply.{Served};
-ghost use Rattle.turn.specs.Turn.{requestToBinary, responseToBinary};
+ghost use Rattle.http1.specs.Read.{readRequest, readResponse};
+ghost use Rattle.turn.specs.Turn.{TakenServed, requestToBinary, responseToBinary};
+ghost use Rattle.turning.specs.Behind.{takenBy};
+
+// How many octets a turning took that was answered so, of a message of a length: none where it was refused.
+fn taken_by(w: Written, length: usize) -> usize
+    ensures { λ r. ⌜ r ≡ takenBy w length ⌝ }
+{
+    match w {
+        Written::Done(_) => length,
+        Written::Refused { number: _, place: _ } => 0,
+    }
+}
 
 // The same through working space for the ranges.
 fn turn_request(
@@ -21,31 +32,42 @@ fn turn_request(
     input: &[u8],
     told: Told,
     out: &mut [u8],
+    taken: &mut usize,
     headers: &mut [u32],
     chunks: &mut [u32],
     trailers: &mut [u32],
 ) -> Written
     requires { ⌜ (now t ≡ classes) × (sectionRoom ≤ length (now headers))
         × (chunksRoom ≤ length (now chunks)) × (sectionRoom ≤ length (now trailers)) ⌝ }
-    ensures { λ r. ⌜ Served (requestToBinary told (now (input .entry))) (now (out .entry)) (now (out .exit)) r ⌝ }
+    ensures { λ r. ⌜ TakenServed (readRequest told (now (input .entry))) (requestToBinary told (now (input .entry)))
+        (now (out .entry)) (now (out .exit)) (now (taken .exit)) r ⌝ }
 {
     let o = request_in(t, input, told, headers, chunks, trailers);
     match o {
-        Outcome::More => return Written::Refused {
-            number: Refusals::MORE_NEEDED,
-            place: input.len(),
-        },
-        Outcome::Refusal { number, place } => return Written::Refused { number, place },
+        Outcome::More => {
+            *taken = 0;
+            return Written::Refused {
+                number: Refusals::MORE_NEEDED,
+                place: input.len(),
+            };
+        }
+        Outcome::Refusal { number, place } => {
+            *taken = 0;
+            return Written::Refused { number, place };
+        }
         Outcome::Message(r) => {
             let none = [0u32; 8];
-            return write_message(input, r, headers, &none, chunks, trailers, out);
+            let w = write_message(input, r, headers, &none, chunks, trailers, out);
+            *taken = taken_by(w, r.length);
+            return w;
         }
     }
 }
 
-// The first HTTP/1.1 request of the input, under the scheme told, as Binary.
-pub fn request_to_binary(input: &[u8], told: Told, out: &mut [u8]) -> Written
-    ensures { λ r. ⌜ Served (requestToBinary told (now (input .entry))) (now (out .entry)) (now (out .exit)) r ⌝ }
+// The first HTTP/1.1 request of the input, under the scheme told, as Binary; `taken` receives how many octets of the input it is, or 0.
+pub fn request_to_binary(input: &[u8], told: Told, out: &mut [u8], taken: &mut usize) -> Written
+    ensures { λ r. ⌜ TakenServed (readRequest told (now (input .entry))) (requestToBinary told (now (input .entry)))
+        (now (out .entry)) (now (out .exit)) (now (taken .exit)) r ⌝ }
 {
     let t = class_table();
     let mut headers = [0u32; 256];
@@ -56,6 +78,7 @@ pub fn request_to_binary(input: &[u8], told: Told, out: &mut [u8]) -> Written
         input,
         told,
         out,
+        taken,
         &mut headers,
         &mut chunks,
         &mut trailers,
@@ -66,7 +89,9 @@ pub fn request_to_binary(input: &[u8], told: Told, out: &mut [u8]) -> Written
 fn turn_response(
     t: &[u8; 256],
     input: &[u8],
+    told: Told,
     out: &mut [u8],
+    taken: &mut usize,
     headers: &mut [u32],
     heads: &mut [u32],
     chunks: &mut [u32],
@@ -74,30 +99,34 @@ fn turn_response(
 ) -> Written
     requires { ⌜ (now t ≡ classes) × (headsRoom ≤ length (now headers))
         × (informationalRoom ≤ length (now heads)) × (chunksRoom ≤ length (now chunks)) × (sectionRoom ≤ length (now trailers)) ⌝ }
-    ensures { λ r. ⌜ Served (responseToBinary (now (input .entry))) (now (out .entry)) (now (out .exit)) r ⌝ }
+    ensures { λ r. ⌜ TakenServed (readResponse told (now (input .entry))) (responseToBinary told (now (input .entry)))
+        (now (out .entry)) (now (out .exit)) (now (taken .exit)) r ⌝ }
 {
-    let o = response_in(t, input, headers, heads, chunks, trailers);
+    let o = response_in(t, input, told, headers, heads, chunks, trailers);
     match o {
-        Outcome::More => return Written::Refused {
-            number: Refusals::MORE_NEEDED,
-            place: input.len(),
-        },
-        Outcome::Refusal { number, place } => return Written::Refused { number, place },
-        Outcome::Message(r) => return write_message(
-            input,
-            r,
-            headers,
-            heads,
-            chunks,
-            trailers,
-            out,
-        ),
+        Outcome::More => {
+            *taken = 0;
+            return Written::Refused {
+                number: Refusals::MORE_NEEDED,
+                place: input.len(),
+            };
+        }
+        Outcome::Refusal { number, place } => {
+            *taken = 0;
+            return Written::Refused { number, place };
+        }
+        Outcome::Message(r) => {
+            let w = write_message(input, r, headers, heads, chunks, trailers, out);
+            *taken = taken_by(w, r.length);
+            return w;
+        }
     }
 }
 
-// The first HTTP/1.1 response of the input as Binary.
-pub fn response_to_binary(input: &[u8], out: &mut [u8]) -> Written
-    ensures { λ r. ⌜ Served (responseToBinary (now (input .entry))) (now (out .entry)) (now (out .exit)) r ⌝ }
+// The first HTTP/1.1 response of the input, as told, as Binary; `taken` receives how many octets of the input it is, or 0.
+pub fn response_to_binary(input: &[u8], told: Told, out: &mut [u8], taken: &mut usize) -> Written
+    ensures { λ r. ⌜ TakenServed (readResponse told (now (input .entry))) (responseToBinary told (now (input .entry)))
+        (now (out .entry)) (now (out .exit)) (now (taken .exit)) r ⌝ }
 {
     let t = class_table();
     let mut headers = [0u32; 1280];
@@ -107,7 +136,9 @@ pub fn response_to_binary(input: &[u8], out: &mut [u8]) -> Written
     turn_response(
         &t,
         input,
+        told,
         out,
+        taken,
         &mut headers,
         &mut heads,
         &mut chunks,

@@ -16,23 +16,23 @@ enum-known-read c = search needs
 enum-known-read-2 : tie.Need-enum-known-read-2
 enum-known-read-2 c = search needs
 
-cast-t20 : tie.Need-cast-t20
-cast-t20 c = search needs
-
-cast-t20-2 : tie.Need-cast-t20-2
-cast-t20-2 c = search needs
-
 cast-t21 : tie.Need-cast-t21
 cast-t21 c = search needs
 
-add-t22 : tie.Need-add-t22
-add-t22 c = search needs
-
-cast-t20-3 : tie.Need-cast-t20-3
-cast-t20-3 c = search needs
-
 cast-t21-2 : tie.Need-cast-t21-2
 cast-t21-2 c = search needs
+
+cast-t22 : tie.Need-cast-t22
+cast-t22 c = search needs
+
+add-t23 : tie.Need-add-t23
+add-t23 c = search needs
+
+cast-t21-3 : tie.Need-cast-t21-3
+cast-t21-3 c = search needs
+
+cast-t22-2 : tie.Need-cast-t22-2
+cast-t22-2 c = search needs
 
 request-record-requires : tie.Need-request-record-requires
 request-record-requires c κs = search needs
@@ -53,12 +53,12 @@ request-outcome-spec =
     enum-told
     enum-known-read
     enum-known-read-2
-    cast-t20
-    cast-t20-2
     cast-t21
-    add-t22
-    cast-t20-3
     cast-t21-2
+    cast-t22
+    add-t23
+    cast-t21-3
+    cast-t22-2
     request-record-requires
     returns
     returns-2

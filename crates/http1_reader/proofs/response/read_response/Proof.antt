@@ -1,46 +1,35 @@
+use borrow.Author.Needs.{needs}
 use native.Mathlib.Omega.{arith}
 use mathlib.Core.Path.{_∙_}
 use Rattle.http1_reader.proofs.Values.{response-by-value}
-use borrow.Author.Needs.{needs}
 use Rattle.http1_reader.proofs.response.read_response.Statement.{statement}
 use Rattle.http1_reader.proofs.response.read_response.Tie as tie
 use Rattle.http1_reader.proofs.response.read_response.Reads as reads
 use Rattle.http1_reader.proofs.response.read_response.Lts as lts
-use Rattle.octets.proofs.class_table.Reads as class-table-reads
-use Rattle.ranges.proofs.reading.Reads as reading-reads
-use Rattle.http1_reader.proofs.response.response_in.Reads as response-in-reads
 
--- src/response.rt:287:13
 class-table-requires : tie.Need-class-table-requires
 class-table-requires c κs = search needs
 
--- src/response.rt:295:9
 slice-aggregate-response-in : tie.Need-slice-aggregate-response-in
 slice-aggregate-response-in c = search needs
 
--- src/response.rt:296:9
 slice-aggregate-response-in-2 : tie.Need-slice-aggregate-response-in-2
 slice-aggregate-response-in-2 c = search needs
 
--- src/response.rt:297:9
 slice-aggregate-response-in-3 : tie.Need-slice-aggregate-response-in-3
 slice-aggregate-response-in-3 c = search needs
 
--- src/response.rt:298:9
 slice-aggregate-response-in-4 : tie.Need-slice-aggregate-response-in-4
 slice-aggregate-response-in-4 c = search needs
 
--- src/response.rt:292:9
 response-in-requires : tie.Need-response-in-requires
-response-in-requires c κs = search needs
+response-in-requires c κs = (c .before .before .before .before .before .class-table .ensures, omega arith, omega arith, omega arith, omega arith)
 
--- src/response.rt:300:5
 reading-requires : tie.Need-reading-requires
 reading-requires c κs = search needs
 
--- src/response.rt:284:1
 returns : tie.Need-returns
-returns c = c .reading .ensures ∙ response-by-value (c .before .before .before .before .before .before .before .before .before .before .before .before .before .args .input .now) (c .before .before .before .before .before .response-in .ensures)
+returns c = c .reading .ensures ∙ response-by-value (c .before .before .before .before .before .before .before .before .before .before .before .before .before .args .told) (c .before .before .before .before .before .before .before .before .before .before .before .before .before .args .input .now) (c .before .before .before .before .before .response-in .ensures)
 
 pub read-response-spec : {M : Type 1} → statement M
 read-response-spec =

@@ -1,76 +1,58 @@
+use borrow.Author.Needs.{needs}
 use native.Mathlib.Omega.{arith}
 use Rattle.http1_reader.proofs.ResponseLaws.{responded-more, responded-refused, final-place, responded-final}
-use borrow.Author.Needs.{needs}
 use Rattle.http1_reader.proofs.response.response_in.Statement.{statement}
 use Rattle.http1_reader.proofs.response.response_in.Tie as tie
 use Rattle.http1_reader.proofs.response.response_in.Reads as reads
 use Rattle.http1_reader.proofs.response.response_in.Lts as lts
-use Rattle.http1_reader.proofs.response.after_final.Reads as after-final-reads
-use Rattle.http1_reader.proofs.response.read_heads.Reads as read-heads-reads
 
--- src/response.rt:220:9
 read-heads-requires : tie.Need-read-heads-requires
-read-heads-requires c κs = search needs
+read-heads-requires c κs = (c .before .before .before .before .before .before .before .pre .0, c .before .before .before .before .before .before .before .pre .1, c .before .before .before .before .before .before .before .pre .2)
 
--- src/response.rt:222:28
 enum-told : tie.Need-enum-told
 enum-told c = search needs
 
--- src/response.rt:222:28
 same-length : tie.Need-same-length
 same-length c = search needs
 
--- src/response.rt:222:28
 same-length-2 : tie.Need-same-length-2
 same-length-2 c = search needs
 
--- src/response.rt:222:28
 returns : tie.Need-returns
-returns c = responded-more (c .before .before .before .before .before .before .read-heads .ensures) _ _ _ _ (c .enum-told .given .1)
+returns c = responded-more (c .before .before .before .before .before .before .read-heads .ensures) (c .before .before .before .before .before .before .before .before .before .before .before .before .before .before .args .told) _ _ _ _ (c .enum-told .given .1)
 
--- src/response.rt:223:30
 enum-known-h : tie.Need-enum-known-h
 enum-known-h c = search needs
 
--- src/response.rt:223:49
 same-length-3 : tie.Need-same-length-3
 same-length-3 c = search needs
 
--- src/response.rt:223:49
 same-length-4 : tie.Need-same-length-4
 same-length-4 c = search needs
 
--- src/response.rt:223:49
 returns-2 : tie.Need-returns-2
-returns-2 c = responded-refused (c .before .before .before .before .before .before .before .read-heads .ensures) _ _ _ _ _ _ (c .before .h .given .1)
+returns-2 c = responded-refused (c .before .before .before .before .before .before .before .read-heads .ensures) (c .before .before .before .before .before .before .before .before .before .before .before .before .before .before .before .args .told) _ _ _ _ _ _ (c .before .h .given .1)
 
--- src/response.rt:224:27
 enum-known-h-2 : tie.Need-enum-known-h-2
 enum-known-h-2 c = search needs
 
--- src/response.rt:224:64
 after-final-requires : tie.Need-after-final-requires
-after-final-requires c κs = let p = final-place (c .before .before .before .before .before .before .before .before .before .read-heads .ensures) _ _ _ _ _ (c .before .before .before .h2 .given .1) in (c .before .before .before .before .before .before .before .before .before .before .before .before .before .before .before .before .before .pre .0, p .0, p .1, c .before .before .before .before .before .before .before .before .before .before .before .before .before .before .before .before .before .pre .3, c .before .before .before .before .before .before .before .before .before .before .before .before .before .before .before .before .before .pre .4)
+after-final-requires c κs = let p = final-place (c .before .before .before .before .before .before .before .before .before .read-heads .ensures) (c .before .before .before .before .before .before .before .before .before .before .before .before .before .before .before .before .before .args .told) _ _ _ _ _ (c .before .before .before .h2 .given .1) in (c .before .before .before .before .before .before .before .before .before .before .before .before .before .before .before .before .before .pre .0, p .0, p .1, c .before .before .before .before .before .before .before .before .before .before .before .before .before .before .before .before .before .pre .3, c .before .before .before .before .before .before .before .before .before .before .before .before .before .before .before .before .before .pre .4)
 
--- src/response.rt:224:64
 same-length-5 : tie.Need-same-length-5
 same-length-5 c = search needs
 
--- src/response.rt:224:64
 same-length-6 : tie.Need-same-length-6
 same-length-6 c = search needs
 
--- src/response.rt:224:64
 same-length-7 : tie.Need-same-length-7
 same-length-7 c = search needs
 
--- src/response.rt:224:64
 same-length-8 : tie.Need-same-length-8
 same-length-8 c = search needs
 
--- src/response.rt:224:64
 returns-3 : tie.Need-returns-3
-returns-3 c = responded-final (c .before .before .before .before .before .before .before .before .before .before .before .before .before .before .read-heads .ensures) _ _ _ _ _ (c .before .before .before .before .before .before .before .before .h2 .given .1) _ _ _ _ _ (c .before .before .before .before .after-final .ensures)
+returns-3 c = responded-final (c .before .before .before .before .before .before .before .before .before .before .before .before .before .before .read-heads .ensures) (c .before .before .before .before .before .before .before .before .before .before .before .before .before .before .before .before .before .before .before .before .before .before .args .told) _ _ _ _ _ (c .before .before .before .before .before .before .before .before .h2 .given .1) _ _ _ _ _ (c .before .before .before .before .after-final .ensures)
 
 pub response-in-spec : {M : Type 1} → statement M
 response-in-spec =
