@@ -1,6 +1,6 @@
 -- One head of a response, as the code reads it.
 use Prim.Native.Nat.{ℕ, suc, _+_, _<_, _≤_}
-use mathlib.Core.Path.{_≡_, refl, sym, ap, _∙_, subst}
+use mathlib.Core.Path.{_≡_, refl, sym, ap, _∙_}
 use mathlib.Core.List.{List}
 use mathlib.Core.Bool.{Bool, true, false}
 use native.Mathlib.Omega.{arith}
@@ -20,6 +20,7 @@ use Rattle.messages.specs.Rules.{binaryFramingOf, nothingStated}
 use Rattle.messages.specs.declared.Body.{Body}
 use Rattle.messages.specs.declared.BodyAnswer.the-variants as body
 use Rattle.messages.specs.declared.Notes.{Notes}
+use Rattle.messages.specs.declared.Told.{Told}
 use Rattle.messages.proofs.Noting.{notes-binary}
 use Rattle.messages.proofs.Lengths.{body-read, body-refused}
 use Rattle.binary.specs.Reader.{Got, no, _>>=_}
@@ -36,18 +37,25 @@ use Rattle.binary_reader.proofs.SectionOutcomes.{SectionDone, section-n
 pub framing-noted : (n : Notes) (h : Section) → n ≡ notesOf false (h .lines) → n .framing ≡ binaryFramingOf (h .lines)
 framing-noted n h e = ap (λ (n : Notes). n .framing) e ∙ notes-binary (h .lines)
 
+-- an answer that equals another, whatever is told, says the same
+pub says-as : (known : Bool) (f : ℕ) (is : List InformationalRead) (s : List ℕ) (base : ℕ) (hs hs′ : List ℕ) (r : HeadRead) {x y : Told → Got Message}
+    → ((t : Told) → x t ≡ y t) → HeadSays y known f is s base hs hs′ r → HeadSays x known f is s base hs hs′ r
+says-as known f is s base hs hs′ (head.Informational n e k) q u = (u .0, u .1, u .2, λ t. q t ∙ u .3 t)
+says-as known f is s base hs hs′ (head.Final n e k notes) q u = (u .0, u .1, u .2, u .3, λ t. q t ∙ u .4 t)
+says-as known f is s base hs hs′ (head.Refused i p) q u = λ t. q t ∙ u t
+
 -- ---- the section behind a status
 
 module _ (s : List ℕ) (known : Bool) (next status : ℕ) {base : ℕ} {hs hs′ : List ℕ} {r : answer.Section} (w : Sectioned s (section known next (drop next s)) true base hs hs′ r) where
   pub informational-no : {i p : ℕ} → r ≡ section-read.Refused i p
-      → Headed FewHeads (λ f is. afterInformationalStatus known (heads known f) is status next (drop next s)) known s base hs hs′ (head.Refused i p)
+      → Headed FewHeads (λ f is t. afterInformationalStatus known (heads t known f) is status next (drop next s)) known s base hs hs′ (head.Refused i p)
   unfolding afterInformationalStatus
-  informational-no e = record { by = λ f is z. behind-no known (afterInformational (heads known f) is status) s next (section-no s known next w e) }
+  informational-no e = record { by = λ f is z t. behind-no known (afterInformational (heads t known f) is status) s next (section-no s known next w e) }
 
   pub final-no : {i p : ℕ} → r ≡ section-read.Refused i p
-      → Headed AnyHeads (λ f is. afterFinalStatus known is status next (drop next s)) known s base hs hs′ (head.Refused i p)
+      → Headed AnyHeads (λ f is t. afterFinalStatus t known is status next (drop next s)) known s base hs hs′ (head.Refused i p)
   unfolding afterFinalStatus
-  final-no e = record { by = λ f is z. behind-no known (afterFinal known is status) s next (section-no s known next w e) }
+  final-no e = record { by = λ f is z t. behind-no known (afterFinal t known is status) s next (section-no s known next w e) }
 
   module _ (within : next ≤ length s) {e c : ℕ} {n : Notes} (q : r ≡ section-read.Done e c n) where
     head-stored : (d : SectionDone s known next true base hs hs′ e c n) → HeadStored s base hs hs′ e c (d .read)
@@ -57,82 +65,79 @@ module _ (s : List ℕ) (known : Bool) (next status : ℕ) {base : ℕ} {hs hs�
     judged d = rw (d .end, framing-noted n (d .read) (d .noted)) refl
 
     pub informational-states : {i p : ℕ} → bodyAnswer (nothingStated e (n .framing)) ≡ body.Refused i p
-        → Headed FewHeads (λ f is. afterInformationalStatus known (heads known f) is status next (drop next s)) known s base hs hs′ (head.Refused i p)
+        → Headed FewHeads (λ f is t. afterInformationalStatus known (heads t known f) is status next (drop next s)) known s base hs hs′ (head.Refused i p)
     unfolding afterInformationalStatus afterInformational _>>=_
     informational-states {i} {p} g =
         let d = section-done s known next w within q in
         let z : nothingStated (d .read .end) (binaryFramingOf (d .read .lines)) ≡ wrong i p = sym (judged d) ∙ body-refused _ i p g in
-        record { by = λ f is few. behind-got known (afterInformational (heads known f) is status) s next (d .gives) ∙ rw z }
+        record { by = λ f is few t. behind-got known (afterInformational (heads t known f) is status) s next (d .gives) ∙ rw z }
 
     pub informational-ends : (b : Body) → bodyAnswer (nothingStated e (n .framing)) ≡ body.Read b
-        → Headed FewHeads (λ f is. afterInformationalStatus known (heads known f) is status next (drop next s)) known s base hs hs′ (head.Informational status e c)
+        → Headed FewHeads (λ f is t. afterInformationalStatus known (heads t known f) is status next (drop next s)) known s base hs hs′ (head.Informational status e c)
     unfolding afterInformationalStatus afterInformational _>>=_
     informational-ends b g =
         let d = section-done s known next w within q in
         let z : nothingStated (d .read .end) (binaryFramingOf (d .read .lines)) ≡ good b = sym (judged d) ∙ body-read _ b g in
-        record { by = λ f is few. (d .read, head-stored d, few, behind-got known (afterInformational (heads known f) is status) s next (d .gives) ∙ rw z) }
+        record { by = λ f is few. (d .read, head-stored d, few, λ t. behind-got known (afterInformational (heads t known f) is status) s next (d .gives) ∙ rw z) }
 
-    pub final-ends : FinalStatus status → Headed AnyHeads (λ f is. afterFinalStatus known is status next (drop next s)) known s base hs hs′ (head.Final status e c n)
+    pub final-ends : FinalStatus status → Headed AnyHeads (λ f is t. afterFinalStatus t known is status next (drop next s)) known s base hs hs′ (head.Final status e c n)
     unfolding afterFinalStatus
     final-ends u =
         let d = section-done s known next w within q in
-        record { by = λ f is z. (d .read, head-stored d, d .noted, u, behind-got known (afterFinal known is status) s next (d .gives)) }
+        record { by = λ f is z. (d .read, head-stored d, d .noted, u, λ t. behind-got known (afterFinal t known is status) s next (d .gives)) }
 
 -- ---- the status
 
-module _ (s : List ℕ) (known : Bool) (i f : ℕ) (is : List InformationalRead) where
-  status-cut : readInt i (drop i s) ≡ Cut → heads known (suc f) is i (drop i s) ≡ no cutOff i
+module _ (s : List ℕ) (known : Bool) (i f : ℕ) (is : List InformationalRead) (t : Told) where
+  status-cut : readInt i (drop i s) ≡ Cut → heads t known (suc f) is i (drop i s) ≡ no cutOff i
   unfolding heads _>>=_
   status-cut e = rw (integer-cut s i cutOff i e)
 
   module _ {n next : ℕ} (e : readInt i (drop i s) ≡ Value n next) where
-    status-wrong : (statusVerdict n ≡ 0 → ⊥) → heads known (suc f) is i (drop i s) ≡ no (statusVerdict n) i
+    status-wrong : (statusVerdict n ≡ 0 → ⊥) → heads t known (suc f) is i (drop i s) ≡ no (statusVerdict n) i
     unfolding heads _>>=_
     status-wrong z = rw (integer-got s i cutOff i e, ne-eqb (statusVerdict n) 0 z)
 
     module _ (z : statusVerdict n ≡ 0) where
-      status-full : isInformational n ≡ true → informationalMost ≤ length is → heads known (suc f) is i (drop i s) ≡ no tooLarge i
+      status-full : isInformational n ≡ true → informationalMost ≤ length is → heads t known (suc f) is i (drop i s) ≡ no tooLarge i
       unfolding heads _>>=_
       status-full b g = rw (integer-got s i cutOff i e, eq-eqb (statusVerdict n) 0 z, b, le-leb _ _ g)
 
       status-informational : isInformational n ≡ true → length is < informationalMost
-          → heads known (suc f) is i (drop i s) ≡ afterInformationalStatus known (heads known f) is n next (drop next s)
+          → heads t known (suc f) is i (drop i s) ≡ afterInformationalStatus known (heads t known f) is n next (drop next s)
       unfolding heads _>>=_
       status-informational b g = rw (integer-got s i cutOff i e, eq-eqb (statusVerdict n) 0 z, b, lt-leb _ _ g)
 
-      status-final : isInformational n ≡ false → heads known (suc f) is i (drop i s) ≡ afterFinalStatus known is n next (drop next s)
+      status-final : isInformational n ≡ false → heads t known (suc f) is i (drop i s) ≡ afterFinalStatus t known is n next (drop next s)
       unfolding heads _>>=_
       status-final b = rw (integer-got s i cutOff i e, eq-eqb (statusVerdict n) 0 z, b)
 
 module _ (s : List ℕ) (known : Bool) (i count base : ℕ) (hs hs′ : List ℕ) where
   pub next-cut : readInt i (drop i s) ≡ Cut
-      → Headed (SoManyHeads count) (λ f is. heads known (suc f) is i (drop i s)) known s base hs hs′ (head.Refused cutOff i)
-  next-cut e = record { by = λ f is z. status-cut s known i f is e }
+      → Headed (SoManyHeads count) (λ f is t. heads t known (suc f) is i (drop i s)) known s base hs hs′ (head.Refused cutOff i)
+  next-cut e = record { by = λ f is z t. status-cut s known i f is t e }
 
   module _ {n next : ℕ} (e : readInt i (drop i s) ≡ Value n next) {v : ℕ} (q : v ≡ statusVerdict n) where
-    pub next-wrong : (v ≡ 0 → ⊥) → Headed (SoManyHeads count) (λ f is. heads known (suc f) is i (drop i s)) known s base hs hs′ (head.Refused v i)
-    next-wrong z = record { by = λ f is c. status-wrong s known i f is e (λ u. z (q ∙ u)) ∙ rw q }
+    pub next-wrong : (v ≡ 0 → ⊥) → Headed (SoManyHeads count) (λ f is t. heads t known (suc f) is i (drop i s)) known s base hs hs′ (head.Refused v i)
+    next-wrong z = record { by = λ f is c t. status-wrong s known i f is t e (λ u. z (q ∙ u)) ∙ rw q }
 
     module _ (z : v ≡ 0) where
       pub next-full : isInformational n ≡ true → leb (count + 1) informationalMost ≡ false
-          → Headed (SoManyHeads count) (λ f is. heads known (suc f) is i (drop i s)) known s base hs hs′ (head.Refused tooLarge i)
-      next-full b g = record { by = λ f is c. status-full s known i f is e (sym q ∙ z) b (omega (arith, leb-false (count + 1) informationalMost g, c)) }
+          → Headed (SoManyHeads count) (λ f is t. heads t known (suc f) is i (drop i s)) known s base hs hs′ (head.Refused tooLarge i)
+      next-full b g = record { by = λ f is c t. status-full s known i f is t e (sym q ∙ z) b (omega (arith, leb-false (count + 1) informationalMost g, c)) }
 
       module _ {r : HeadRead} where
         pub next-informational : isInformational n ≡ true → leb (count + 1) informationalMost ≡ true
-            → Headed FewHeads (λ f is. afterInformationalStatus known (heads known f) is n next (drop next s)) known s base hs hs′ r
-            → Headed (SoManyHeads count) (λ f is. heads known (suc f) is i (drop i s)) known s base hs hs′ r
+            → Headed FewHeads (λ f is t. afterInformationalStatus known (heads t known f) is n next (drop next s)) known s base hs hs′ r
+            → Headed (SoManyHeads count) (λ f is t. heads t known (suc f) is i (drop i s)) known s base hs hs′ r
         next-informational b g h =
             record {
               by = λ f is c.
-                  subst (λ (x : Got Message). HeadSays x known f is s base hs hs′ r)
-                  (sym (status-informational s known i f is e (sym q ∙ z) b (omega (arith, leb-true (count + 1) informationalMost g, c)))) (h .by f is (omega (arith, leb-true (count + 1) informationalMost g, c)));
+                  let few : length is < informationalMost = omega (arith, leb-true (count + 1) informationalMost g, c) in
+                  says-as known f is s base hs hs′ r (λ t. status-informational s known i f is t e (sym q ∙ z) b few) (h .by f is few);
             }
 
-        pub next-final : isInformational n ≡ false → Headed AnyHeads (λ f is. afterFinalStatus known is n next (drop next s)) known s base hs hs′ r
-            → Headed (SoManyHeads count) (λ f is. heads known (suc f) is i (drop i s)) known s base hs hs′ r
+        pub next-final : isInformational n ≡ false → Headed AnyHeads (λ f is t. afterFinalStatus t known is n next (drop next s)) known s base hs hs′ r
+            → Headed (SoManyHeads count) (λ f is t. heads t known (suc f) is i (drop i s)) known s base hs hs′ r
         next-final b h =
-            record {
-              by = λ f is c.
-                  subst (λ (x : Got Message). HeadSays x known f is s base hs hs′ r) (sym (status-final s known i f is e (sym q ∙ z) b)) (h .by f is tt);
-            }
+            record { by = λ f is c. says-as known f is s base hs hs′ r (λ t. status-final s known i f is t e (sym q ∙ z) b) (h .by f is tt) }

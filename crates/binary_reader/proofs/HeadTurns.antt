@@ -12,6 +12,7 @@ use Rattle.messages.specs.Message.{InformationalRead, Section, Message}
 use Rattle.messages.specs.Names.{kept}
 use Rattle.messages.specs.Answers.{fieldsNumbers, informationalNumbers, informationalLines}
 use Rattle.messages.specs.declared.Notes.{Notes}
+use Rattle.messages.specs.declared.Told.{Told}
 use Rattle.messages.proofs.Noting.{kept-few}
 use Rattle.ranges.proofs.HeadsStored.{lines-snoc, fields-more, numbers-more}
 use Rattle.binary.specs.Reader.{Got}
@@ -20,10 +21,11 @@ use Rattle.binary_reader.specs.Heads.{HeadStored, HeadSays, Headed, Head
 use Rattle.binary_reader.specs.declared.HeadRead.{HeadRead}
 use Rattle.binary_reader.specs.declared.HeadRead.the-variants as head
 use Rattle.binary_reader.specs.declared.HeadsRead.the-variants as heads-read
+use Rattle.binary_reader.proofs.HeadLaws.{says-as}
 
--- what was read of s up to the place i, where the reader of the whole answers x: informational heads whose fields are stored in hs and whose numbers
+-- what was read of s up to the place i, where the reader of the whole answers x, whatever is told: informational heads whose fields are stored in hs and whose numbers
 -- are stored in ns
-pub record HeadsTo (x : Got Message) (known : Bool) (s hs₀ hs ns₀ ns : List ℕ) (i count base : ℕ) : Type 0 where
+pub record HeadsTo (x : Told → Got Message) (known : Bool) (s hs₀ hs ns₀ ns : List ℕ) (i count base : ℕ) : Type 0 where
   pub read : List InformationalRead
   pub counted : length read ≡ count
   pub most : count ≤ informationalMost
@@ -31,10 +33,10 @@ pub record HeadsTo (x : Got Message) (known : Bool) (s hs₀ hs ns₀ ns : List 
   pub few : base ≤ count * linesMost
   pub stored : hs ≡ splice hs₀ 0 (fieldsNumbers (informationalLines read))
   pub numbers : ns ≡ splice ns₀ 0 (informationalNumbers read)
-  pub turn : x ≡ heads known (suc (informationalMost - count)) read i (drop i s)
+  pub turn : (t : Told) → x t ≡ heads t known (suc (informationalMost - count)) read i (drop i s)
 
 pub heads-start : (known : Bool) (s hs ns : List ℕ) (from : ℕ)
-    → HeadsTo (responseMessage known from (drop from s)) known s hs hs ns ns from 0 0
+    → HeadsTo (λ t. responseMessage t known from (drop from s)) known s hs hs ns ns from 0 0
 unfolding informationalLines informationalNumbers fieldsNumbers
 heads-start known s hs ns from =
     record {
@@ -45,17 +47,17 @@ heads-start known s hs ns from =
       few = omega arith;
       stored = refl;
       numbers = refl;
-      turn = refl;
+      turn = λ t. refl;
     }
 
-module _ {x : Got Message} {known : Bool} {s hs₀ hs hs′ ns₀ ns : List ℕ} {i count base : ℕ} (to : HeadsTo x known s hs₀ hs ns₀ ns i count base) {r : HeadRead}
-    (w : Headed (SoManyHeads count) (λ f is. heads known (suc f) is i (drop i s)) known s base hs hs′ r) where
+module _ {x : Told → Got Message} {known : Bool} {s hs₀ hs hs′ ns₀ ns : List ℕ} {i count base : ℕ} (to : HeadsTo x known s hs₀ hs ns₀ ns i count base) {r : HeadRead}
+    (w : Headed (SoManyHeads count) (λ f is t. heads t known (suc f) is i (drop i s)) known s base hs hs′ r) where
   says : {q : HeadRead} → r ≡ q → HeadSays x known (informationalMost - count) (to .read) s base hs hs′ q
   says {q} e =
-      subst (λ (y : Got Message). HeadSays y known (informationalMost - count) (to .read) s base hs hs′ q) (sym (to .turn))
+      says-as known (informationalMost - count) (to .read) s base hs hs′ q (to .turn)
       (subst
       (λ (z : HeadRead).
-      HeadSays (heads known (suc (informationalMost - count)) (to .read) i (drop i s)) known (informationalMost - count) (to .read) s base hs hs′ z)
+      HeadSays (λ t. heads t known (suc (informationalMost - count)) (to .read) i (drop i s)) known (informationalMost - count) (to .read) s base hs hs′ z)
       e (w .by (informationalMost - count) (to .read) (to .counted)))
 
   pub heads-refused : (ns′ : List ℕ) {k p : ℕ} → r ≡ head.Refused k p → HeadsTaken x known s hs₀ hs′ ns₀ ns′ (heads-read.Refused k p)
@@ -106,5 +108,5 @@ module _ {x : Got Message} {known : Bool} {s hs₀ hs hs′ ns₀ ns : List ℕ}
             few = omega (arith, few, to .few);
             stored = stored-more (d .1) ∙ rw (lines-snoc (to .read) y) refl;
             numbers = numbers-more ns₀ (to .read) y (to .counted) (to .numbers) f stores;
-            turn = d .3 ∙ ap (λ (m : ℕ). heads known m (to .read ++ y ∷ []) e (drop e s)) g;
+            turn = λ t. d .3 t ∙ ap (λ (m : ℕ). heads t known m (to .read ++ y ∷ []) e (drop e s)) g;
           }

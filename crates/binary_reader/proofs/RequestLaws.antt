@@ -15,6 +15,7 @@ use Rattle.messages.specs.declared.Framing.{Framing}
 use Rattle.messages.specs.declared.Notes.{Notes}
 use Rattle.messages.specs.declared.Outcome.{Outcome}
 use Rattle.messages.specs.declared.Outcome.the-variants as outcome
+use Rattle.messages.specs.declared.StatedLength.the-variants.{Missing}
 use Rattle.binary.specs.Reader.{Got, got, no, Reader, _>>=_, tell}
 use Rattle.binary.specs.Read.{RequestControl, requestControl, section, afterHeaders, afterHead, afterControl, requestMessage}
 use Rattle.sound.specs.Placed.{Each}
@@ -44,11 +45,11 @@ head-refuses : (known : Bool) (q : RequestControl) (h : Section) (at : ℕ) (l :
     → bothRules (authorityIn (h .end) (q .authority) (h .lines)) (mayState (h .end) (binaryFramingOf (h .lines))) ≡ wrong n p → afterHead known q h at l ≡ no n p
 unfolding afterHead
 head-refuses known q h at l e =
-    rules-refuse (λ a f. afterHeaders known true (requestStart (q .method) (q .scheme) a (q .path)) h f) at l (authorityIn (h .end) (q .authority) (h .lines)) (mayState (h .end) (binaryFramingOf (h .lines))) e
+    rules-refuse (λ a f. afterHeaders known true Missing (requestStart (q .method) (q .scheme) a (q .path)) h f) at l (authorityIn (h .end) (q .authority) (h .lines)) (mayState (h .end) (binaryFramingOf (h .lines))) e
 
 head-passes : (known : Bool) (q : RequestControl) (h : Section) (at : ℕ) (l : List ℕ) {a : Piece} {f : Framing}
     → authorityIn (h .end) (q .authority) (h .lines) ≡ good a → mayState (h .end) (binaryFramingOf (h .lines)) ≡ good f
-    → afterHead known q h at l ≡ afterHeaders known true (requestStart (q .method) (q .scheme) a (q .path)) h f at l
+    → afterHead known q h at l ≡ afterHeaders known true Missing (requestStart (q .method) (q .scheme) a (q .path)) h f at l
 unfolding afterHead _>>=_
 head-passes known q h at l u v = rw (u, v)
 
@@ -59,10 +60,10 @@ part-back s a h = ap (partAt (a .start)) (part-length s (a .start) (a .len) h)
 rest-says : (s : List ℕ) (m p : Span) (v : ℕ) (w : List ℕ) (a n k : ℕ) (lines : List FieldRead) (x : Got Message) (cs cs′ ts ts′ : List ℕ) (c : RestRead) (r : Outcome)
     → m .start + m .len ≤ length s → p .start + p .len ≤ length s → length w ≡ n → length (kept false lines) ≡ k
     → r ≡ requestOutcome (length s) v m (record { start = a; len = n }) p k c
-    → RestSays s (requestStart (pieceOf s m) v (piece a w) (pieceOf s p)) lines x cs cs′ ts ts′ c → MessageSays false [] lines x cs cs′ ts ts′ r
+    → RestSays s Missing (requestStart (pieceOf s m) v (piece a w) (pieceOf s p)) lines x cs cs′ ts ts′ c → MessageSays false [] lines x cs cs′ ts ts′ r
 unfolding recordOf
 rest-says s m p v w a n k lines (got x e l) cs cs′ ts ts′ c r f g h i o u =
-    (o ∙ rw (u .0, u .3, u .4, u .5, i, part-back s m f, part-back s p g, h) refl, u .1, u .2, u .4, ap isResponse (u .3), ap informationalIn (u .3))
+    (o ∙ rw (u .0, u .3, u .4, u .5, u .6, i, part-back s m f, part-back s p g, h) refl, u .1, u .2, u .4, ap isResponse (u .3), ap informationalIn (u .3))
 rest-says s m p v w a n k lines (no i j) cs cs′ ts ts′ c r f g h z o u = o ∙ rw u refl
 
 module _ (s : List ℕ) (known : Bool) (m a p : Span) (v end fields : ℕ) (notes : Notes) {r : HeadAnswer} (j : HeadJudged s a end notes r) where
@@ -89,7 +90,7 @@ module _ (s : List ℕ) (known : Bool) (m a p : Span) (v end fields : ℕ) (note
             let u = said e h y in
             let z = requestStart (pieceOf s m) v (piece i (u .0)) (pieceOf s p) in
             message-as (head-passes known (controlOf s m v a p) h end (drop end s) (u .1) (u .3))
-            (record { says = rest-says s m p v (u .0) i n fields (h .lines) (afterHeaders known true z h (notes .framing) end (drop end s)) cs cs′ ts ts′ c o f g (u .2) (y .fields) q (w .by z h .says) });
+            (record { says = rest-says s m p v (u .0) i n fields (h .lines) (afterHeaders known true Missing z h (notes .framing) end (drop end s)) cs cs′ ts ts′ c o f g (u .2) (y .fields) q (w .by Missing z h .says) });
       }
 
 -- ---- behind control data

@@ -6,8 +6,9 @@ use mathlib.Core.List.{List}
 use lib.ListN.{length, drop}
 use Rattle.octets.specs.Refusals.{badLength, badPadding}
 use Rattle.script.specs.Do.{Piece, good, wrong}
-use Rattle.messages.specs.Message.{FieldRead, Section, Start, Message, plainMessage}
+use Rattle.messages.specs.Message.{FieldRead, Section, Start, Message, statingMessage}
 use Rattle.messages.specs.declared.Framing.{Framing}
+use Rattle.messages.specs.declared.StatedLength.{StatedLength}
 use Rattle.binary.specs.Reader.{Got, got, no, _>>=_}
 use Rattle.binary.specs.Read.{content, contentAgrees, contentRule, trailers, padding, afterContent, afterHeaders}
 use Rattle.binary_parts.specs.Content.{Contented, Padded}
@@ -25,13 +26,13 @@ use Rattle.binary_reader.specs.declared.RestRead.the-variants.{Done, Ref
 use Rattle.binary_reader.proofs.Trailing.{trailed-refused, trailed-done}
 
 -- an answer that equals another promises the same
-rest-as : {s : List ℕ} {start : Start} {lines : List FieldRead} {x y : Got Message} {cs cs′ ts ts′ : List ℕ} {r : RestRead} → x ≡ y
-    → RestIs s start lines y cs cs′ ts ts′ r → RestIs s start lines x cs cs′ ts ts′ r
-rest-as {s} {start} {lines} {cs = cs} {cs′ = cs′} {ts = ts} {ts′ = ts′} {r = r} e h =
-    subst (λ (z : Got Message). RestIs s start lines z cs cs′ ts ts′ r) (sym e) h
+rest-as : {s : List ℕ} {stated : StatedLength} {start : Start} {lines : List FieldRead} {x y : Got Message} {cs cs′ ts ts′ : List ℕ} {r : RestRead} → x ≡ y
+    → RestIs s stated start lines y cs cs′ ts ts′ r → RestIs s stated start lines x cs cs′ ts ts′ r
+rest-as {s} {stated} {start} {lines} {cs = cs} {cs′ = cs′} {ts = ts} {ts′ = ts′} {r = r} e h =
+    subst (λ (z : Got Message). RestIs s stated start lines z cs cs′ ts ts′ r) (sym e) h
 
-rest-no : {s : List ℕ} {start : Start} {lines : List FieldRead} {x : Got Message} {cs cs′ ts ts′ : List ℕ} {n p : ℕ} → x ≡ no n p
-    → RestIs s start lines x cs cs′ ts ts′ (Refused n p)
+rest-no : {s : List ℕ} {stated : StatedLength} {start : Start} {lines : List FieldRead} {x : Got Message} {cs cs′ ts ts′ : List ℕ} {n p : ℕ} → x ≡ no n p
+    → RestIs s stated start lines x cs cs′ ts ts′ (Refused n p)
 rest-no {n = n} {p = p} e = rest-as {y = no n p} e (record { says = refl })
 
 same-done : {a b c x y z : ℕ} → a ≡ x → b ≡ y → c ≡ z → Done a b c ≡ Done x y z
@@ -39,45 +40,45 @@ same-done e f g = rw (e, f, g)
 
 -- ---- behind the content
 
-trailers-then : (s : List ℕ) (from : ℕ) (known body : Bool) (start : Start) (lines : List FieldRead) (c : List Piece) {fs : List FieldRead} {end v n : ℕ} {l : List ℕ}
+trailers-then : (s : List ℕ) (from : ℕ) (known body : Bool) (stated : StatedLength) (start : Start) (lines : List FieldRead) (c : List Piece) {fs : List FieldRead} {end v n : ℕ} {l : List ℕ}
     → trailers known body from (drop from s) ≡ got fs end (drop end s) → padding end (drop end s) ≡ got v n l
-    → afterContent known body start lines c from (drop from s) ≡ got (plainMessage start lines c fs) n l
+    → afterContent known body stated start lines c from (drop from s) ≡ got (statingMessage stated start lines c fs) n l
 unfolding afterContent _>>=_
-trailers-then s from known body start lines c e f = rw (e, f)
+trailers-then s from known body stated start lines c e f = rw (e, f)
 
 module _ (s : List ℕ) (from : ℕ) (known body : Bool) (count total : ℕ) {ts ts′ : List ℕ} {r : TrailersRead}
     (h : Trailed s (trailers known body from (drop from s)) ts ts′ r) where
   pub behind-no : {n p : ℕ} → r ≡ trailers-are.Refused n p → Behind s from known body count total ts ts′ (Refused n p)
   unfolding afterContent _>>=_
-  behind-no e = record { by = λ start lines c cs cs′ a b g. rest-no (rw (trailed-refused h e)) }
+  behind-no e = record { by = λ stated start lines c cs cs′ a b g. rest-no (rw (trailed-refused h e)) }
 
   module _ {end k : ℕ} (e : r ≡ trailers-are.Done end k) {q : Padding} (z : Padded s (padding end (drop end s)) q) where
     pub behind-padding : {p : ℕ} → q ≡ padding-is.Bad p → Behind s from known body count total ts ts′ (Refused badPadding p)
     unfolding afterContent _>>=_
-    behind-padding f = record { by = λ start lines c cs cs′ a b g. rest-no (rw (trailed-done h e .taken, padding-bad z f)) }
+    behind-padding f = record { by = λ stated start lines c cs cs′ a b g. rest-no (rw (trailed-done h e .taken, padding-bad z f)) }
 
     pub behind-done : q ≡ padding-is.Clean → Behind s from known body count total ts ts′ (Done count total k)
     behind-done f = let d = trailed-done h e in let w = padding-clean z f in
         record {
-          by = λ start lines c cs cs′ a b g.
-              rest-as {y = got (plainMessage start lines c (d .lines)) (length s) (w .rest)}
-              (trailers-then s from known body start lines c (d .taken) (w .taken))
-              (record { says = (same-done (sym a) (sym b) (sym (d .counted)), g, d .stored, refl, refl, refl) });
+          by = λ stated start lines c cs cs′ a b g.
+              rest-as {y = got (statingMessage stated start lines c (d .lines)) (length s) (w .rest)}
+              (trailers-then s from known body stated start lines c (d .taken) (w .taken))
+              (record { says = (same-done (sym a) (sym b) (sym (d .counted)), g, d .stored, refl, refl, refl, refl) });
         }
 
 -- ---- the content
 
-content-then : (s : List ℕ) (from : ℕ) (known body : Bool) (f : Framing) (start : Start) (h : Section) {c : List Piece} {end : ℕ}
+content-then : (s : List ℕ) (from : ℕ) (known body : Bool) (f : Framing) (stated : StatedLength) (start : Start) (h : Section) {c : List Piece} {end : ℕ}
     → content known from (drop from s) ≡ got c end (drop end s) → contentRule body f end c ≡ good c
-    → afterHeaders known body start h f from (drop from s) ≡ afterContent known body start (h .lines) c end (drop end s)
+    → afterHeaders known body stated start h f from (drop from s) ≡ afterContent known body stated start (h .lines) c end (drop end s)
 unfolding afterHeaders _>>=_
-content-then s from known body f start h e j = rw (e, j)
+content-then s from known body f stated start h e j = rw (e, j)
 
 module _ (s : List ℕ) (from : ℕ) (known body : Bool) (f : Framing) {cs cs′ : List ℕ} {r : ContentRead}
     (h : Contented s (content known from (drop from s)) cs cs′ r) where
   pub rested-no : {n p : ℕ} {ts ts′ : List ℕ} → r ≡ content-is.Refused n p → Rested s from known body f cs cs′ ts ts′ (Refused n p)
   unfolding afterHeaders _>>=_
-  rested-no e = record { by = λ start l. rest-no (rw (content-no h e)) }
+  rested-no e = record { by = λ stated start l. rest-no (rw (content-no h e)) }
 
   module _ {end count total : ℕ} (e : r ≡ content-is.Done end count total) {b : Bool} (a : b ≡ contentAgrees f body total) where
     judged : {t : Bool} → b ≡ t → contentRule body f end (content-done h e .chunks) ≡ cond t (good (content-done h e .chunks)) (wrong badLength end)
@@ -86,8 +87,12 @@ module _ (s : List ℕ) (from : ℕ) (known body : Bool) (f : Framing) {cs cs′
 
     pub rested-bad : {ts ts′ : List ℕ} → b ≡ false → Rested s from known body f cs cs′ ts ts′ (Refused badLength end)
     unfolding afterHeaders _>>=_
-    rested-bad g = record { by = λ start l. rest-no (rw (content-done h e .taken, judged g)) }
+    rested-bad g = record { by = λ stated start l. rest-no (rw (content-done h e .taken, judged g)) }
 
     pub rested-on : {ts ts′ : List ℕ} {o : RestRead} → b ≡ true → Behind s end known body count total ts ts′ o → Rested s from known body f cs cs′ ts ts′ o
     rested-on g w = let d = content-done h e in
-        record { by = λ start l. rest-as (content-then s from known body f start l (d .taken) (judged g)) (w .by start (l .lines) (d .chunks) cs cs′ (d .counted) (d .sum) (d .stored)) }
+        record {
+          by = λ stated start l.
+              rest-as (content-then s from known body f stated start l (d .taken) (judged g))
+              (w .by stated start (l .lines) (d .chunks) cs cs′ (d .counted) (d .sum) (d .stored));
+        }

@@ -15,6 +15,7 @@ use Rattle.messages.specs.Message.{Message}
 use Rattle.messages.specs.Answers.{readingOf}
 use Rattle.messages.specs.declared.Outcome.{Outcome}
 use Rattle.messages.specs.declared.Outcome.the-variants as outcome
+use Rattle.messages.specs.declared.Told.{Told}
 use Rattle.binary.specs.Reader.{no, _>>=_}
 use Rattle.binary.specs.Read.{requestMessage, responseMessage, afterIndicator, message, messageAnswer, readBinary}
 use Rattle.binary_sound.proofs.Sound.{binary-sound}
@@ -27,70 +28,70 @@ use Rattle.binary_reader.proofs.Answered.{answered-as, answered-no}
 
 -- ---- behind the framing indicator
 
-module _ {f : ℕ} (from : ℕ) (l : List ℕ) where
-  indicator-is : (g : ℕ) → f ≡ g → afterIndicator f from l ≡ afterIndicator g from l
-  indicator-is g e = ap (λ (n : ℕ). afterIndicator n from l) e
+module _ (t : Told) {f : ℕ} (from : ℕ) (l : List ℕ) where
+  indicator-is : (g : ℕ) → f ≡ g → afterIndicator t f from l ≡ afterIndicator t g from l
+  indicator-is g e = ap (λ (n : ℕ). afterIndicator t n from l) e
 
-  indicator-other : (f ≡ 0 → ⊥) → (f ≡ 1 → ⊥) → (f ≡ 2 → ⊥) → (f ≡ 3 → ⊥) → afterIndicator f from l ≡ no badIndicator 0
+  indicator-other : (f ≡ 0 → ⊥) → (f ≡ 1 → ⊥) → (f ≡ 2 → ⊥) → (f ≡ 3 → ⊥) → afterIndicator t f from l ≡ no badIndicator 0
   unfolding afterIndicator
   indicator-other a b c d = rw (ne-eqb f 0 a, ne-eqb f 1 b, ne-eqb f 2 c, ne-eqb f 3 d)
 
   module _ {hs hs′ ns cs cs′ ts ts′ : List ℕ} {r : Outcome} where
-    pub indicated-request : f ≡ 0 → Requested (requestMessage true from l) hs hs′ cs cs′ ts ts′ r → Responded (messageAnswer (afterIndicator f from l)) hs hs′ ns ns cs cs′ ts ts′ r
+    pub indicated-request : f ≡ 0 → Requested (requestMessage true from l) hs hs′ cs cs′ ts ts′ r → Responded (messageAnswer (afterIndicator t f from l)) hs hs′ ns ns cs cs′ ts ts′ r
     unfolding afterIndicator
     indicated-request e h = answered-as (indicator-is 0 e) (h .by ns)
 
     pub indicated-open-request : f ≡ 2 → Requested (requestMessage false from l) hs hs′ cs cs′ ts ts′ r
-        → Responded (messageAnswer (afterIndicator f from l)) hs hs′ ns ns cs cs′ ts ts′ r
+        → Responded (messageAnswer (afterIndicator t f from l)) hs hs′ ns ns cs cs′ ts ts′ r
     unfolding afterIndicator
     indicated-open-request e h = answered-as (indicator-is 2 e) (h .by ns)
 
   module _ {hs hs′ ns ns′ cs cs′ ts ts′ : List ℕ} {r : Outcome} where
-    pub indicated-response : f ≡ 1 → Responded (messageAnswer (responseMessage true from l)) hs hs′ ns ns′ cs cs′ ts ts′ r
-        → Responded (messageAnswer (afterIndicator f from l)) hs hs′ ns ns′ cs cs′ ts ts′ r
+    pub indicated-response : f ≡ 1 → Responded (messageAnswer (responseMessage t true from l)) hs hs′ ns ns′ cs cs′ ts ts′ r
+        → Responded (messageAnswer (afterIndicator t f from l)) hs hs′ ns ns′ cs cs′ ts ts′ r
     unfolding afterIndicator
     indicated-response e h = answered-as (indicator-is 1 e) h
 
-    pub indicated-open-response : f ≡ 3 → Responded (messageAnswer (responseMessage false from l)) hs hs′ ns ns′ cs cs′ ts ts′ r
-        → Responded (messageAnswer (afterIndicator f from l)) hs hs′ ns ns′ cs cs′ ts ts′ r
+    pub indicated-open-response : f ≡ 3 → Responded (messageAnswer (responseMessage t false from l)) hs hs′ ns ns′ cs cs′ ts ts′ r
+        → Responded (messageAnswer (afterIndicator t f from l)) hs hs′ ns ns′ cs cs′ ts ts′ r
     unfolding afterIndicator
     indicated-open-response e h = answered-as (indicator-is 3 e) h
 
   pub indicated-other : {hs hs′ ns ns′ cs cs′ ts ts′ : List ℕ} → (f ≡ 0 → ⊥) → (f ≡ 1 → ⊥) → (f ≡ 2 → ⊥) → (f ≡ 3 → ⊥)
-      → Responded (messageAnswer (afterIndicator f from l)) hs hs′ ns ns′ cs cs′ ts ts′ (outcome.Refusal badIndicator 0)
+      → Responded (messageAnswer (afterIndicator t f from l)) hs hs′ ns ns′ cs cs′ ts ts′ (outcome.Refusal badIndicator 0)
   indicated-other a b c d = answered-no (indicator-other a b c d)
 
 -- ---- the whole input
 
-read-whole : (s : List ℕ) → leb (length s) binaryMost ≡ true → readBinary s ≡ messageAnswer (message 0 s)
+read-whole : (t : Told) (s : List ℕ) → leb (length s) binaryMost ≡ true → readBinary t s ≡ messageAnswer (message t 0 s)
 unfolding readBinary
-read-whole s h = rw h
+read-whole t s h = rw h
 
-message-cut : (s : List ℕ) → readInt 0 (drop 0 s) ≡ Cut → message 0 s ≡ no cutOff 0
+message-cut : (t : Told) (s : List ℕ) → readInt 0 (drop 0 s) ≡ Cut → message t 0 s ≡ no cutOff 0
 unfolding message _>>=_
-message-cut s e = rw (integer-cut s 0 cutOff 0 e)
+message-cut t s e = rw (integer-cut s 0 cutOff 0 e)
 
-message-indicated : (s : List ℕ) {v next : ℕ} → readInt 0 (drop 0 s) ≡ Value v next → message 0 s ≡ afterIndicator v next (drop next s)
+message-indicated : (t : Told) (s : List ℕ) {v next : ℕ} → readInt 0 (drop 0 s) ≡ Value v next → message t 0 s ≡ afterIndicator t v next (drop next s)
 unfolding message _>>=_
-message-indicated s e = rw (integer-got s 0 cutOff 0 e)
+message-indicated t s e = rw (integer-got s 0 cutOff 0 e)
 
-module _ (s : List ℕ) {hs hs′ ns ns′ cs cs′ ts ts′ : List ℕ} where
-  whole-as : {x : Answer Message} {r : Outcome} → readBinary s ≡ x → Responded x hs hs′ ns ns′ cs cs′ ts ts′ r → Responded (readBinary s) hs hs′ ns ns′ cs cs′ ts ts′ r
+module _ (t : Told) (s : List ℕ) {hs hs′ ns ns′ cs cs′ ts ts′ : List ℕ} where
+  whole-as : {x : Answer Message} {r : Outcome} → readBinary t s ≡ x → Responded x hs hs′ ns ns′ cs cs′ ts ts′ r → Responded (readBinary t s) hs hs′ ns ns′ cs cs′ ts ts′ r
   whole-as {r = r} e h = subst (λ (z : Answer Message). Responded z hs hs′ ns ns′ cs cs′ ts ts′ r) (sym e) h
 
-  pub whole-large : leb (length s) binaryMost ≡ false → Responded (readBinary s) hs hs′ ns ns′ cs cs′ ts ts′ (outcome.Refusal tooLarge 0)
+  pub whole-large : leb (length s) binaryMost ≡ false → Responded (readBinary t s) hs hs′ ns ns′ cs cs′ ts ts′ (outcome.Refusal tooLarge 0)
   unfolding readBinary
   whole-large h = whole-as {x = refused tooLarge 0} (rw h) (record { says = refl; informational = tt })
 
   module _ (h : leb (length s) binaryMost ≡ true) where
-    pub whole-cut : readInt 0 (drop 0 s) ≡ Cut → Responded (readBinary s) hs hs′ ns ns′ cs cs′ ts ts′ (outcome.Refusal cutOff 0)
-    whole-cut e = whole-as (read-whole s h) (answered-no (message-cut s e))
+    pub whole-cut : readInt 0 (drop 0 s) ≡ Cut → Responded (readBinary t s) hs hs′ ns ns′ cs cs′ ts ts′ (outcome.Refusal cutOff 0)
+    whole-cut e = whole-as (read-whole t s h) (answered-no (message-cut t s e))
 
     pub whole-indicated : {v next : ℕ} {r : Outcome} → readInt 0 (drop 0 s) ≡ Value v next
-        → Responded (messageAnswer (afterIndicator v next (drop next s))) hs hs′ ns ns′ cs cs′ ts ts′ r → Responded (readBinary s) hs hs′ ns ns′ cs cs′ ts ts′ r
-    whole-indicated e w = whole-as (read-whole s h) (answered-as (message-indicated s e) w)
+        → Responded (messageAnswer (afterIndicator t v next (drop next s))) hs hs′ ns ns′ cs cs′ ts ts′ r → Responded (readBinary t s) hs hs′ ns ns′ cs cs′ ts ts′ r
+    whole-indicated e w = whole-as (read-whole t s h) (answered-as (message-indicated t s e) w)
 
-pub binary-by-value : (s : List ℕ) {hs′ ns′ cs′ ts′ : List ℕ} {o : Outcome}
-    → Responded (readBinary s) (replicate headsRoom 0) hs′ (replicate informationalRoom 0) ns′ (replicate chunksRoom 0) cs′ (replicate sectionRoom 0) ts′ o
-    → readingFrom o ns′ hs′ ts′ cs′ ≡ readingOf (readBinary s)
-binary-by-value s h = by-value s h (λ n m e. binary-sound s n m e .sound)
+pub binary-by-value : (t : Told) (s : List ℕ) {hs′ ns′ cs′ ts′ : List ℕ} {o : Outcome}
+    → Responded (readBinary t s) (replicate headsRoom 0) hs′ (replicate informationalRoom 0) ns′ (replicate chunksRoom 0) cs′ (replicate sectionRoom 0) ts′ o
+    → readingFrom o ns′ hs′ ts′ cs′ ≡ readingOf (readBinary t s)
+binary-by-value t s h = by-value s h (λ n m e. binary-sound t s n m e .sound)

@@ -13,6 +13,7 @@ use Rattle.messages.specs.Names.{kept}
 use Rattle.messages.specs.Notes.{notesOf}
 use Rattle.messages.specs.Answers.{fieldsNumbers, informationalNumbers, informationalLines}
 use Rattle.messages.specs.declared.Notes.{Notes}
+use Rattle.messages.specs.declared.Told.{Told}
 use Rattle.binary.specs.Reader.{Got, no}
 use Rattle.binary.specs.Read.{afterFinal, informationalRead, heads}
 use Rattle.binary_reader.specs.declared.HeadRead.{HeadRead}
@@ -35,17 +36,19 @@ pub record HeadStored (s : List ℕ) (base : ℕ) (hs hs′ : List ℕ) (e k : �
   pub count : base + length (kept true (h .lines)) ≡ k
   pub stored : hs′ ≡ splice hs (base * 4) (fieldsNumbers (kept true (h .lines)))
 
--- a head that was read behind the informational heads `is`, where the reader answers x
-abbrev pub HeadSays : Got Message → Bool → ℕ → List InformationalRead → List ℕ → ℕ → List ℕ → List ℕ → HeadRead → Type 0
+-- a head that was read behind the informational heads `is`, where the reader answers x, whatever is told
+abbrev pub HeadSays : (Told → Got Message) → Bool → ℕ → List InformationalRead → List ℕ → ℕ → List ℕ → List ℕ → HeadRead → Type 0
 HeadSays x known f is s base hs hs′ (head.Informational n e k) =
-    (h : Section) × HeadStored s base hs hs′ e k h × FewHeads is × (x ≡ heads known f (is ++ informationalRead n h ∷ []) e (drop e s))
+    (h : Section) × HeadStored s base hs hs′ e k h × FewHeads is
+    × ((t : Told) → x t ≡ heads t known f (is ++ informationalRead n h ∷ []) e (drop e s))
 HeadSays x known f is s base hs hs′ (head.Final n e k notes) =
-    (h : Section) × HeadStored s base hs hs′ e k h × (notes ≡ notesOf false (h .lines)) × FinalStatus n × (x ≡ afterFinal known is n h e (drop e s))
-HeadSays x known f is s base hs hs′ (head.Refused i p) = x ≡ no i p
+    (h : Section) × HeadStored s base hs hs′ e k h × (notes ≡ notesOf false (h .lines)) × FinalStatus n
+    × ((t : Told) → x t ≡ afterFinal t known is n h e (drop e s))
+HeadSays x known f is s base hs hs′ (head.Refused i p) = (t : Told) → x t ≡ no i p
 
 -- the same behind any informational heads of which P holds
-pub record Headed (P : List InformationalRead → Type 0) (x : ℕ → List InformationalRead → Got Message) (known : Bool) (s : List ℕ) (base : ℕ) (hs hs′ : List ℕ)
-    (r : HeadRead) : Type 0 where
+pub record Headed (P : List InformationalRead → Type 0) (x : ℕ → List InformationalRead → Told → Got Message) (known : Bool) (s : List ℕ) (base : ℕ)
+    (hs hs′ : List ℕ) (r : HeadRead) : Type 0 where
   pub by : (f : ℕ) (is : List InformationalRead) → P is → HeadSays (x f is) known f is s base hs hs′ r
 
 -- ---- all heads
@@ -59,14 +62,14 @@ pub record HeadsFacts (s : List ℕ) (is : List InformationalRead) (h : Section)
   pub noted : notes ≡ notesOf false (h .lines)
   pub status : FinalStatus n
 
--- where the reader answers x: the kept fields are stored in hs, status and number of kept fields of each informational head in ns
-abbrev pub HeadsSays : Got Message → Bool → List ℕ → List ℕ → List ℕ → List ℕ → List ℕ → HeadsRead → Type 0
+-- where the reader answers x, whatever is told: the kept fields are stored in hs, status and number of kept fields of each informational head in ns
+abbrev pub HeadsSays : (Told → Got Message) → Bool → List ℕ → List ℕ → List ℕ → List ℕ → List ℕ → HeadsRead → Type 0
 HeadsSays x known s hs hs′ ns ns′ (heads-read.Done n e c k notes) =
     (is : List InformationalRead) × (h : Section) × HeadsFacts s is h n e c k notes
-    × (x ≡ afterFinal known is n h e (drop e s))
+    × ((t : Told) → x t ≡ afterFinal t known is n h e (drop e s))
     × (hs′ ≡ splice hs 0 (fieldsNumbers (informationalLines is ++ kept true (h .lines)))) × (ns′ ≡ splice ns 0 (informationalNumbers is))
-HeadsSays x known s hs hs′ ns ns′ (heads-read.Refused i p) = x ≡ no i p
+HeadsSays x known s hs hs′ ns ns′ (heads-read.Refused i p) = (t : Told) → x t ≡ no i p
 
 -- the heads of a response that were read, as one fact
-pub record HeadsTaken (x : Got Message) (known : Bool) (s hs hs′ ns ns′ : List ℕ) (r : HeadsRead) : Type 0 where
+pub record HeadsTaken (x : Told → Got Message) (known : Bool) (s hs hs′ ns ns′ : List ℕ) (r : HeadsRead) : Type 0 where
   pub says : HeadsSays x known s hs hs′ ns ns′ r

@@ -13,6 +13,7 @@ use Rattle.messages.specs.Rules.{authorityIn, binaryFramingOf, mayState}
 use Rattle.messages.specs.declared.Framing.{Framing}
 use Rattle.messages.specs.declared.Notes.{Notes}
 use Rattle.messages.specs.declared.Part.{Part}
+use Rattle.messages.specs.declared.StatedLength.the-variants.{Missing}
 use Rattle.messages.specs.declared.Outcome.{Outcome}
 use Rattle.messages.specs.declared.Outcome.the-variants as outcome
 use Rattle.binary.specs.Reader.{Got}
@@ -59,7 +60,7 @@ partIs a = partAt (a .start) (a .len)
 -- the outcome of a request of n octets, by its numbers
 abbrev pub requestOutcome : ℕ → ℕ → Span → Span → Span → ℕ → RestRead → Outcome
 requestOutcome n scheme method authority path fields (rest-is.Done chunks total trailers) =
-    outcome.Message (requestRecord scheme (partIs method) (partIs authority) (partIs path) (counted fields chunks total trailers n))
+    outcome.Message (requestRecord scheme (partIs method) (partIs authority) (partIs path) (counted Missing fields chunks total trailers n))
 requestOutcome n scheme method authority path fields (rest-is.Refused k p) = outcome.Refusal k p
 
 -- ---- behind the head

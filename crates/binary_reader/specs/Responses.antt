@@ -12,6 +12,8 @@ use Rattle.messages.specs.declared.Framing.{Framing}
 use Rattle.messages.specs.declared.Notes.{Notes}
 use Rattle.messages.specs.declared.Outcome.{Outcome}
 use Rattle.messages.specs.declared.Outcome.the-variants as outcome
+use Rattle.messages.specs.declared.StatedLength.{StatedLength}
+use Rattle.messages.specs.declared.Told.{Told}
 use Rattle.binary.specs.Reader.{no}
 use Rattle.binary.specs.Read.{afterHeaders, afterFinal}
 use Rattle.binary_reader.specs.Heads.{HeadsFacts}
@@ -24,25 +26,26 @@ use Rattle.binary_reader.specs.declared.RestRead.the-variants as rest-is
 
 -- ---- what a final head states
 
--- behind a final head of status n that states f, at a place: content may follow or not, or the head is refused
-abbrev pub FinalSays : Bool → List InformationalRead → ℕ → Section → Framing → ℕ → List ℕ → FinalAnswer → Type 0
-FinalSays known is n h f at l (final.Good body) = afterFinal known is n h at l ≡ afterHeaders known body (responseStart is n) h f at l
-FinalSays known is n h f at l (final.Refused k p) = afterFinal known is n h at l ≡ no k p
+-- behind a final head of status n, at a place: content that agrees with f may follow, or none and a length may be stated, or the head is refused
+abbrev pub FinalSays : Told → Bool → List InformationalRead → ℕ → Section → ℕ → List ℕ → FinalAnswer → Type 0
+FinalSays t known is n h at l (final.Good body f stated) = afterFinal t known is n h at l ≡ afterHeaders known body stated (responseStart is n) h f at l
+FinalSays t known is n h at l (final.Refused k p) = afterFinal t known is n h at l ≡ no k p
 
 -- a final head of status n that ends at a place and states f: so is each section that does
-pub record FinalJudged (n : ℕ) (f : Framing) (end : ℕ) (r : FinalAnswer) : Type 0 where
+pub record FinalJudged (t : Told) (n : ℕ) (f : Framing) (end : ℕ) (r : FinalAnswer) : Type 0 where
   pub by : (known : Bool) (is : List InformationalRead) (h : Section) (at : ℕ) (l : List ℕ) → h .end ≡ end → binaryFramingOf (h .lines) ≡ f
-      → FinalSays known is n h f at l r
+      → FinalSays t known is n h at l r
 
 -- ---- whole responses
 
 -- the outcome of a response of n octets, by its numbers
-abbrev pub responseOutcome : ℕ → ℕ → ℕ → ℕ → RestRead → Outcome
-responseOutcome n status heads fields (rest-is.Done chunks total trailers) =
-    outcome.Message (responseRecord heads status (counted fields chunks total trailers n))
-responseOutcome n status heads fields (rest-is.Refused k p) = outcome.Refusal k p
+abbrev pub responseOutcome : StatedLength → ℕ → ℕ → ℕ → ℕ → RestRead → Outcome
+responseOutcome stated n status heads fields (rest-is.Done chunks total trailers) =
+    outcome.Message (responseRecord heads status (counted stated fields chunks total trailers n))
+responseOutcome stated n status heads fields (rest-is.Refused k p) = outcome.Refusal k p
 
 -- what stands behind any heads that were read up to a place
-pub record FinalRead (s : List ℕ) (known : Bool) (status end heads fields : ℕ) (notes : Notes) (cs cs′ ts ts′ : List ℕ) (r : Outcome) : Type 0 where
+pub record FinalRead (t : Told) (s : List ℕ) (known : Bool) (status end heads fields : ℕ) (notes : Notes) (cs cs′ ts ts′ : List ℕ) (r : Outcome)
+    : Type 0 where
   pub by : (is : List InformationalRead) (h : Section) → HeadsFacts s is h status end heads fields notes
-      → MessageIs true is (h .lines) (afterFinal known is status h end (drop end s)) cs cs′ ts ts′ r
+      → MessageIs true is (h .lines) (afterFinal t known is status h end (drop end s)) cs cs′ ts ts′ r

@@ -13,6 +13,7 @@ use Rattle.messages.specs.Meaning.{contentOf}
 use Rattle.messages.specs.Answers.{fieldsNumbers, chunksNumbers}
 use Rattle.messages.specs.declared.Counts.{Counts}
 use Rattle.messages.specs.declared.Framing.{Framing}
+use Rattle.messages.specs.declared.StatedLength.{StatedLength}
 use Rattle.binary.specs.Reader.{Got, got, no}
 use Rattle.binary.specs.Read.{afterContent, afterHeaders}
 use Rattle.binary_parts.specs.Control.{GoesOn}
@@ -35,30 +36,34 @@ pub record Trailed (s : List ℕ) (x : Got (List FieldRead)) (o o′ : List ℕ)
 
 -- ---- all that stands behind a header section
 
--- a message that was read to the end of s behind its start and its header lines: the ranges of its chunks and kept trailers, and their numbers
-abbrev pub RestSays : List ℕ → Start → List FieldRead → Got Message → List ℕ → List ℕ → List ℕ → List ℕ → RestRead → Type 0
-RestSays s start lines (got m e l) cs cs′ ts ts′ r =
+-- a message that was read to the end of s behind its start and its header lines, which state a length or none: the ranges of its chunks and kept trailers, and their numbers
+abbrev pub RestSays : List ℕ → StatedLength → Start → List FieldRead → Got Message → List ℕ → List ℕ → List ℕ → List ℕ → RestRead → Type 0
+RestSays s stated start lines (got m e l) cs cs′ ts ts′ r =
     (r ≡ rest-is.Done (length (m .chunks)) (length (contentOf (m .chunks))) (length (keptTrailers (m .trailers))))
     × (cs′ ≡ splice cs 0 (chunksNumbers (m .chunks)))
     × (ts′ ≡ splice ts 0 (fieldsNumbers (keptTrailers (m .trailers))))
     × (m .start ≡ start)
     × (m .lines ≡ lines)
     × (e ≡ length s)
-RestSays s start lines (no n p) cs cs′ ts ts′ r = r ≡ rest-is.Refused n p
+    × (m .stated ≡ stated)
+RestSays s stated start lines (no n p) cs cs′ ts ts′ r = r ≡ rest-is.Refused n p
 
 -- the promise of what is read to the end
-pub record RestIs (s : List ℕ) (start : Start) (lines : List FieldRead) (x : Got Message) (cs cs′ ts ts′ : List ℕ) (r : RestRead) : Type 0 where
-  pub says : RestSays s start lines x cs cs′ ts ts′ r
+pub record RestIs (s : List ℕ) (stated : StatedLength) (start : Start) (lines : List FieldRead) (x : Got Message) (cs cs′ ts ts′ : List ℕ) (r : RestRead)
+    : Type 0 where
+  pub says : RestSays s stated start lines x cs cs′ ts ts′ r
 
 -- what stands behind content of so many chunks and octets, whatever stands before it
 pub record Behind (s : List ℕ) (from : ℕ) (known body : Bool) (count total : ℕ) (ts ts′ : List ℕ) (r : RestRead) : Type 0 where
-  pub by : (start : Start) (lines : List FieldRead) (c : List Piece) (cs cs′ : List ℕ) → length c ≡ count → length (contentOf c) ≡ total
-      → cs′ ≡ splice cs 0 (chunksNumbers c) → RestIs s start lines (afterContent known body start lines c from (drop from s)) cs cs′ ts ts′ r
+  pub by : (stated : StatedLength) (start : Start) (lines : List FieldRead) (c : List Piece) (cs cs′ : List ℕ) → length c ≡ count → length (contentOf c) ≡ total
+      → cs′ ≡ splice cs 0 (chunksNumbers c) → RestIs s stated start lines (afterContent known body stated start lines c from (drop from s)) cs cs′ ts ts′ r
 
--- what stands behind any header section, in a message whose head states f
+-- what stands behind any header section, in a message whose content must agree with f
 pub record Rested (s : List ℕ) (from : ℕ) (known body : Bool) (f : Framing) (cs cs′ ts ts′ : List ℕ) (r : RestRead) : Type 0 where
-  pub by : (start : Start) (h : Section) → RestIs s start (h .lines) (afterHeaders known body start h f from (drop from s)) cs cs′ ts ts′ r
+  pub by : (stated : StatedLength) (start : Start) (h : Section)
+      → RestIs s stated start (h .lines) (afterHeaders known body stated start h f from (drop from s)) cs cs′ ts ts′ r
 
--- how much of a message of n octets was read
-abbrev pub counted : ℕ → ℕ → ℕ → ℕ → ℕ → Counts
-counted fields chunks total trailers n = record { headers = fields; chunks = chunks; content = total; trailers = trailers; length = n }
+-- how much of a message of n octets was read, and the length that it states
+abbrev pub counted : StatedLength → ℕ → ℕ → ℕ → ℕ → ℕ → Counts
+counted stated fields chunks total trailers n =
+    record { headers = fields; chunks = chunks; content = total; trailers = trailers; length = n; stated = stated }

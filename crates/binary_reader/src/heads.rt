@@ -34,7 +34,7 @@ fn after_informational_status(
     headers: &mut [u32],
 ) -> HeadRead
     requires { ⌜ (now t ≡ classes) × (next ≤ length (now s)) × (length (now s) < placesEnd) × (base * 4 + sectionRoom ≤ length (now headers)) ⌝ }
-    ensures { λ r. ⌜ Headed FewHeads (λ f is. afterInformationalStatus known (heads known f) is status next (drop next (now (s .entry))))
+    ensures { λ r. ⌜ Headed FewHeads (λ f is told. afterInformationalStatus known (heads told known f) is status next (drop next (now (s .entry))))
         known (now (s .entry)) base (now (headers .entry)) (now (headers .exit)) r ⌝ }
 {
     let h = read_section(t, s, next, known, true, base, headers);
@@ -63,7 +63,7 @@ fn after_final_status(
 ) -> HeadRead
     requires { ⌜ (now t ≡ classes) × (next ≤ length (now s)) × (length (now s) < placesEnd) × (base * 4 + sectionRoom ≤ length (now headers))
         × FinalStatus status ⌝ }
-    ensures { λ r. ⌜ Headed AnyHeads (λ f is. afterFinalStatus known is status next (drop next (now (s .entry))))
+    ensures { λ r. ⌜ Headed AnyHeads (λ f is told. afterFinalStatus told known is status next (drop next (now (s .entry))))
         known (now (s .entry)) base (now (headers .entry)) (now (headers .exit)) r ⌝ }
 {
     let h = read_section(t, s, next, known, true, base, headers);
@@ -89,7 +89,7 @@ pub(crate) fn next_head(
     headers: &mut [u32],
 ) -> HeadRead
     requires { ⌜ (now t ≡ classes) × (length (now s) < placesEnd) × (base * 4 + sectionRoom ≤ length (now headers)) × (count ≤ informationalMost) ⌝ }
-    ensures { λ r. ⌜ Headed (SoManyHeads count) (λ f is. heads known (suc f) is i (drop i (now (s .entry))))
+    ensures { λ r. ⌜ Headed (SoManyHeads count) (λ f is told. heads told known (suc f) is i (drop i (now (s .entry))))
         known (now (s .entry)) base (now (headers .entry)) (now (headers .exit)) r ⌝ }
 {
     let n = read_int(s, i);
@@ -133,7 +133,7 @@ pub(crate) fn read_heads(
 ) -> HeadsRead
     requires { ⌜ (now t ≡ classes) × (length (now s) < placesEnd)
         × (headsRoom ≤ length (now headers)) × (informationalRoom ≤ length (now informational)) ⌝ }
-    ensures { λ r. ⌜ HeadsTaken (responseMessage known from (drop from (now (s .entry)))) known (now (s .entry))
+    ensures { λ r. ⌜ HeadsTaken (λ told. responseMessage told known from (drop from (now (s .entry)))) known (now (s .entry))
         (now (headers .entry)) (now (headers .exit)) (now (informational .entry)) (now (informational .exit)) r ⌝ }
 {
     let mut i = from;

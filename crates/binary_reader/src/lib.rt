@@ -5,7 +5,9 @@ mod response;
 mod rest;
 pub mod whole;
 
+use messages::Framing;
 use messages::Notes;
+use messages::StatedLength;
 
 // A response's head that was read: its status, the place behind it and how many kept fields stand in the lent ranges now; of a final one, what its
 // lines state.
@@ -68,8 +70,16 @@ enum HeadAnswer {
     Refused { number: u32, place: usize },
 }
 
-// A final head that was judged by what it states: whether the message may have content.
+// A final head that was judged by what it states: whether the message may have content, what the content must agree with, and the length that the message
+// states where it has none.
 enum FinalAnswer {
-    Good { body: bool },
-    Refused { number: u32, place: usize },
+    Good {
+        body: bool,
+        framing: Framing,
+        stated: StatedLength,
+    },
+    Refused {
+        number: u32,
+        place: usize,
+    },
 }

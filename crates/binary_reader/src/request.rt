@@ -12,6 +12,7 @@ use messages::Counts;
 use messages::Notes;
 use messages::Outcome;
 use messages::Part;
+use messages::StatedLength;
 use messages::answers::request_record;
 use messages::sections::authority_in;
 use messages::sections::is_clashing;
@@ -88,6 +89,7 @@ fn request_outcome(
                 content: total,
                 trailers,
                 length: n,
+                stated: StatedLength::Missing,
             };
             return Outcome::Message(request_record(
                 scheme,

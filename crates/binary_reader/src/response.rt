@@ -9,10 +9,13 @@ use messages::Counts;
 use messages::Framing;
 use messages::Notes;
 use messages::Outcome;
+use messages::StatedLength;
+use messages::Told;
 use messages::answers::response_record;
-use messages::parts::is_bodyless;
+use messages::parts::ends_at_head;
+use messages::sections::bodyless_rule;
 use messages::sections::is_clashing;
-use messages::sections::nothing_stated;
+use messages::sections::stated_in;
 use octets::Refusals;
 ghost use mathlib.Core.Path.{_≡_};
 ghost use Prim.Native.Nat.{_≤_, _<_};
@@ -23,15 +26,20 @@ ghost use Rattle.ranges.specs.Ranges.{placesEnd, Responded};
 ghost use Rattle.messages.specs.Room.{sectionRoom, headsRoom, informationalRoom, chunksRoom};
 ghost use Rattle.binary_reader.specs.Responses.{FinalJudged, responseOutcome, FinalRead};
 
-// A final head that ends at `end`, by what it states.
-fn judge_final(status: u32, framing: Framing, end: usize) -> FinalAnswer
-    ensures { λ r. ⌜ FinalJudged status framing end r ⌝ }
+// A final head that ends at `end`, by what is told and what it states.
+fn judge_final(told: Told, status: u32, framing: Framing, end: usize) -> FinalAnswer
+    ensures { λ r. ⌜ FinalJudged told status framing end r ⌝ }
 {
-    if is_bodyless(status as usize) {
-        let b = nothing_stated(framing, end);
+    let n = status as usize;
+    if ends_at_head(told, n) {
+        let b = bodyless_rule(told, n, framing, end);
         match b {
             BodyAnswer::Refused { number, place } => return FinalAnswer::Refused { number, place },
-            BodyAnswer::Read(_) => return FinalAnswer::Good { body: false },
+            BodyAnswer::Read(_) => return FinalAnswer::Good {
+                body: false,
+                framing: Framing::Unstated, // the content that the head may speak of does not follow
+                stated: stated_in(told, n, framing),
+            },
         }
     } else {
         if is_clashing(framing) {
@@ -40,13 +48,24 @@ fn judge_final(status: u32, framing: Framing, end: usize) -> FinalAnswer
                 place: end,
             };
         }
-        return FinalAnswer::Good { body: true };
+        return FinalAnswer::Good {
+            body: true,
+            framing,
+            stated: StatedLength::Missing,
+        };
     }
 }
 
 // The outcome of a response of n octets of which all was read.
-fn response_outcome(read: RestRead, n: usize, status: u32, heads: usize, fields: usize) -> Outcome
-    ensures { λ r. ⌜ r ≡ responseOutcome n status heads fields read ⌝ }
+fn response_outcome(
+    read: RestRead,
+    stated: StatedLength,
+    n: usize,
+    status: u32,
+    heads: usize,
+    fields: usize,
+) -> Outcome
+    ensures { λ r. ⌜ r ≡ responseOutcome stated n status heads fields read ⌝ }
 {
     match read {
         RestRead::Refused { number, place } => return Outcome::Refusal { number, place },
@@ -61,6 +80,7 @@ fn response_outcome(read: RestRead, n: usize, status: u32, heads: usize, fields:
                 content: total,
                 trailers,
                 length: n,
+                stated,
             };
             return Outcome::Message(response_record(heads, status, counts));
         }
@@ -71,6 +91,7 @@ fn response_outcome(read: RestRead, n: usize, status: u32, heads: usize, fields:
 fn after_final(
     t: &[u8; 256],
     s: &[u8],
+    told: Told,
     known: bool,
     status: u32,
     end: usize,
@@ -82,24 +103,29 @@ fn after_final(
 ) -> Outcome
     requires { ⌜ (now t ≡ classes) × (end ≤ length (now s)) × (length (now s) < placesEnd)
         × (chunksRoom ≤ length (now chunks)) × (sectionRoom ≤ length (now trailers)) ⌝ }
-    ensures { λ r. ⌜ FinalRead (now (s .entry)) known status end heads fields notes
+    ensures { λ r. ⌜ FinalRead told (now (s .entry)) known status end heads fields notes
         (now (chunks .entry)) (now (chunks .exit)) (now (trailers .entry)) (now (trailers .exit)) r ⌝ }
 {
     let f = notes.framing;
-    let j = judge_final(status, f, end);
+    let j = judge_final(told, status, f, end);
     match j {
         FinalAnswer::Refused { number, place } => return Outcome::Refusal { number, place },
-        FinalAnswer::Good { body } => {
-            let c = after_headers(t, s, end, known, body, f, chunks, trailers);
-            return response_outcome(c, s.len(), status, heads, fields);
+        FinalAnswer::Good {
+            body,
+            framing,
+            stated,
+        } => {
+            let c = after_headers(t, s, end, known, body, framing, chunks, trailers);
+            return response_outcome(c, stated, s.len(), status, heads, fields);
         }
     }
 }
 
-// The response from `from` on, behind its framing: its outcome, and the ranges of an accepted one in the lent space.
+// The response from `from` on, behind its framing, as told: its outcome, and the ranges of an accepted one in the lent space.
 pub(crate) fn response_in(
     t: &[u8; 256],
     s: &[u8],
+    told: Told,
     from: usize,
     known: bool,
     headers: &mut [u32],
@@ -110,7 +136,7 @@ pub(crate) fn response_in(
     requires { ⌜ (now t ≡ classes) × (length (now s) < placesEnd)
         × (headsRoom ≤ length (now headers)) × (informationalRoom ≤ length (now informational))
         × (chunksRoom ≤ length (now chunks)) × (sectionRoom ≤ length (now trailers)) ⌝ }
-    ensures { λ r. ⌜ Responded (messageAnswer (responseMessage known from (drop from (now (s .entry)))))
+    ensures { λ r. ⌜ Responded (messageAnswer (responseMessage told known from (drop from (now (s .entry)))))
         (now (headers .entry)) (now (headers .exit)) (now (informational .entry)) (now (informational .exit))
         (now (chunks .entry)) (now (chunks .exit)) (now (trailers .entry)) (now (trailers .exit)) r ⌝ }
 {
@@ -126,6 +152,7 @@ pub(crate) fn response_in(
         } => return after_final(
             t,
             s,
+            told,
             known,
             status,
             end,

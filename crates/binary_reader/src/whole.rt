@@ -3,6 +3,7 @@ use crate::request::request_in;
 use crate::response::response_in;
 use messages::Outcome;
 use messages::Reading;
+use messages::Told;
 use numbers::Integer;
 use numbers::read_int;
 use octets::Limits;
@@ -22,6 +23,7 @@ ghost use Rattle.messages.specs.Room.{sectionRoom, headsRoom, informationalRoom
 fn after_indicator(
     t: &[u8; 256],
     s: &[u8],
+    told: Told,
     indicator: usize,
     from: usize,
     headers: &mut [u32],
@@ -32,7 +34,7 @@ fn after_indicator(
     requires { ⌜ (now t ≡ classes) × (length (now s) < placesEnd)
         × (headsRoom ≤ length (now headers)) × (informationalRoom ≤ length (now informational))
         × (chunksRoom ≤ length (now chunks)) × (sectionRoom ≤ length (now trailers)) ⌝ }
-    ensures { λ r. ⌜ Responded (messageAnswer (afterIndicator indicator from (drop from (now (s .entry)))))
+    ensures { λ r. ⌜ Responded (messageAnswer (afterIndicator told indicator from (drop from (now (s .entry)))))
         (now (headers .entry)) (now (headers .exit)) (now (informational .entry)) (now (informational .exit))
         (now (chunks .entry)) (now (chunks .exit)) (now (trailers .entry)) (now (trailers .exit)) r ⌝ }
 {
@@ -40,13 +42,33 @@ fn after_indicator(
         return request_in(t, s, from, true, headers, chunks, trailers);
     }
     if indicator == 1 {
-        return response_in(t, s, from, true, headers, informational, chunks, trailers);
+        return response_in(
+            t,
+            s,
+            told,
+            from,
+            true,
+            headers,
+            informational,
+            chunks,
+            trailers,
+        );
     }
     if indicator == 2 {
         return request_in(t, s, from, false, headers, chunks, trailers);
     }
     if indicator == 3 {
-        return response_in(t, s, from, false, headers, informational, chunks, trailers);
+        return response_in(
+            t,
+            s,
+            told,
+            from,
+            false,
+            headers,
+            informational,
+            chunks,
+            trailers,
+        );
     }
     Outcome::Refusal {
         number: Refusals::BAD_INDICATOR,
@@ -54,10 +76,11 @@ fn after_indicator(
     }
 }
 
-// The message that s is: its outcome, and the ranges of an accepted one in the lent space.
+// The message that s is, as told: its outcome, and the ranges of an accepted one in the lent space.
 pub fn binary_in(
     t: &[u8; 256],
     s: &[u8],
+    told: Told,
     headers: &mut [u32],
     informational: &mut [u32],
     chunks: &mut [u32],
@@ -66,7 +89,7 @@ pub fn binary_in(
     requires { ⌜ (now t ≡ classes)
         × (headsRoom ≤ length (now headers)) × (informationalRoom ≤ length (now informational))
         × (chunksRoom ≤ length (now chunks)) × (sectionRoom ≤ length (now trailers)) ⌝ }
-    ensures { λ r. ⌜ Responded (readBinary (now (s .entry)))
+    ensures { λ r. ⌜ Responded (readBinary told (now (s .entry)))
         (now (headers .entry)) (now (headers .exit)) (now (informational .entry)) (now (informational .exit))
         (now (chunks .entry)) (now (chunks .exit)) (now (trailers .entry)) (now (trailers .exit)) r ⌝ }
 {
@@ -78,7 +101,17 @@ pub fn binary_in(
                 place: 0,
             };
         };
-        return after_indicator(t, s, value, next, headers, informational, chunks, trailers);
+        return after_indicator(
+            t,
+            s,
+            told,
+            value,
+            next,
+            headers,
+            informational,
+            chunks,
+            trailers,
+        );
     }
     Outcome::Refusal {
         number: Refusals::TOO_LARGE,
@@ -86,9 +119,9 @@ pub fn binary_in(
     }
 }
 
-// A message of Binary HTTP: its answer by value.
-pub fn read_binary(input: &[u8]) -> Reading
-    ensures { λ r. ⌜ r ≡ readingOf (readBinary (now (input .entry))) ⌝ }
+// A message of Binary HTTP, as told: its answer by value.
+pub fn read_binary(input: &[u8], told: Told) -> Reading
+    ensures { λ r. ⌜ r ≡ readingOf (readBinary told (now (input .entry))) ⌝ }
 {
     let t = class_table();
     let mut informational = [0u32; 8];
@@ -98,6 +131,7 @@ pub fn read_binary(input: &[u8]) -> Reading
     let o = binary_in(
         &t,
         input,
+        told,
         &mut headers,
         &mut informational,
         &mut chunks,

@@ -208,8 +208,8 @@ module _ (t : Told) (s : List ℕ) (hs : List InformationalRead) (n : ℕ) (h : 
       let w = body-valid false cs ts (g .filled .empty) (g .named .none) in
       response-at false Unstated _ g (any-body (not (isBodyless n)) _ _ w)
       (rw q
-        (j .valid (map informationalMeans hs) _ refl w λ k p e.
-        omega (arith, length-map (kept true (h .lines)) fieldMeans, stated-few-binary true (h .lines) (l .section .few) k p e)))
+      (j .valid (map informationalMeans hs) _ refl w λ k p e.
+      omega (arith, length-map (kept true (h .lines)) fieldMeans, stated-few-binary true (h .lines) (l .section .few) k p e)))
       (rw q w)
       (record { once = j .once; none = j .none; stated = refl; agrees = λ y. let z : _≡_ {A = ℕ} 0 1 = cc in absurd (omega arith) })
 

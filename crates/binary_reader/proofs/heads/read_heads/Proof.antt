@@ -14,7 +14,7 @@ use Rattle.ranges.proofs.store.Reads as store-reads
 
 abbrev Inv-loop : tie.InvT-loop
 Inv-loop t s from known headers₀ informational₀ i₀ count₀ base₀ headers informational i count base =
-    (t ≡ classes) × (length headers ≡ length headers₀) × (length informational ≡ length informational₀) × HeadsTo (responseMessage known from (drop from s)) known s headers₀ headers informational₀ informational i count base
+    (t ≡ classes) × (length headers ≡ length headers₀) × (length informational ≡ length informational₀) × HeadsTo (λ told. responseMessage told known from (drop from s)) known s headers₀ headers informational₀ informational i count base
 
 abbrev μ-loop : tie.MeasureT-loop
 μ-loop t s from known headers₀ informational₀ i₀ count₀ base₀ headers informational i count base =

@@ -13,7 +13,7 @@ enum-known-j : tie.Need-enum-known-j
 enum-known-j c = search needs
 
 returns : tie.Need-returns
-returns c = final-refused (c .before .before .before .before .before .before .before .args .s .now) _ _ _ _ _ _ (c .before .before .before .judge-final .ensures) (c .before .j .given .1)
+returns c = final-refused (c .before .before .before .before .before .before .before .args .told) (c .before .before .before .before .before .before .before .args .s .now) _ _ _ _ _ _ (c .before .before .before .judge-final .ensures) (c .before .j .given .1)
 
 enum-known-j-2 : tie.Need-enum-known-j-2
 enum-known-j-2 c = search needs
@@ -31,7 +31,7 @@ same-length-2 : tie.Need-same-length-2
 same-length-2 c = search needs
 
 returns-2 : tie.Need-returns-2
-returns-2 c = final-read (c .before .before .before .before .before .before .before .before .before .before .before .before .before .before .before .args .s .now) _ _ _ _ _ _ (c .before .before .before .before .before .before .before .before .before .before .before .judge-final .ensures) (c .before .before .before .before .before .before .before .before .before .j2 .given .1) (c .before .before .before .before .before .after-headers .ensures) (c .response-outcome .ensures)
+returns-2 c = final-read (c .before .before .before .before .before .before .before .before .before .before .before .before .before .before .before .args .told) (c .before .before .before .before .before .before .before .before .before .before .before .before .before .before .before .args .s .now) _ _ _ _ _ _ (c .before .before .before .before .before .before .before .before .before .before .before .judge-final .ensures) (c .before .before .before .before .before .before .before .before .before .j2 .given .1) (c .before .before .before .before .before .after-headers .ensures) (c .response-outcome .ensures)
 
 pub after-final-spec : {M : Type 1} → statement M
 after-final-spec =

@@ -19,7 +19,7 @@ same-length-2 : tie.Need-same-length-2
 same-length-2 c = search needs
 
 returns : tie.Need-returns
-returns c = responded-no (c .before .before .before .before .before .before .before .read-heads .ensures) (c .before .h .given .1)
+returns c = responded-no (c .before .before .before .before .before .before .before .read-heads .ensures) (c .before .before .before .before .before .before .before .before .before .before .before .before .before .before .before .args .told) (c .before .h .given .1)
 
 enum-known-h-2 : tie.Need-enum-known-h-2
 enum-known-h-2 c = search needs
@@ -40,7 +40,7 @@ same-length-6 : tie.Need-same-length-6
 same-length-6 c = search needs
 
 returns-2 : tie.Need-returns-2
-returns-2 c = responded-final (c .before .before .before .before .before .before .before .before .before .before .before .before .before .before .read-heads .ensures) (c .before .before .before .before .before .before .before .before .h2 .given .1) (c .before .before .before .before .after-final .ensures)
+returns-2 c = responded-final (c .before .before .before .before .before .before .before .before .before .before .before .before .before .before .read-heads .ensures) (c .before .before .before .before .before .before .before .before .h2 .given .1) (c .before .before .before .before .before .before .before .before .before .before .before .before .before .before .before .before .before .before .before .before .before .before .args .told) (c .before .before .before .before .after-final .ensures)
 
 pub response-in-spec : {M : Type 1} → statement M
 response-in-spec =

@@ -23,7 +23,7 @@ enum-told : tie.Need-enum-told
 enum-told c = search needs
 
 returns : tie.Need-returns
-returns c = whole-cut (c .before .before .before .before .before .before .before .before .before .before .args .s .now) (sym (c .before .before .before .before .fits2 .ensures) ∙ c .before .before .before .if1 .taken) (sym (c .before .before .read-int .ensures .0) ∙ c .enum-told .given .1)
+returns c = whole-cut (c .before .before .before .before .before .before .before .before .before .before .args .told) (c .before .before .before .before .before .before .before .before .before .before .args .s .now) (sym (c .before .before .before .before .fits2 .ensures) ∙ c .before .before .before .if1 .taken) (sym (c .before .before .read-int .ensures .0) ∙ c .enum-told .given .1)
 
 after-indicator-requires : tie.Need-after-indicator-requires
 after-indicator-requires c κs = (c .before .before .before .before .before .before .before .before .before .before .before .before .before .before .before .pre .0, omega (arith, leb-true (length (c .before .before .before .before .before .before .before .before .before .before .before .before .before .before .before .args .s .now)) binaryMost (sym (c .before .before .before .before .before .before .before .before .before .fits2 .ensures) ∙ c .before .before .before .before .before .before .before .before .if1 .taken)), c .before .before .before .before .before .before .before .before .before .before .before .before .before .before .before .pre .1, c .before .before .before .before .before .before .before .before .before .before .before .before .before .before .before .pre .2, c .before .before .before .before .before .before .before .before .before .before .before .before .before .before .before .pre .3, c .before .before .before .before .before .before .before .before .before .before .before .before .before .before .before .pre .4)
@@ -41,10 +41,10 @@ same-length-4 : tie.Need-same-length-4
 same-length-4 c = search needs
 
 returns-2 : tie.Need-returns-2
-returns-2 c = whole-indicated (c .before .before .before .before .before .before .before .before .before .before .before .before .before .before .before .before .before .before .before .before .before .before .before .before .args .s .now) (sym (c .before .before .before .before .before .before .before .before .before .before .before .before .before .before .before .before .before .before .fits2 .ensures) ∙ c .before .before .before .before .before .before .before .before .before .before .before .before .before .before .before .before .before .if1 .taken) (sym (c .before .before .before .before .before .before .before .before .before .before .before .before .before .before .before .before .read-int .ensures .0) ∙ c .before .before .before .before .before .before .before .before .before .before .before .before .before .before .v .given .1) (c .before .before .before .before .before .before .before .before .after-indicator .ensures)
+returns-2 c = whole-indicated (c .before .before .before .before .before .before .before .before .before .before .before .before .before .before .before .before .before .before .before .before .before .before .before .before .args .told) (c .before .before .before .before .before .before .before .before .before .before .before .before .before .before .before .before .before .before .before .before .before .before .before .before .args .s .now) (sym (c .before .before .before .before .before .before .before .before .before .before .before .before .before .before .before .before .before .before .fits2 .ensures) ∙ c .before .before .before .before .before .before .before .before .before .before .before .before .before .before .before .before .before .if1 .taken) (sym (c .before .before .before .before .before .before .before .before .before .before .before .before .before .before .before .before .read-int .ensures .0) ∙ c .before .before .before .before .before .before .before .before .before .before .before .before .before .before .v .given .1) (c .before .before .before .before .before .before .before .before .after-indicator .ensures)
 
 returns-3 : tie.Need-returns-3
-returns-3 c = whole-large (c .before .before .before .before .before .before .before .args .s .now) (sym (c .before .fits2 .ensures) ∙ c .if1 .left)
+returns-3 c = whole-large (c .before .before .before .before .before .before .before .args .told) (c .before .before .before .before .before .before .before .args .s .now) (sym (c .before .fits2 .ensures) ∙ c .if1 .left)
 
 pub binary-in-spec : {M : Type 1} → statement M
 binary-in-spec =

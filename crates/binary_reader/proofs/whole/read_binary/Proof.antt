@@ -29,7 +29,7 @@ reading-requires : tie.Need-reading-requires
 reading-requires c κs = search needs
 
 returns : tie.Need-returns
-returns c = c .reading .ensures ∙ binary-by-value (c .before .before .before .before .before .before .before .before .before .before .before .before .before .args .input .now) (c .before .before .before .before .before .binary-in .ensures)
+returns c = c .reading .ensures ∙ binary-by-value (c .before .before .before .before .before .before .before .before .before .before .before .before .before .args .told) (c .before .before .before .before .before .before .before .before .before .before .before .before .before .args .input .now) (c .before .before .before .before .before .binary-in .ensures)
 
 pub read-binary-spec : {M : Type 1} → statement M
 read-binary-spec =
