@@ -17,7 +17,7 @@ entry-served h g = record { answers = g .0 ∙ ap writtenNumber (h .answer); pla
 
 pub entry-taken : {x : Answer Message} {y : Reply} {o o′ : List ℕ} {k : ℕ} {w : Written} {place number : ℕ} → TakenServed x y o o′ k w
     → (number ≡ writtenNumber w) × (place ≡ writtenPlace w) → EntryTaken x y o o′ k place number
-entry-taken {x = x} h g = record { served = entry-served (h .served) g; takes = h .taken ∙ ap (takenFrom x) (h .served .answer) }
+entry-taken {x = x} h g = record { served = entry-served (h .served) g; takes = h .takes ∙ ap (takenFrom x) (h .served .answer) }
 
 -- the inner call's answer, by what it is
 pub field-entered : {a b : Asked} {n p i l r : ℕ} → a ≡ b → FieldEntered a n p i l r → FieldEntered b n p i l r

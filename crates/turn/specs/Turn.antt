@@ -35,7 +35,7 @@ takenFrom more w = 0
 -- a turning off a stream that was lent o leaves o′, answers r and says how many octets it took: x is the reader's answer, y what is to be written
 pub record TakenServed (x : Answer Message) (y : Reply) (o o′ : List ℕ) (taken : ℕ) (r : Written) : Type 0 where
   pub served : Served y o o′ r
-  pub taken : taken ≡ takenFrom x r
+  pub takes : taken ≡ takenFrom x r
 
 -- ---- the four turnings of an input
 

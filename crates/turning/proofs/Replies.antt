@@ -40,14 +40,14 @@ module _ {x : Answer Message} (n : ℕ) (write : Meaning → Reply) where
 
 module _ {x : Answer Message} (n : ℕ) (write : Meaning → Reply) where
   pub taken-more : (o : List ℕ) → x ≡ more → TakenServed x (replyFrom n x write) o o 0 (Refused moreNeeded n)
-  taken-more o e = record { served = turned-more n write o e; taken = rw e }
+  taken-more o e = record { served = turned-more n write o e; takes = rw e }
 
   pub taken-refused : (o : List ℕ) (k p : ℕ) → x ≡ refused k p → TakenServed x (replyFrom n x write) o o 0 (Refused k p)
-  taken-refused o k p e = record { served = turned-refused n write o k p e; taken = rw e }
+  taken-refused o k p e = record { served = turned-refused n write o k p e; takes = rw e }
 
   pub taken : {o o′ : List ℕ} {w : Written} {i : ℕ} (k : ℕ) (m : Message) → x ≡ accepted k m → i ≡ k → Served (write (meaning m)) o o′ w
       → {j : ℕ} → j ≡ takenBy w i → TakenServed x (replyFrom n x write) o o′ j w
-  taken {w = w} k m e l h q = record { served = turned n write k m e h; taken = q ∙ rw (e, l) (go w) }
+  taken {w = w} k m e l h q = record { served = turned n write k m e h; takes = q ∙ rw (e, l) (go w) }
     where
       go : (w : Written) → takenBy w k ≡ takenFrom (accepted k m) w
       go (Done a) = refl

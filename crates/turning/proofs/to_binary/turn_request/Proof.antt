@@ -4,7 +4,7 @@ use lib.ListN.{length}
 use Rattle.ranges.proofs.Outcomes.{given-refusal, given-more}
 use Rattle.http1_reader.proofs.Values.{request-held}
 use Rattle.binary_writer.specs.Write.{toBinary}
-use Rattle.turning.proofs.Replies.{turned-more, turned-refused, turned}
+use Rattle.turning.proofs.Replies.{taken-more, taken-refused, taken, held-length}
 use Rattle.turn.specs.Turn.{requestToBinary}
 use Rattle.turning.proofs.to_binary.turn_request.Statement.{statement}
 use Rattle.turning.proofs.to_binary.turn_request.Tie as tie
@@ -28,7 +28,7 @@ same-length-3 c = search needs
 
 returns : tie.Need-returns
 unfolding requestToBinary
-returns c = turned-more _ toBinary _ (given-more (c .before .before .before .before .before .before .before .before .request-in .ensures) (c .enum-told .given .1))
+returns c = taken-more _ toBinary _ (given-more (c .before .before .before .before .before .before .before .before .request-in .ensures) (c .enum-told .given .1))
 
 enum-known-o : tie.Need-enum-known-o
 enum-known-o c = search needs
@@ -44,7 +44,7 @@ same-length-6 c = search needs
 
 returns-2 : tie.Need-returns-2
 unfolding requestToBinary
-returns-2 c = turned-refused _ toBinary _ _ _ (given-refusal (c .before .before .before .before .before .before .before .before .before .request-in .ensures) _ _ (c .before .o .given .1))
+returns-2 c = taken-refused _ toBinary _ _ _ (given-refusal (c .before .before .before .before .before .before .before .before .before .request-in .ensures) _ _ (c .before .o .given .1))
 
 enum-known-o-2 : tie.Need-enum-known-o-2
 enum-known-o-2 c = search needs
@@ -54,6 +54,9 @@ slice-aggregate-write-message c = search needs
 
 write-message-requires : tie.Need-write-message-requires
 write-message-requires c κs = let h = request-held (c .before .before .before .before .before .before .before .before .before .before .before .before .before .before .before .before .before .before .before .before .before .before .before .args .told) (c .before .before .before .before .before .before .before .before .before .before .before .before .before .before .before .before .before .before .before .before .before .before .before .args .input .now) _ (c .before .before .before .before .before .before .before .before .before .before .before .before .before .before .request-in .ensures) (c .before .before .before .before .before .before .o2 .given .1) (c .before .before .before .before .before .before .before .before .before .before .before .before .before .before .before .before .before .before .before .before .before .before .before .pre .1) (c .before .before .before .before .before .before .before .before .before .before .before .before .before .before .before .before .before .before .before .before .before .before .before .pre .2) (c .before .before .before .before .before .before .before .before .before .before .before .before .before .before .before .before .before .before .before .before .before .before .before .pre .3) in (h .0, h .1, h .3)
+
+taken-by-requires : tie.Need-taken-by-requires
+taken-by-requires c κs = search needs
 
 same-length-7 : tie.Need-same-length-7
 same-length-7 c = search needs
@@ -69,7 +72,7 @@ same-length-10 c = search needs
 
 returns-3 : tie.Need-returns-3
 unfolding requestToBinary
-returns-3 c = let h = request-held (c .before .before .before .before .before .before .before .before .before .before .before .before .before .before .before .before .before .before .before .before .before .before .before .before .before .before .args .told) (c .before .before .before .before .before .before .before .before .before .before .before .before .before .before .before .before .before .before .before .before .before .before .before .before .before .before .args .input .now) _ (c .before .before .before .before .before .before .before .before .before .before .before .before .before .before .before .before .before .request-in .ensures) (c .before .before .before .before .before .before .before .before .before .o2 .given .1) (c .before .before .before .before .before .before .before .before .before .before .before .before .before .before .before .before .before .before .before .before .before .before .before .before .before .before .pre .1) (c .before .before .before .before .before .before .before .before .before .before .before .before .before .before .before .before .before .before .before .before .before .before .before .before .before .before .pre .2) (c .before .before .before .before .before .before .before .before .before .before .before .before .before .before .before .before .before .before .before .before .before .before .before .before .before .before .pre .3) in turned _ toBinary (h .0) (h .1) (h .2) (c .before .before .write-message .ensures .by (h .0) (h .1) (h .3))
+returns-3 c = let h = request-held (c .before .before .before .before .before .before .before .before .before .before .before .before .before .before .before .before .before .before .before .before .before .before .before .before .before .before .before .args .told) (c .before .before .before .before .before .before .before .before .before .before .before .before .before .before .before .before .before .before .before .before .before .before .before .before .before .before .before .args .input .now) _ (c .before .before .before .before .before .before .before .before .before .before .before .before .before .before .before .before .before .before .request-in .ensures) (c .before .before .before .before .before .before .before .before .before .before .o2 .given .1) (c .before .before .before .before .before .before .before .before .before .before .before .before .before .before .before .before .before .before .before .before .before .before .before .before .before .before .before .pre .1) (c .before .before .before .before .before .before .before .before .before .before .before .before .before .before .before .before .before .before .before .before .before .before .before .before .before .before .before .pre .2) (c .before .before .before .before .before .before .before .before .before .before .before .before .before .before .before .before .before .before .before .before .before .before .before .before .before .before .before .pre .3) in taken _ toBinary (h .0) (h .1) (h .2) (held-length (h .3)) (c .before .before .before .write-message .ensures .by (h .0) (h .1) (h .3)) (c .taken-by .ensures)
 
 pub turn-request-spec : {M : Type 1} → statement M
 turn-request-spec =
@@ -89,6 +92,7 @@ turn-request-spec =
     enum-known-o-2
     slice-aggregate-write-message
     write-message-requires
+    taken-by-requires
     same-length-7
     same-length-8
     same-length-9

@@ -5,7 +5,7 @@ use Rattle.ranges.proofs.Outcomes.{given-refusal, given-more, response-outcomed
 use Rattle.http1_reader.proofs.Values.{response-held}
 use Rattle.binary_writer.specs.Write.{toBinary}
 use Rattle.turn.specs.Turn.{responseToBinary}
-use Rattle.turning.proofs.Replies.{turned-more, turned-refused, turned}
+use Rattle.turning.proofs.Replies.{taken-more, taken-refused, taken, held-length}
 use Rattle.turning.proofs.to_binary.turn_response.Statement.{statement}
 use Rattle.turning.proofs.to_binary.turn_response.Tie as tie
 use Rattle.turning.proofs.to_binary.turn_response.Reads as reads
@@ -31,7 +31,7 @@ same-length-4 c = search needs
 
 returns : tie.Need-returns
 unfolding responseToBinary
-returns c = turned-more _ toBinary _ (given-more (response-outcomed (c .before .before .before .before .before .before .before .before .before .before .response-in .ensures)) (c .enum-told .given .1))
+returns c = taken-more _ toBinary _ (given-more (response-outcomed (c .before .before .before .before .before .before .before .before .before .before .response-in .ensures)) (c .enum-told .given .1))
 
 enum-known-o : tie.Need-enum-known-o
 enum-known-o c = search needs
@@ -50,13 +50,16 @@ same-length-8 c = search needs
 
 returns-2 : tie.Need-returns-2
 unfolding responseToBinary
-returns-2 c = turned-refused _ toBinary _ _ _ (given-refusal (response-outcomed (c .before .before .before .before .before .before .before .before .before .before .before .response-in .ensures)) _ _ (c .before .o .given .1))
+returns-2 c = taken-refused _ toBinary _ _ _ (given-refusal (response-outcomed (c .before .before .before .before .before .before .before .before .before .before .before .response-in .ensures)) _ _ (c .before .o .given .1))
 
 enum-known-o-2 : tie.Need-enum-known-o-2
 enum-known-o-2 c = search needs
 
 write-message-requires : tie.Need-write-message-requires
-write-message-requires c κs = let h = response-held (c .before .before .before .before .before .before .before .before .before .before .before .before .before .before .before .before .before .before .before .before .before .before .before .before .before .before .before .args .input .now) (c .before .before .before .before .before .before .before .before .before .before .before .before .before .before .before .before .response-in .ensures) (c .before .before .before .before .before .before .o2 .given .1) (c .before .before .before .before .before .before .before .before .before .before .before .before .before .before .before .before .before .before .before .before .before .before .before .before .before .before .before .pre .1) (c .before .before .before .before .before .before .before .before .before .before .before .before .before .before .before .before .before .before .before .before .before .before .before .before .before .before .before .pre .2) (c .before .before .before .before .before .before .before .before .before .before .before .before .before .before .before .before .before .before .before .before .before .before .before .before .before .before .before .pre .3) (c .before .before .before .before .before .before .before .before .before .before .before .before .before .before .before .before .before .before .before .before .before .before .before .before .before .before .before .pre .4) in (h .0, h .1, h .3)
+write-message-requires c κs = let h = response-held (c .before .before .before .before .before .before .before .before .before .before .before .before .before .before .before .before .before .before .before .before .before .before .before .before .before .before .before .args .told) (c .before .before .before .before .before .before .before .before .before .before .before .before .before .before .before .before .before .before .before .before .before .before .before .before .before .before .before .args .input .now) (c .before .before .before .before .before .before .before .before .before .before .before .before .before .before .before .before .response-in .ensures) (c .before .before .before .before .before .before .o2 .given .1) (c .before .before .before .before .before .before .before .before .before .before .before .before .before .before .before .before .before .before .before .before .before .before .before .before .before .before .before .pre .1) (c .before .before .before .before .before .before .before .before .before .before .before .before .before .before .before .before .before .before .before .before .before .before .before .before .before .before .before .pre .2) (c .before .before .before .before .before .before .before .before .before .before .before .before .before .before .before .before .before .before .before .before .before .before .before .before .before .before .before .pre .3) (c .before .before .before .before .before .before .before .before .before .before .before .before .before .before .before .before .before .before .before .before .before .before .before .before .before .before .before .pre .4) in (h .0, h .1, h .3)
+
+taken-by-requires : tie.Need-taken-by-requires
+taken-by-requires c κs = search needs
 
 same-length-9 : tie.Need-same-length-9
 same-length-9 c = search needs
@@ -75,7 +78,7 @@ same-length-13 c = search needs
 
 returns-3 : tie.Need-returns-3
 unfolding responseToBinary
-returns-3 c = let h = response-held (c .before .before .before .before .before .before .before .before .before .before .before .before .before .before .before .before .before .before .before .before .before .before .before .before .before .before .before .before .before .before .args .input .now) (c .before .before .before .before .before .before .before .before .before .before .before .before .before .before .before .before .before .before .before .response-in .ensures) (c .before .before .before .before .before .before .before .before .before .o2 .given .1) (c .before .before .before .before .before .before .before .before .before .before .before .before .before .before .before .before .before .before .before .before .before .before .before .before .before .before .before .before .before .before .pre .1) (c .before .before .before .before .before .before .before .before .before .before .before .before .before .before .before .before .before .before .before .before .before .before .before .before .before .before .before .before .before .before .pre .2) (c .before .before .before .before .before .before .before .before .before .before .before .before .before .before .before .before .before .before .before .before .before .before .before .before .before .before .before .before .before .before .pre .3) (c .before .before .before .before .before .before .before .before .before .before .before .before .before .before .before .before .before .before .before .before .before .before .before .before .before .before .before .before .before .before .pre .4) in turned _ toBinary (h .0) (h .1) (h .2) (c .before .before .write-message .ensures .by (h .0) (h .1) (h .3))
+returns-3 c = let h = response-held (c .before .before .before .before .before .before .before .before .before .before .before .before .before .before .before .before .before .before .before .before .before .before .before .before .before .before .before .before .before .before .before .args .told) (c .before .before .before .before .before .before .before .before .before .before .before .before .before .before .before .before .before .before .before .before .before .before .before .before .before .before .before .before .before .before .before .args .input .now) (c .before .before .before .before .before .before .before .before .before .before .before .before .before .before .before .before .before .before .before .before .response-in .ensures) (c .before .before .before .before .before .before .before .before .before .before .o2 .given .1) (c .before .before .before .before .before .before .before .before .before .before .before .before .before .before .before .before .before .before .before .before .before .before .before .before .before .before .before .before .before .before .before .pre .1) (c .before .before .before .before .before .before .before .before .before .before .before .before .before .before .before .before .before .before .before .before .before .before .before .before .before .before .before .before .before .before .before .pre .2) (c .before .before .before .before .before .before .before .before .before .before .before .before .before .before .before .before .before .before .before .before .before .before .before .before .before .before .before .before .before .before .before .pre .3) (c .before .before .before .before .before .before .before .before .before .before .before .before .before .before .before .before .before .before .before .before .before .before .before .before .before .before .before .before .before .before .before .pre .4) in taken _ toBinary (h .0) (h .1) (h .2) (held-length (h .3)) (c .before .before .before .write-message .ensures .by (h .0) (h .1) (h .3)) (c .taken-by .ensures)
 
 pub turn-response-spec : {M : Type 1} → statement M
 turn-response-spec =
@@ -96,6 +99,7 @@ turn-response-spec =
     returns-2
     enum-known-o-2
     write-message-requires
+    taken-by-requires
     same-length-9
     same-length-10
     same-length-11
