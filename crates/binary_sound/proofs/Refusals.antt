@@ -218,7 +218,7 @@ padded s e at (b ∷ l) y =
     either (Ends (Refusal binaryLast s) (λ n i z. Stands s e n i × Unit {0})) (eqb b 0) (padding (at + 1) l) (no badPadding at)
     (λ a. padded s e (at + 1) l (stands-on 1 (omega arith) y)) (λ a. at-place (lit≤ tt) (lit≤ tt) (omega (arith, lies-in (y .lies))))
 
--- a section ends in the input, and so do its lines begin
+-- a section ends in the input, and its lines begin in it
 record SectionIn (s : List ℕ) (h : Section) : Type 0 where
   end : h .end ≤ length s
   lines : Each (NamedIn (length s)) (h .lines)

@@ -14,6 +14,8 @@ use Rattle.octets.proofs.Kit.{no-true}
 use Rattle.script.specs.Script.{Answer, accepted, refused, more}
 use Rattle.messages.specs.Message.{Start, requestStart, responseStart, isResponse, Message}
 use Rattle.messages.specs.Meaning.{Meaning, meaning}
+use Rattle.messages.specs.Told.{plain}
+use Rattle.messages.specs.declared.Told.{Told}
 use Rattle.messages.specs.Answers.{recordFrom, recordOf}
 use Rattle.messages.specs.declared.Record.{Record}
 use Rattle.messages.specs.declared.Outcome.{Outcome}
@@ -28,7 +30,7 @@ use Rattle.output.specs.Reply.{Reply, writes, refuses, writtenOf, lentAfter, Se
 use Rattle.output.specs.declared.Written.{Written}
 use Rattle.output.specs.declared.Written.the-variants.{Done, Refused}
 use Rattle.output.proofs.Laws.{splice-is}
-use Rattle.bundle.specs.Bundle.{kindNumber, isWritten, verdictOn, messageVerdict}
+use Rattle.bundle.specs.Bundle.{readMessage, kindNumber, isWritten, verdictOn, messageVerdict}
 
 -- ---- the form
 
@@ -107,22 +109,28 @@ record-response n m = go (m .start)
 pub is-response : {s : List ℕ} {n : ℕ} {m : Message} {r : Record} {hs ns cs ts : List ℕ} → Held s n m r hs ns cs ts → r .response ≡ isResponse (m .start)
 is-response {n = n} {m = m} h = ap (λ (x : Record). x .response) (h .numbers) ∙ record-response n m
 
-pub message-held : (s : List ℕ) {hs hs′ ns ns′ cs cs′ ts ts′ : List ℕ} {o : Outcome} {r : Record} → Responded (readBinary s) hs hs′ ns ns′ cs cs′ ts ts′ o
-    → o ≡ outcome.Message r → 1280 ≤ length hs → 8 ≤ length ns → 512 ≤ length cs → 256 ≤ length ts → IsHeld (readBinary s) s r hs′ ns′ cs′ ts′
-message-held s h e = held s h e (λ n m q. binary-sound s n m q .sound)
+-- a call that is told nothing of the message reads it as bundles do
+pub told-nothing : (s : List ℕ) {t : Told} {hs hs′ ns ns′ cs cs′ ts ts′ : List ℕ} {o : Outcome} → t ≡ plain 0
+    → Responded (readBinary t s) hs hs′ ns ns′ cs cs′ ts ts′ o → Responded (readMessage s) hs hs′ ns ns′ cs cs′ ts ts′ o
+told-nothing s {hs = hs} {hs′ = hs′} {ns = ns} {ns′ = ns′} {cs = cs} {cs′ = cs′} {ts = ts} {ts′ = ts′} {o = o} e h =
+    subst (λ (t : Told). Responded (readBinary t s) hs hs′ ns ns′ cs cs′ ts ts′ o) e h
+
+pub message-held : (s : List ℕ) {hs hs′ ns ns′ cs cs′ ts ts′ : List ℕ} {o : Outcome} {r : Record} → Responded (readMessage s) hs hs′ ns ns′ cs cs′ ts ts′ o
+    → o ≡ outcome.Message r → 1280 ≤ length hs → 8 ≤ length ns → 512 ≤ length cs → 256 ≤ length ts → IsHeld (readMessage s) s r hs′ ns′ cs′ ts′
+message-held s h e = held s h e (λ n m q. binary-sound (plain 0) s n m q .sound)
 
 module _ (kind : ℕ) (s : List ℕ) where
-  pub verdict-more : {hs hs′ ns ns′ cs cs′ ts ts′ : List ℕ} {o : Outcome} → Responded (readBinary s) hs hs′ ns ns′ cs cs′ ts ts′ o → o ≡ outcome.More
+  pub verdict-more : {hs hs′ ns ns′ cs cs′ ts ts′ : List ℕ} {o : Outcome} → Responded (readMessage s) hs hs′ ns ns′ cs cs′ ts ts′ o → o ≡ outcome.More
       → moreNeeded ≡ messageVerdict kind s
   unfolding messageVerdict
   verdict-more h e = sym (ap (verdictOn kind s) (given-more (response-outcomed h) e))
 
-  pub verdict-refused : {hs hs′ ns ns′ cs cs′ ts ts′ : List ℕ} {o : Outcome} → Responded (readBinary s) hs hs′ ns ns′ cs cs′ ts ts′ o → (k p : ℕ)
+  pub verdict-refused : {hs hs′ ns ns′ cs cs′ ts ts′ : List ℕ} {o : Outcome} → Responded (readMessage s) hs hs′ ns ns′ cs cs′ ts ts′ o → (k p : ℕ)
       → o ≡ outcome.Refusal k p → k ≡ messageVerdict kind s
   unfolding messageVerdict
   verdict-refused h k p e = sym (ap (verdictOn kind s) (given-refusal (response-outcomed h) k p e))
 
-  module _ {r : Record} {hs ns cs ts : List ℕ} (h : IsHeld (readBinary s) s r hs ns cs ts) {t : Bool} (et : t ≡ eqb kind (kindNumber (r .response))) where
+  module _ {r : Record} {hs ns cs ts : List ℕ} (h : IsHeld (readMessage s) s r hs ns cs ts) {t : Bool} (et : t ≡ eqb kind (kindNumber (r .response))) where
     by-kind : messageVerdict kind s ≡ cond t (cond (isWritten (toBinary (meaning (h .1))) s) 0 badEntry) badEntry
     unfolding messageVerdict
     by-kind =

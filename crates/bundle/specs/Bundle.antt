@@ -13,6 +13,7 @@ use Rattle.numbers.specs.Integer.{plain}
 use Rattle.script.specs.Script.{Answer, accepted, refused, more}
 use Rattle.messages.specs.Message.{isResponse, Message}
 use Rattle.messages.specs.Meaning.{meaning}
+use Rattle.messages.specs.Told.{plain as toldPlain}
 use Rattle.binary.specs.Read.{readBinary}
 use Rattle.binary_writer.specs.Write.{toBinary}
 use Rattle.output.specs.Reply.{Reply, writes, refuses}
@@ -81,9 +82,9 @@ entriesOctets (e ∷ es) = entryOctets e ++ entriesOctets es
 
 -- ---- its message
 
--- how the message of an entry is read: as any Binary message, and the call is told nothing of it
+-- how the message of an entry is read: as any Binary message, without the remark that it answers a HEAD (02, item 5)
 abbrev pub readMessage : List ℕ → Answer Message
-readMessage w = readBinary w
+readMessage w = readBinary (toldPlain 0) w
 
 -- the kind of a message: 0 a request, 1 a response
 abbrev pub kindNumber : Bool → ℕ

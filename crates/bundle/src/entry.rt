@@ -5,6 +5,7 @@ use binary_reader::whole::binary_in;
 use binary_writer::write_message;
 use messages::Outcome;
 use messages::Record;
+use messages::call::plain;
 use octets::Limits;
 use octets::Refusals;
 use octets::equal;
@@ -104,7 +105,7 @@ fn judge_message(
     requires { ⌜ Lent (now t) (now headers) (now heads) (now chunks) (now trailers) (now scratch) ⌝ }
     ensures { λ r. ⌜ r ≡ messageVerdict kind (now (s .entry)) ⌝ }
 {
-    let o = binary_in(t, s, headers, heads, chunks, trailers);
+    let o = binary_in(t, s, plain(0), headers, heads, chunks, trailers);
     match o {
         Outcome::More => return Refusals::MORE_NEEDED,
         Outcome::Refusal { number, place } => return number,
