@@ -26,7 +26,7 @@ use Rattle.http1_sound.proofs.Sound.{request-sound, response-sound}
 use Rattle.binary.specs.Read.{readBinary}
 use Rattle.binary_sound.proofs.Sound.{binary-sound}
 use Rattle.ranges.specs.Ranges.{Outcomed, Held}
-use Rattle.ranges.specs.Entries.{fieldIn, fieldsIn, fieldsBefore, EntryWithin}
+use Rattle.ranges.specs.Entries.{entryOf, fieldIn, fieldsIn, fieldsBefore, EntryWithin}
 use Rattle.ranges.proofs.Entries.{FieldsAt, lies-is, fields-are, fields-more, fields-none, each-kept, held-parts, held-within}
 use Rattle.ranges.proofs.Outcomes.{IsHeld, given-refusal, given-more}
 use Rattle.turn.specs.Question.{firstOf, Question, questionOf, valueOr, requestQuestion, responseQuestion, binaryQuestion}
@@ -73,14 +73,20 @@ pub asked-message : (name s hs ns : List ℕ) (r : Record) {o : Outcome} {f : Fo
     → f ≡ foundIn name s hs k (r .headers) → record { found = f; number = 0; place = 0 } ≡ askedFrom name s o hs ns
 asked-message name s hs ns r e q h = rw (e, h, q)
 
+-- the first value does not hang on where lines begin
+first-entry : (name : List ℕ) (fs : List FieldRead) → firstOf name (map entryOf fs) ≡ firstOf name fs
+unfolding firstOf
+first-entry name [] = refl
+first-entry name (f ∷ fs) = rw (first-entry name fs)
+
 module _ {s : List ℕ} {n : ℕ} {m : Message} {r : Record} {hs ns cs ts : List ℕ} (h : Held s n m r hs ns cs ts) where
   -- the header fields that the numbers name are those that were read
-  held-headers : fieldsIn s hs (fieldsBefore ns (r .informational)) (r .headers) ≡ kept (isResponse (m .start)) (m .lines)
+  held-headers : fieldsIn s hs (fieldsBefore ns (r .informational)) (r .headers) ≡ map entryOf (kept (isResponse (m .start)) (m .lines))
   unfolding recordOf
   held-headers = rw (h .numbers) (go (m .start) (held-parts h .headers))
     where
       go : (x : Start) → FieldsAt s hs (fieldsBefore ns (length (informationalIn x))) (kept (isResponse x) (m .lines))
-          → fieldsIn s hs (fieldsBefore ns (recordFrom x n m .informational)) (recordFrom x n m .headers) ≡ kept (isResponse x) (m .lines)
+          → fieldsIn s hs (fieldsBefore ns (recordFrom x n m .informational)) (recordFrom x n m .headers) ≡ map entryOf (kept (isResponse x) (m .lines))
       go (requestStart a b c d) p = fields-are s hs (fieldsBefore ns 0) (kept false (m .lines)) p
       go (responseStart is c) p = fields-are s hs (fieldsBefore ns (length is)) (kept true (m .lines)) p
 
@@ -99,7 +105,7 @@ module _ {x : Answer Message} {o : Outcome} (s : List ℕ) {hs ns cs ts : List �
   asked-is name h = go o refl
     where
       go : (y : Outcome) → o ≡ y → askedFrom name s y hs ns ≡ askedOf (questionOf name (length s) x)
-      go (outcome.Message r) e = rw (held r e .2, held-headers (held r e .3))
+      go (outcome.Message r) e = rw (held r e .2, held-headers (held r e .3), first-entry name _)
       go (outcome.Refusal k p) e = rw (given-refusal h k p e)
       go outcome.More e = rw (given-more h e)
 

@@ -11,10 +11,10 @@ binary-found-requires : tie.Need-binary-found-requires
 binary-found-requires c κs = search needs
 
 field-or-requires : tie.Need-field-or-requires
-field-or-requires c κs = found-within (c .before .before .before .before .before .before .args .s .now) (binaryQuestion (c .before .before .before .before .before .before .args .name .now) (c .before .before .before .before .before .before .args .s .now)) (c .before .before .binary-found .ensures) (binary-lies (c .before .before .before .before .before .before .args .s .now) (c .before .before .before .before .before .before .args .name .now))
+field-or-requires c κs = found-within (c .before .before .before .before .before .before .args .s .now) (binaryQuestion (c .before .before .before .before .before .before .args .told) (c .before .before .before .before .before .before .args .name .now) (c .before .before .before .before .before .before .args .s .now)) (c .before .before .binary-found .ensures) (binary-lies (c .before .before .before .before .before .before .args .s .now) (c .before .before .before .before .before .before .args .name .now) (c .before .before .before .before .before .before .args .told))
 
 returns : tie.Need-returns
-returns c = answered (c .before .before .before .before .before .before .before .args .s .now) (binaryQuestion (c .before .before .before .before .before .before .before .args .name .now) (c .before .before .before .before .before .before .before .args .s .now)) (c .before .before .before .binary-found .ensures) (binary-lies (c .before .before .before .before .before .before .before .args .s .now) (c .before .before .before .before .before .before .before .args .name .now)) (c .field-or .ensures .0) (c .field-or .ensures .1 .0) (c .field-or .ensures .1 .1 .0) (c .field-or .ensures .1 .1 .1)
+returns c = answered (c .before .before .before .before .before .before .before .args .s .now) (binaryQuestion (c .before .before .before .before .before .before .before .args .told) (c .before .before .before .before .before .before .before .args .name .now) (c .before .before .before .before .before .before .before .args .s .now)) (c .before .before .before .binary-found .ensures) (binary-lies (c .before .before .before .before .before .before .before .args .s .now) (c .before .before .before .before .before .before .before .args .name .now) (c .before .before .before .before .before .before .before .args .told)) (c .field-or .ensures .0) (c .field-or .ensures .1 .0) (c .field-or .ensures .1 .1 .0) (c .field-or .ensures .1 .1 .1)
 
 pub binary-field-spec : {M : Type 1} → statement M
 binary-field-spec =

@@ -34,11 +34,11 @@ slice-aggregate-asked-from-2 : tie.Need-slice-aggregate-asked-from-2
 slice-aggregate-asked-from-2 c = search needs
 
 asked-from-requires : tie.Need-asked-from-requires
-asked-from-requires c κs = outcome-within (c .before .before .before .before .before .before .before .before .before .before .before .before .before .before .before .args .s .now) (λ r e. held (c .before .before .before .before .before .before .before .before .before .before .before .before .before .before .before .args .s .now) (c .before .before .before .before .before .before .binary-in .ensures) e (λ n m q. binary-sound (c .before .before .before .before .before .before .before .before .before .before .before .before .before .before .before .args .s .now) n m q .sound) (search needs) (search needs) (search needs) (search needs))
+asked-from-requires c κs = outcome-within (c .before .before .before .before .before .before .before .before .before .before .before .before .before .before .before .args .s .now) (λ r e. held (c .before .before .before .before .before .before .before .before .before .before .before .before .before .before .before .args .s .now) (c .before .before .before .before .before .before .binary-in .ensures) e (λ n m q. binary-sound (c .before .before .before .before .before .before .before .before .before .before .before .before .before .before .before .args .told) (c .before .before .before .before .before .before .before .before .before .before .before .before .before .before .before .args .s .now) n m q .sound) (search needs) (search needs) (search needs) (search needs))
 
 returns : tie.Need-returns
 unfolding binaryQuestion
-returns c = c .asked-from .ensures ∙ asked-is (c .before .before .before .before .before .before .before .before .before .before .before .before .before .before .before .before .args .s .now) (λ r e. held (c .before .before .before .before .before .before .before .before .before .before .before .before .before .before .before .before .args .s .now) (c .before .before .before .before .before .before .before .binary-in .ensures) e (λ n m q. binary-sound (c .before .before .before .before .before .before .before .before .before .before .before .before .before .before .before .before .args .s .now) n m q .sound) (search needs) (search needs) (search needs) (search needs)) (c .before .before .before .before .before .before .before .before .before .before .before .before .before .before .before .before .args .name .now) (response-outcomed (c .before .before .before .before .before .before .before .binary-in .ensures))
+returns c = c .asked-from .ensures ∙ asked-is (c .before .before .before .before .before .before .before .before .before .before .before .before .before .before .before .before .args .s .now) (λ r e. held (c .before .before .before .before .before .before .before .before .before .before .before .before .before .before .before .before .args .s .now) (c .before .before .before .before .before .before .before .binary-in .ensures) e (λ n m q. binary-sound (c .before .before .before .before .before .before .before .before .before .before .before .before .before .before .before .before .args .told) (c .before .before .before .before .before .before .before .before .before .before .before .before .before .before .before .before .args .s .now) n m q .sound) (search needs) (search needs) (search needs) (search needs)) (c .before .before .before .before .before .before .before .before .before .before .before .before .before .before .before .before .args .name .now) (response-outcomed (c .before .before .before .before .before .before .before .binary-in .ensures))
 
 pub binary-found-spec : {M : Type 1} → statement M
 binary-found-spec =

@@ -11,10 +11,10 @@ response-found-requires : tie.Need-response-found-requires
 response-found-requires c κs = search needs
 
 field-or-requires : tie.Need-field-or-requires
-field-or-requires c κs = found-within (c .before .before .before .before .before .before .args .s .now) (responseQuestion (c .before .before .before .before .before .before .args .name .now) (c .before .before .before .before .before .before .args .s .now)) (c .before .before .response-found .ensures) (response-lies (c .before .before .before .before .before .before .args .s .now) (c .before .before .before .before .before .before .args .name .now))
+field-or-requires c κs = found-within (c .before .before .before .before .before .before .args .s .now) (responseQuestion (c .before .before .before .before .before .before .args .told) (c .before .before .before .before .before .before .args .name .now) (c .before .before .before .before .before .before .args .s .now)) (c .before .before .response-found .ensures) (response-lies (c .before .before .before .before .before .before .args .s .now) (c .before .before .before .before .before .before .args .name .now) (c .before .before .before .before .before .before .args .told))
 
 returns : tie.Need-returns
-returns c = answered (c .before .before .before .before .before .before .before .args .s .now) (responseQuestion (c .before .before .before .before .before .before .before .args .name .now) (c .before .before .before .before .before .before .before .args .s .now)) (c .before .before .before .response-found .ensures) (response-lies (c .before .before .before .before .before .before .before .args .s .now) (c .before .before .before .before .before .before .before .args .name .now)) (c .field-or .ensures .0) (c .field-or .ensures .1 .0) (c .field-or .ensures .1 .1 .0) (c .field-or .ensures .1 .1 .1)
+returns c = answered (c .before .before .before .before .before .before .before .args .s .now) (responseQuestion (c .before .before .before .before .before .before .before .args .told) (c .before .before .before .before .before .before .before .args .name .now) (c .before .before .before .before .before .before .before .args .s .now)) (c .before .before .before .response-found .ensures) (response-lies (c .before .before .before .before .before .before .before .args .s .now) (c .before .before .before .before .before .before .before .args .name .now) (c .before .before .before .before .before .before .before .args .told)) (c .field-or .ensures .0) (c .field-or .ensures .1 .0) (c .field-or .ensures .1 .1 .0) (c .field-or .ensures .1 .1 .1)
 
 pub response-field-spec : {M : Type 1} → statement M
 response-field-spec =

@@ -34,11 +34,11 @@ slice-aggregate-asked-from-2 : tie.Need-slice-aggregate-asked-from-2
 slice-aggregate-asked-from-2 c = search needs
 
 asked-from-requires : tie.Need-asked-from-requires
-asked-from-requires c κs = outcome-within (c .before .before .before .before .before .before .before .before .before .before .before .before .before .before .before .args .s .now) (λ r e. response-held (c .before .before .before .before .before .before .before .before .before .before .before .before .before .before .before .args .s .now) (c .before .before .before .before .before .before .response-in .ensures) e (search needs) (search needs) (search needs) (search needs))
+asked-from-requires c κs = outcome-within (c .before .before .before .before .before .before .before .before .before .before .before .before .before .before .before .args .s .now) (λ r e. response-held (c .before .before .before .before .before .before .before .before .before .before .before .before .before .before .before .args .told) (c .before .before .before .before .before .before .before .before .before .before .before .before .before .before .before .args .s .now) (c .before .before .before .before .before .before .response-in .ensures) e (search needs) (search needs) (search needs) (search needs))
 
 returns : tie.Need-returns
 unfolding responseQuestion
-returns c = c .asked-from .ensures ∙ asked-is (c .before .before .before .before .before .before .before .before .before .before .before .before .before .before .before .before .args .s .now) (λ r e. response-held (c .before .before .before .before .before .before .before .before .before .before .before .before .before .before .before .before .args .s .now) (c .before .before .before .before .before .before .before .response-in .ensures) e (search needs) (search needs) (search needs) (search needs)) (c .before .before .before .before .before .before .before .before .before .before .before .before .before .before .before .before .args .name .now) (response-outcomed (c .before .before .before .before .before .before .before .response-in .ensures))
+returns c = c .asked-from .ensures ∙ asked-is (c .before .before .before .before .before .before .before .before .before .before .before .before .before .before .before .before .args .s .now) (λ r e. response-held (c .before .before .before .before .before .before .before .before .before .before .before .before .before .before .before .before .args .told) (c .before .before .before .before .before .before .before .before .before .before .before .before .before .before .before .before .args .s .now) (c .before .before .before .before .before .before .before .response-in .ensures) e (search needs) (search needs) (search needs) (search needs)) (c .before .before .before .before .before .before .before .before .before .before .before .before .before .before .before .before .args .name .now) (response-outcomed (c .before .before .before .before .before .before .before .response-in .ensures))
 
 pub response-found-spec : {M : Type 1} → statement M
 response-found-spec =

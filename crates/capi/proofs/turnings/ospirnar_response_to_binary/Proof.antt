@@ -1,28 +1,5 @@
-use Rattle.capi.proofs.Serving.{entry-served}
-use borrow.Author.Needs.{needs}
 use Rattle.capi.proofs.turnings.ospirnar_response_to_binary.Statement.{statement}
 use Rattle.capi.proofs.turnings.ospirnar_response_to_binary.Tie as tie
-use Rattle.capi.proofs.turnings.ospirnar_response_to_binary.Reads as reads
-use Rattle.capi.proofs.turnings.ospirnar_response_to_binary.Lts as lts
-use Rattle.capi.proofs.written.give_written.Reads as give-written-reads
-use Rattle.turning.proofs.to_binary.response_to_binary.Reads as response-to-binary-reads
-
--- src/turnings.rt:33:9
-response-to-binary-requires : tie.Need-response-to-binary-requires
-response-to-binary-requires c κs = search needs
-
--- src/turnings.rt:34:5
-give-written-requires : tie.Need-give-written-requires
-give-written-requires c κs = search needs
-
--- src/turnings.rt:25:1
-same-length : tie.Need-same-length
-same-length c = search needs
-
--- src/turnings.rt:25:1
-returns : tie.Need-returns
-returns c = entry-served (c .before .before .before .before .response-to-binary .ensures) (c .give-written .ensures)
 
 pub ospirnar-response-to-binary-spec : {M : Type 1} → statement M
-ospirnar-response-to-binary-spec =
-    tie.close (tie.spec response-to-binary-requires give-written-requires same-length returns)
+ospirnar-response-to-binary-spec = tie.close (tie.spec ?)
