@@ -36,7 +36,8 @@ pub record Trailed (s : List ℕ) (x : Got (List FieldRead)) (o o′ : List ℕ)
 
 -- ---- all that stands behind a header section
 
--- a message that was read to the end of s behind its start and its header lines, which state a length or none: the ranges of its chunks and kept trailers, and their numbers
+-- a message that was read to the end of s behind its start and its header lines, which state a length or none: the ranges of its chunks and kept trailers,
+-- and their numbers
 abbrev pub RestSays : List ℕ → StatedLength → Start → List FieldRead → Got Message → List ℕ → List ℕ → List ℕ → List ℕ → RestRead → Type 0
 RestSays s stated start lines (got m e l) cs cs′ ts ts′ r =
     (r ≡ rest-is.Done (length (m .chunks)) (length (contentOf (m .chunks))) (length (keptTrailers (m .trailers))))

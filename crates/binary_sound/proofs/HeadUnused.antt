@@ -1,5 +1,4 @@
 -- That a message answers a HEAD changes nothing where its framing indicator is not a response's.
-use mathlib.Core.Path.{_≡_}
 use Rattle.binary.specs.Reader.{_>>=_}
 use Rattle.binary.specs.Read.{afterIndicator, message, readBinary}
 use Rattle.binary_sound.specs.Sound.{BinaryHeadUnused}

@@ -20,7 +20,6 @@ use Rattle.messages.specs.Control.{isHost, statusVerdict, isInformational, isBo
 use Rattle.messages.specs.Names.{linesOf, kept, keptTrailers}
 use Rattle.messages.specs.Rules.{authorityIn, binaryFramingOf, nothingStated, bodylessRule, mayState, statedIn}
 use Rattle.messages.specs.Notes.{isClashing}
-use Rattle.messages.specs.Told.{isYes}
 use Rattle.messages.specs.Meaning.{Field, fieldMeans, informationalMeans, contentOf, meaning}
 use Rattle.messages.specs.Valid.{isScheme, validBody, validStated, suits}
 use Rattle.messages.specs.declared.Body.{Body}
@@ -41,7 +40,7 @@ use Rattle.sound.specs.Sound.{StatesLength, ResponseLength}
 use Rattle.sound.proofs.Each.{each-snoc}
 use Rattle.sound.proofs.Parts.{SectionAt, request-valid, HeadsAt, head-at, heads-none, heads-snoc, heads-lie, heads-good, response-valid, PartsAt, parts-sound}
 use Rattle.sound.proofs.Rules.{AuthorityIs, authority-is, host-lies, nothing-stated}
-use Rattle.sound.proofs.Stated.{stated-few-binary, Bodyless, bodyless, none-stated}
+use Rattle.sound.proofs.Stated.{stated-few-binary, Bodyless, bodyless, content-status, content-not-204, none-stated}
 use Rattle.binary_sound.specs.Sound.{GoodStart, LowerName, LowerNames, SoundBinary, BinarySound}
 use Rattle.binary_sound.proofs.Judgement.{Stands, Gets, Every, every-refuse, every-here, every-tell, every-rule, stops-if, every-integer, stops-bind, stops-then}
 use Rattle.binary_sound.proofs.Parts.{ControlAt, every-control}
@@ -138,19 +137,6 @@ one-more s hs n fs a v i l u k = record {
   unstated = each-snoc (λ (h : InformationalRead). binaryFramingOf (h .lines) ≡ Unstated) hs _ (a .unstated) u;
 }
 
--- a status behind which content may follow, as far as is told, is neither 204 nor 304
-neither : (a b : Bool) → cond a true b ≡ false → a ≡ false
-neither true b e = e
-neither false b e = refl
-
-not-bodyless : (t : Told) (n : ℕ) → endsAtHead t n ≡ false → isBodyless n ≡ false
-unfolding endsAtHead
-not-bodyless t n e = neither (isBodyless n) (isYes (t .head)) e
-
-not-204 : (n : ℕ) → isBodyless n ≡ false → eqb n 204 ≡ false
-unfolding isBodyless
-not-204 n e = neither (eqb n 204) (eqb n 304) e
-
 -- neither content nor trailers are valid of any status
 any-body : (b : Bool) (c : List ℕ) (ts : List Field) → validBody false c ts ≡ true → validBody b c ts ≡ true
 unfolding validBody
@@ -190,12 +176,11 @@ module _ (t : Told) (s : List ℕ) (hs : List InformationalRead) (n : ℕ) (h : 
       → MessageAt t s (response Missing)
   unfolding response suits meaning statedIn
   content-at f q j g =
-      let z = not-bodyless t n q in
       let m = may-state (h .end) (binaryFramingOf (h .lines)) f j in
-      response-at true f Missing g (rw z (body-valid true cs ts (g .filled .empty) (g .named .none))) (none-stated _) (rw q)
+      response-at true f Missing g (rw (content-status t n q) (body-valid true cs ts (g .filled .empty) (g .named .none))) (none-stated _) (rw q)
       (record {
         once = m .1;
-        none = λ y. let x = not-204 n z in let w : _≡_ {A = ℕ} 0 1 = cc in absurd (omega arith);
+        none = content-not-204 t n q (binaryFramingOf (h .lines));
         stated = rw q;
         agrees = λ y. rw (m .0) (g .filled .agreed);
       })
