@@ -46,11 +46,11 @@ reads-indicator v k {y} {rest} {b} h g =
 -- ---- control data
 
 -- the control data behind the framing indicator, grouped to the right
-abbrev controlRest : Control → List ℕ
+abbrev pub controlRest : Control → List ℕ
 controlRest (request m s a p) = requestBytes m s a p
 controlRest (response hs s) = informationalBytes hs ++ intBytes s
 
-abbrev indicatorOf : Control → ℕ
+abbrev pub indicatorOf : Control → ℕ
 indicatorOf (request m s a p) = 0
 indicatorOf (response hs s) = 1
 
@@ -100,7 +100,7 @@ control-back t (response hs s) w e u v ok h =
 
 -- ---- the message
 
-binary-bytes : (m : Meaning) → binaryOf m ≡ intBytes (indicatorOf (m .control)) ++ (controlRest (m .control) ++ tailBytes m)
+pub binary-bytes : (m : Meaning) → binaryOf m ≡ intBytes (indicatorOf (m .control)) ++ (controlRest (m .control) ++ tailBytes m)
 unfolding binaryOf
 binary-bytes m =
     let c : List ℕ = controlBytes (m .control) in
@@ -110,27 +110,39 @@ binary-bytes m =
     append-assoc (c ++ h) b t ∙ append-assoc c h (b ++ t) ∙ ap (λ (z : List ℕ). z ++ (h ++ (b ++ t))) (control-bytes (m .control))
     ∙ append-assoc (intBytes (indicatorOf (m .control))) (controlRest (m .control)) (h ++ (b ++ t))
 
-message-back : (t : Told) (m : Meaning) → valid m ≡ true → suits t m ≡ true → length (binaryOf m) ≤ binaryMost
-    → Reads (message t) 0 (binaryOf m) [] (placedBinary m)
-unfolding placedBinary
-message-back t m v u h =
-    let o = meaning-ok m v in
+-- what is written within the size, part by part
+pub record Fits (m : Meaning) : Type 0 where
+  pub control : length (controlRest (m .control)) ≤ binaryMost
+  pub headers : length (sectionBytes (headerOf m)) ≤ binaryMost
+  pub content : length (counted (m .content)) ≤ binaryMost
+  pub trailers : length (sectionBytes (m .trailers)) ≤ binaryMost
+
+pub fits-of : (m : Meaning) → length (binaryOf m) ≤ binaryMost → Fits m
+fits-of m h =
     let g : length (intBytes (indicatorOf (m .control)) ++ (controlRest (m .control) ++ tailBytes m)) ≤ binaryMost = rw (binary-bytes m) at h in
     let f1 = both-fit (intBytes (indicatorOf (m .control))) (controlRest (m .control) ++ tailBytes m) g in
     let f2 = both-fit (controlRest (m .control)) (tailBytes m) (f1 .1) in
     let f3 = both-fit (sectionBytes (headerOf m)) (counted (m .content) ++ sectionBytes (m .trailers)) (f2 .1) in
     let f4 = both-fit (counted (m .content)) (sectionBytes (m .trailers)) (f3 .1) in
+    record { control = f2 .0; headers = f3 .0; content = f4 .0; trailers = f4 .1 }
+
+message-back : (t : Told) (m : Meaning) → valid m ≡ true → suits t m ≡ true → length (binaryOf m) ≤ binaryMost
+    → Reads (message t) 0 (binaryOf m) [] (placedBinary m)
+unfolding placedBinary
+message-back t m v u h =
+    let o = meaning-ok m v in
+    let f = fits-of m h in
     let k : TailOk (ofResponse (m .control)) (bodyTold t (m .control)) m = record {
       headers = o .headers;
       lines = stated-few m (section-few _ (m .headers) (o .headers)) (o .stated);
-      headersFit = f3 .0;
+      headersFit = f .headers;
       content = o .content;
       trailers = o .trailers;
-      trailersFit = f4 .1;
+      trailersFit = f .trailers;
       bodyRule = body-told t m (m .control) refl u;
       stated = o .stated;
     } in
-    rw (binary-bytes m, ← control-length (m .control)) (control-back t (m .control) m refl u (o .control) k (f2 .0))
+    rw (binary-bytes m, ← control-length (m .control)) (control-back t (m .control) m refl u (o .control) k (f .control))
 
 -- ---- its meaning
 
