@@ -1,6 +1,6 @@
 -- The round trip of Binary HTTP, and what follows from it. Assumes nothing.
 use mathlib.Core.Path.{_≡_, refl, sym, ap, _∙_, subst}
-use mathlib.Core.Bool.{true, false}
+use mathlib.Core.Bool.{Bool, true, false, not}
 use mathlib.Core.List.{List, [], _++_, append-assoc, append-nil}
 use Prim.Native.Nat.{ℕ, suc, _+_, _≤_, _<_}
 use native.Mathlib.Omega.{arith}
@@ -15,16 +15,19 @@ use Rattle.script.specs.Script.{Answer, accepted, refused, more, means}
 use Rattle.messages.specs.Message.{isResponse}
 use Rattle.messages.specs.Names.{keptTrailers}
 use Rattle.messages.specs.Meaning.{Control, request, response, controlMeans, Meaning, meaning}
-use Rattle.messages.specs.Valid.{validControl, ofResponse, hasBody, valid}
-use Rattle.messages.proofs.Valid.{section-fields, response-ok, meaning-ok}
+use Rattle.messages.specs.Control.{endsAtHead}
+use Rattle.messages.specs.Valid.{validControl, validBody, ofResponse, valid, suits}
+use Rattle.messages.specs.declared.Told.{Told}
+use Rattle.messages.proofs.Valid.{section-fields, section-few, response-ok, meaning-ok}
+use Rattle.messages.proofs.Stating.{never-stated, stated-few, suited}
 use Rattle.messages.proofs.ValidLines.{content-back}
 use Rattle.binary.specs.Reader.{got, Reader, _>>=_, integer}
 use Rattle.binary.specs.Read.{afterIndicator, message, readBinary}
 use Rattle.binary_writer.specs.Write.{counted, sectionBytes, schemeBytes, informationalBytes, controlBytes, binaryOf, binaryFits}
-use Rattle.binary_round_trip.specs.RoundTrip.{startOf, placedFrom, placedBinary, RoundTrip, RoundTripOfMeanings, Unique}
+use Rattle.binary_round_trip.specs.RoundTrip.{startOf, headerOf, placedFrom, placedBinary, RoundTrip, RoundTripOfMeanings}
 use Rattle.binary_round_trip.proofs.Judgement.{Reads, reads-integer, reads-bind}
 use Rattle.binary_round_trip.proofs.Lines.{both-fit}
-use Rattle.binary_round_trip.proofs.Keeping.{fields-back, heads-back}
+use Rattle.binary_round_trip.proofs.Keeping.{fields-back, header-back, heads-back}
 use Rattle.binary_round_trip.proofs.Messages.{TailOk, tailBytes, requestBytes, reads-request-message, reads-response}
 
 -- ---- the framing indicator
@@ -43,11 +46,11 @@ reads-indicator v k {y} {rest} {b} h g =
 -- ---- control data
 
 -- the control data behind the framing indicator, grouped to the right
-abbrev controlRest : Control → List ℕ
+abbrev pub controlRest : Control → List ℕ
 controlRest (request m s a p) = requestBytes m s a p
 controlRest (response hs s) = informationalBytes hs ++ intBytes s
 
-abbrev indicatorOf : Control → ℕ
+abbrev pub indicatorOf : Control → ℕ
 indicatorOf (request m s a p) = 0
 indicatorOf (response hs s) = 1
 
@@ -71,48 +74,75 @@ control-length c =
     let f = indicator-length (indicatorOf c) (indicator-small c) in
     rw (control-bytes c) (omega arith)
 
-control-back : (c : Control) (w : Meaning) → validControl c ≡ true → TailOk (ofResponse c) (hasBody c) w → length (controlRest c) ≤ binaryMost
-    → Reads message 0 (intBytes (indicatorOf c) ++ (controlRest c ++ tailBytes w)) [] (placedFrom (startOf c) (1 + length (controlRest c)) w)
+-- whether what is told of control data lets content follow
+abbrev bodyTold : Told → Control → Bool
+bodyTold t (request m s a p) = true
+bodyTold t (response hs s) = not (endsAtHead t s)
+
+body-told : (t : Told) (w : Meaning) (c : Control) → w .control ≡ c → suits t w ≡ true → validBody (bodyTold t c) (w .content) (w .trailers) ≡ true
+unfolding validBody
+body-told t w (request m s a p) e u = refl
+body-told t w (response hs s) e u = suited t w hs s e u .body
+
+control-back : (t : Told) (c : Control) (w : Meaning) → w .control ≡ c → suits t w ≡ true → validControl c ≡ true → TailOk (ofResponse c) (bodyTold t c) w
+    → length (controlRest c) ≤ binaryMost
+    → Reads (message t) 0 (intBytes (indicatorOf c) ++ (controlRest c ++ tailBytes w)) [] (placedFrom (startOf c) (1 + length (controlRest c)) w)
 unfolding message afterIndicator startOf
-control-back (request m s a p) w v ok h = reads-indicator 0 _ (lit< tt) (reads-request-message w m a p s 1 v ok)
-control-back (response hs s) w v ok h =
+control-back t (request m s a p) w e u v ok h =
+    reads-indicator 0 _ (lit< tt) (reads-request-message w m a p s 1 v ok (never-stated (w .stated) w (rw e) (ok .stated)))
+control-back t (response hs s) w e u v ok h =
     let o = response-ok hs s v in
     let few = o .few in
     let b = both-fit (informationalBytes hs) (intBytes s) h in
     rw (append-assoc (informationalBytes hs) (intBytes s) (tailBytes w))
     (reads-indicator 1 _ (lit< tt)
-    (reads-response w s (o .status) (o .late) ok hs (suc informationalMost) 1 [] (o .heads) (omega arith) (omega arith) (b .0)))
+    (reads-response t w hs s e (suited t w hs s e u) (o .status) (o .late) ok hs (suc informationalMost) 1 [] (o .heads) (omega arith) (omega arith) (b .0)))
 
 -- ---- the message
 
-binary-bytes : (m : Meaning) → binaryOf m ≡ intBytes (indicatorOf (m .control)) ++ (controlRest (m .control) ++ tailBytes m)
+pub binary-bytes : (m : Meaning) → binaryOf m ≡ intBytes (indicatorOf (m .control)) ++ (controlRest (m .control) ++ tailBytes m)
 unfolding binaryOf
 binary-bytes m =
     let c : List ℕ = controlBytes (m .control) in
-    let h : List ℕ = sectionBytes (m .headers) in
+    let h : List ℕ = sectionBytes (headerOf m) in
     let b : List ℕ = counted (m .content) in
     let t : List ℕ = sectionBytes (m .trailers) in
     append-assoc (c ++ h) b t ∙ append-assoc c h (b ++ t) ∙ ap (λ (z : List ℕ). z ++ (h ++ (b ++ t))) (control-bytes (m .control))
     ∙ append-assoc (intBytes (indicatorOf (m .control))) (controlRest (m .control)) (h ++ (b ++ t))
 
-message-back : (m : Meaning) → valid m ≡ true → length (binaryOf m) ≤ binaryMost → Reads message 0 (binaryOf m) [] (placedBinary m)
-unfolding placedBinary
-message-back m v h =
-    let o = meaning-ok m v in
+-- what is written within the size, part by part
+pub record Fits (m : Meaning) : Type 0 where
+  pub control : length (controlRest (m .control)) ≤ binaryMost
+  pub headers : length (sectionBytes (headerOf m)) ≤ binaryMost
+  pub content : length (counted (m .content)) ≤ binaryMost
+  pub trailers : length (sectionBytes (m .trailers)) ≤ binaryMost
+
+pub fits-of : (m : Meaning) → length (binaryOf m) ≤ binaryMost → Fits m
+fits-of m h =
     let g : length (intBytes (indicatorOf (m .control)) ++ (controlRest (m .control) ++ tailBytes m)) ≤ binaryMost = rw (binary-bytes m) at h in
     let f1 = both-fit (intBytes (indicatorOf (m .control))) (controlRest (m .control) ++ tailBytes m) g in
     let f2 = both-fit (controlRest (m .control)) (tailBytes m) (f1 .1) in
-    let f3 = both-fit (sectionBytes (m .headers)) (counted (m .content) ++ sectionBytes (m .trailers)) (f2 .1) in
+    let f3 = both-fit (sectionBytes (headerOf m)) (counted (m .content) ++ sectionBytes (m .trailers)) (f2 .1) in
     let f4 = both-fit (counted (m .content)) (sectionBytes (m .trailers)) (f3 .1) in
-    let t : TailOk (ofResponse (m .control)) (hasBody (m .control)) m = record {
+    record { control = f2 .0; headers = f3 .0; content = f4 .0; trailers = f4 .1 }
+
+message-back : (t : Told) (m : Meaning) → valid m ≡ true → suits t m ≡ true → length (binaryOf m) ≤ binaryMost
+    → Reads (message t) 0 (binaryOf m) [] (placedBinary m)
+unfolding placedBinary
+message-back t m v u h =
+    let o = meaning-ok m v in
+    let f = fits-of m h in
+    let k : TailOk (ofResponse (m .control)) (bodyTold t (m .control)) m = record {
       headers = o .headers;
-      headersFit = f3 .0;
+      lines = stated-few m (section-few _ (m .headers) (o .headers)) (o .stated);
+      headersFit = f .headers;
       content = o .content;
       trailers = o .trailers;
-      trailersFit = f4 .1;
-      bodyRule = o .body;
+      trailersFit = f .trailers;
+      bodyRule = body-told t m (m .control) refl u;
+      stated = o .stated;
     } in
-    rw (binary-bytes m, ← control-length (m .control)) (control-back (m .control) m (o .control) t (f2 .0))
+    rw (binary-bytes m, ← control-length (m .control)) (control-back t (m .control) m refl u (o .control) k (f .control))
 
 -- ---- its meaning
 
@@ -129,7 +159,7 @@ meaning-back m v =
     rw (
       c .0,
       c .1,
-      fields-back (ofResponse (m .control)) (m .headers) _ (section-fields _ (m .headers) (o .headers)),
+      header-back (ofResponse (m .control)) (m .headers) (section-fields _ (m .headers) (o .headers)) (m .stated) _,
       content-back _ (m .content),
       fields-back false (m .trailers) _ (section-fields false (m .trailers) (o .trailers)),
     )
@@ -138,22 +168,11 @@ meaning-back m v =
 
 pub round-trip : RoundTrip
 unfolding readBinary binaryFits
-round-trip = λ m v f.
+round-trip = λ t m v u f.
     let h = leb-true (length (binaryOf m)) binaryMost f in
-    let r : message 0 (binaryOf m) ≡ got (placedBinary m) (0 + length (binaryOf m)) [] = rw append-nil at (message-back m v h .go) in
+    let r : message t 0 (binaryOf m) ≡ got (placedBinary m) (0 + length (binaryOf m)) [] = rw append-nil at (message-back t m v u h .go) in
     let e : 0 + length (binaryOf m) ≡ length (binaryOf m) = omega arith in
     (rw (f, r, e), meaning-back m v)
 
 pub round-trip-of-meanings : RoundTripOfMeanings
-round-trip-of-meanings = λ m v f. let r = round-trip m v f in rw (r .0, r .1)
-
-abbrev valueOf : Meaning → Answer Meaning → Meaning
-valueOf m (accepted n a) = a
-valueOf m (refused k p) = m
-valueOf m more = m
-
-pub unique : Unique
-unique = λ l m vl fl vm fm e.
-    let a = round-trip-of-meanings l vl fl in
-    let b = round-trip-of-meanings m vm fm in
-    ap (valueOf l) (sym a ∙ ap (λ (s : List ℕ). means meaning (readBinary s)) e ∙ b)
+round-trip-of-meanings = λ t m v u f. let r = round-trip t m v u f in rw (r .0, r .1)

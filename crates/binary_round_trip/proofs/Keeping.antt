@@ -1,4 +1,5 @@
 -- Valid fields are kept, in order, with their names as they are; none states a length, and in requests none names a host (messages/proofs/ValidLines).
+-- A stated length before them is not kept (messages/proofs/Stating).
 use mathlib.Core.Path.{_≡_, refl, _∙_}
 use mathlib.Core.Bool.{Bool, true, false}
 use mathlib.Core.List.{List, [], _∷_, _++_, map}
@@ -11,15 +12,18 @@ use Rattle.messages.specs.Names.{linesOf, kept, areTrailers}
 use Rattle.messages.specs.declared.Kind.the-variants as kind
 use Rattle.messages.specs.declared.Framing.the-variants.{Unstated}
 use Rattle.messages.specs.Rules.{binaryFramingOf}
-use Rattle.messages.specs.Meaning.{Field, fieldMeans, Informational, informationalMeans}
-use Rattle.messages.specs.Valid.{validFields, validHeads, noFields}
+use Rattle.messages.specs.declared.StatedLength.{StatedLength}
+use Rattle.messages.specs.declared.StatedLength.the-variants.{Missing, Of}
+use Rattle.messages.specs.Meaning.{Field, fieldMeans, Informational, informationalMeans, Meaning, lengthField, statedFields}
+use Rattle.messages.specs.Valid.{validFields, validHeads, validStated, noFields}
 use Rattle.messages.proofs.Valid.{section-fields, head-ok}
 use Rattle.messages.proofs.ValidLines as laws
+use Rattle.messages.proofs.Stating.{length-kept, length-binary, stated-ok, framingFor}
 use Rattle.binary_writer.specs.Write.{fieldBytes, sectionBytes}
 use Rattle.numbers.specs.Integer.{intBytes}
-use Rattle.binary_round_trip.specs.RoundTrip.{linesAt, headsAt}
+use Rattle.binary_round_trip.specs.RoundTrip.{lineAt, linesAt, headsAt}
 
-lines-say : (fs : List Field) (at : ℕ) → map laws.said (linesAt at fs) ≡ fs
+pub lines-say : (fs : List Field) (at : ℕ) → map laws.said (linesAt at fs) ≡ fs
 unfolding linesAt
 lines-say [] at = refl
 lines-say (f ∷ fs) at = rw (lines-say fs (at + length (fieldBytes f)))
@@ -36,6 +40,23 @@ module _ (host : Bool) (fs : List Field) (at : ℕ) (v : validFields host fs ≡
 
   pub fields-back : map fieldMeans (kept host (linesAt at fs)) ≡ fs
   fields-back = laws.fields-back host (linesAt at fs) lines-valid ∙ lines-say fs at
+
+-- a header that a stated length begins
+module _ (host : Bool) (fs : List Field) (v : validFields host fs ≡ true) where
+  pub header-back : (x : StatedLength) (at : ℕ) → map fieldMeans (kept host (linesAt at (statedFields x ++ fs))) ≡ fs
+  unfolding linesAt
+  header-back Missing at = fields-back host fs at v
+  header-back (Of n) at =
+      let q : ℕ = at + length (fieldBytes (lengthField n)) in
+      rw (length-kept (lineAt at (lengthField n)) n refl host (linesAt q fs) (lines-valid host fs q v)) (fields-back host fs q v)
+
+  pub header-framing : (x : StatedLength) (m : Meaning) → validStated x m ≡ true → (at : ℕ)
+      → binaryFramingOf (linesAt at (statedFields x ++ fs)) ≡ framingFor x at
+  unfolding linesAt
+  header-framing Missing m s at = unstated host fs at v
+  header-framing (Of n) m s at =
+      let q : ℕ = at + length (fieldBytes (lengthField n)) in
+      length-binary (lineAt at (lengthField n)) n refl host (linesAt q fs) (lines-valid host fs q v) (stated-ok n m s .small)
 
 pub no-hosts : (fs : List Field) (at : ℕ) → validFields false fs ≡ true → linesOf kind.Host (linesAt at fs) ≡ []
 no-hosts fs at v = laws.no-hosts (linesAt at fs) (lines-valid false fs at v)

@@ -4,4 +4,5 @@ pub mod Lines
 pub mod Keeping
 pub mod Messages
 pub mod Back
+pub mod Apart
 pub mod Samples

@@ -1,23 +1,23 @@
 -- Field lines and sections are read back.
 use mathlib.Core.Path.{_≡_, refl, sym, ap}
-use mathlib.Core.Bool.{Bool, true, false}
+use mathlib.Core.Bool.{true, false}
 use mathlib.Core.List.{List, [], _∷_, _++_, append-assoc, append-nil}
 use Prim.Native.Nat.{ℕ, zero, suc, _+_, _≤_, _<_}
 use native.Mathlib.Omega.{arith}
-use borrow.Author.Tests.{lt-leb, leb-true, eqb-false, ne-eqb}
+use borrow.Author.Tests.{lt-leb, eqb-false, ne-eqb}
 use lib.Dec.{leb, eqb}
 use lib.ListN.{length, length-append}
 use Rattle.octets.specs.Text.{isEmpty}
 use Rattle.octets.specs.Limits.{linesMost, binaryMost}
 use Rattle.octets.specs.Refusals.{badSection}
-use Rattle.octets.proofs.Kit.{and-split}
+use Rattle.octets.proofs.Texts.{not-empty}
 use Rattle.numbers.specs.Integer.{intBytes}
 use Rattle.script.specs.Do.{piece, good}
 use Rattle.messages.specs.Message.{FieldRead}
 use Rattle.messages.specs.declared.Kind.the-variants as kind
 use Rattle.messages.specs.Meaning.{Field}
-use Rattle.messages.specs.Valid.{validFields, validSection}
-use Rattle.messages.proofs.Valid.{FieldOk, first-ok}
+use Rattle.messages.proofs.Verdicts.{name-rule}
+use Rattle.messages.proofs.Stating.{LineOk, LinesOk}
 use Rattle.binary.specs.Reader.{Got, got}
 use Rattle.binary.specs.Read.{judgedLine, afterNameLength, knownLine, knownLines, onBody, bodyLines, knownSection, section}
 use Rattle.binary_writer.specs.Write.{counted, fieldBytes, fieldsBytes, sectionBytes}
@@ -35,15 +35,19 @@ pub counted-fits : (w : List ℕ) {n : ℕ} → length (counted w) ≤ n → len
 unfolding counted
 counted-fits w h = both-fit (intBytes (length w)) w h .1
 
-line-good : (host : Bool) (f : Field) (p i j : ℕ) → FieldOk host f
-    → judgedLine p (piece i (f .name)) (piece j (f .value)) ≡ good (record { name = piece i (f .name); value = piece j (f .value) })
+line-good : (f : Field) (p i j : ℕ) → LineOk f
+    → judgedLine p (piece i (f .name)) (piece j (f .value)) ≡ good (record { name = piece i (f .name); value = piece j (f .value); place = p })
 unfolding judgedLine
-line-good host f p i j ok = rw (ok .name, ok .value)
+line-good f p i j ok = rw (ok .name, ok .value)
 
-reads-line : (host : Bool) (f : Field) (at : ℕ) (rest : List ℕ) → FieldOk host f → length (fieldBytes f) ≤ binaryMost
+line-named : (f : Field) → LineOk f → eqb (length (f .name)) 0 ≡ false
+unfolding isEmpty
+line-named f ok = not-empty (f .name) (name-rule (f .name) (ok .name) .0)
+
+reads-line : (f : Field) (at : ℕ) (rest : List ℕ) → LineOk f → length (fieldBytes f) ≤ binaryMost
     → Reads knownLine at (fieldBytes f) rest (lineAt at f)
 unfolding knownLine afterNameLength fieldBytes counted
-reads-line host f at rest ok h =
+reads-line f at rest ok h =
     let n : List ℕ = f .name in
     let v : List ℕ = f .value in
     let b = both-fit (counted n) (counted v) h in
@@ -54,11 +58,11 @@ reads-line host f at rest ok h =
     rw (append-assoc (intBytes (length n)) n (intBytes (length v) ++ v), ← e)
     (before _ (reads-here at _)
     (reads-bind _ (reads-integer badSection at at (length n) _ (omega arith))
-    (rw (ok .some)
+    (rw (line-named f ok)
     (reads-bind _ (reads-octets badSection at _ n _)
     (before _ (reads-here _ _)
     (reads-bind _ (reads-integer badSection at _ (length v) _ (omega arith))
-    (behind _ (reads-octets badSection at _ v rest) (reads-tell _ rest _ _ (line-good host f at _ _ ok)))))))))
+    (behind _ (reads-octets badSection at _ v rest) (reads-tell _ rest _ _ (line-good f at _ _ ok)))))))))
 
 -- ---- the lines of a section
 
@@ -76,36 +80,33 @@ none-left : isEmpty [] ≡ true
 unfolding isEmpty
 none-left = refl
 
-reads-lines : (host : Bool) (hs : List Field) (f at : ℕ) (fs : List FieldRead) → validFields host hs ≡ true → length hs < f
+reads-lines : (hs : List Field) (f at : ℕ) (fs : List FieldRead) → LinesOk hs → length hs < f
     → length fs + length hs ≤ linesMost → length (fieldsBytes hs) ≤ binaryMost
     → Reads (knownLines f fs) at (fieldsBytes hs) [] (fs ++ linesAt at hs)
 unfolding knownLines fieldsBytes linesAt
-reads-lines host [] zero at fs v h g k = absurd (omega arith)
-reads-lines host (x ∷ hs) zero at fs v h g k = absurd (omega arith)
-reads-lines host [] (suc f) at fs v h g k =
+reads-lines [] zero at fs v h g k = absurd (omega arith)
+reads-lines (x ∷ hs) zero at fs v h g k = absurd (omega arith)
+reads-lines [] (suc f) at fs v h g k =
     reads-as (sym (append-nil fs)) (before _ (reads-ended at [] true none-left) (before _ (reads-here at _) (reads-give at [] fs)))
-reads-lines host (x ∷ hs) (suc f) at fs v h g k =
-    let o = first-ok host x hs v in
+reads-lines (x ∷ hs) (suc f) at fs v h g k =
     let b = both-fit (fieldBytes x) (fieldsBytes hs) k in
     let l : length (fs ++ lineAt at x ∷ []) ≡ length fs + 1 = length-append fs (lineAt at x ∷ []) in
     let t : leb linesMost (length fs) ≡ false = lt-leb linesMost (length fs) (omega arith) in
-    let ih = reads-lines host hs f (at + length (fieldBytes x)) (fs ++ lineAt at x ∷ []) (o .1) (omega arith) (omega arith) (b .1) in
-    let e : isEmpty ((fieldBytes x ++ fieldsBytes hs) ++ []) ≡ false = rw (append-assoc (fieldBytes x) (fieldsBytes hs) []) (line-some x _ (o .0 .some)) in
+    let ih = reads-lines hs f (at + length (fieldBytes x)) (fs ++ lineAt at x ∷ []) (v .1) (omega arith) (omega arith) (b .1) in
+    let e : isEmpty ((fieldBytes x ++ fieldsBytes hs) ++ []) ≡ false = rw (append-assoc (fieldBytes x) (fieldsBytes hs) []) (line-some x _ (line-named x (v .0))) in
     reads-as (append-assoc fs (lineAt at x ∷ []) (linesAt (at + length (fieldBytes x)) hs))
     (before _ (reads-ended at _ false e)
-    (before _ (reads-here at _) (rw t (reads-bind _ (reads-line host x at _ (o .0) (b .0)) ih))))
+    (before _ (reads-here at _) (rw t (reads-bind _ (reads-line x at _ (v .0) (b .0)) ih))))
 
 -- ---- a section
 
-pub reads-section : (host : Bool) (fs : List Field) (at : ℕ) (rest : List ℕ) → validSection host fs ≡ true → length (sectionBytes fs) ≤ binaryMost
+pub reads-section : (fs : List Field) (at : ℕ) (rest : List ℕ) → LinesOk fs → length fs ≤ linesMost → length (sectionBytes fs) ≤ binaryMost
     → Reads (section true) at (sectionBytes fs) rest (record { lines = sectionAt at fs; end = at + length (sectionBytes fs) })
-unfolding section knownSection bodyLines sectionBytes validSection
-reads-section host fs at rest v h =
-    let p = and-split (validFields host fs) _ v in
-    let q = leb-true (length fs) linesMost (p .1) in
+unfolding section knownSection bodyLines sectionBytes
+reads-section fs at rest v q h =
     let b = counted-fits (fieldsBytes fs) h in
     let at2 : ℕ = at + length (intBytes (length (fieldsBytes fs))) in
-    let r = reads-lines host fs (suc linesMost) at2 [] (p .0) (omega arith) (omega arith) b in
+    let r = reads-lines fs (suc linesMost) at2 [] v (omega arith) (omega arith) b in
     let e : knownLines (suc linesMost) [] at2 (fieldsBytes fs) ≡ got (linesAt at2 fs) (at2 + length (fieldsBytes fs)) [] = rw append-nil at (r .go) in
     behind _ (behind _ (reads-part at (fieldsBytes fs) rest (omega arith)) (reads-none (ap (λ (z : Got (List FieldRead)). onBody z (at + length (counted (fieldsBytes fs))) rest) e)))
     (before _ (reads-here _ _) (reads-give _ rest _))

@@ -8,32 +8,36 @@ use borrow.Author.Tests.{lt-leb, ne-eqb}
 use lib.Dec.{leb, eqb, lit<}
 use lib.ListN.{length, length-append}
 use Rattle.octets.specs.Text.{isEmpty}
-use Rattle.octets.specs.Limits.{contentMost, binaryMost, informationalMost}
+use Rattle.octets.specs.Limits.{linesMost, contentMost, binaryMost, informationalMost}
 use Rattle.octets.specs.Refusals.{cutOff}
 use Rattle.octets.proofs.Kit.{and-split}
 use Rattle.numbers.specs.Integer.{integerEnd, intBytes}
 use Rattle.numbers.proofs.IntegerLaws.{int-length, int-some}
 use Rattle.script.specs.Do.{piece, good}
-use Rattle.messages.specs.Message.{Section, InformationalRead, Start, requestStart, responseStart, nonEmpty, plainMessage}
-use Rattle.messages.specs.Control.{statusVerdict, isInformational, isBodyless}
+use Rattle.messages.specs.Message.{Section, InformationalRead, Start, requestStart, responseStart, nonEmpty, statingMessage}
+use Rattle.messages.specs.Control.{statusVerdict, isInformational, endsAtHead}
 use Rattle.messages.specs.Names.{keptTrailers}
-use Rattle.messages.specs.Rules.{authorityFrom, authorityIn, binaryFramingOf, mayState, nothingStated}
+use Rattle.messages.specs.Rules.{authorityFrom, authorityIn, binaryFramingOf, mayState, nothingStated, bodylessRule, statedIn}
 use Rattle.messages.specs.declared.Body.the-variants.{Sized}
 use Rattle.messages.specs.declared.Framing.the-variants.{Unstated}
-use Rattle.messages.specs.Meaning.{Field, Informational, request, Meaning}
-use Rattle.messages.specs.Valid.{validControl, validSection, validFields, validHeads, validBody, noFields}
+use Rattle.messages.specs.declared.StatedLength.{StatedLength}
+use Rattle.messages.specs.declared.StatedLength.the-variants.{Missing}
+use Rattle.messages.specs.declared.Told.{Told}
+use Rattle.messages.specs.Meaning.{Field, Informational, request, response, Meaning}
+use Rattle.messages.specs.Valid.{validControl, validSection, validFields, validHeads, validBody, validStated, noFields}
 use Rattle.messages.proofs.Verdicts.{status-rule}
-use Rattle.messages.proofs.Valid.{section-fields, head-ok, request-ok}
+use Rattle.messages.proofs.Valid.{section-fields, section-few, head-ok, request-ok}
+use Rattle.messages.proofs.Stating.{fields-ok, stated-lines, framingFor, stated-back, bodyless-good, Suited}
 use Rattle.messages.proofs.ValidLines.{content-back}
 use Rattle.binary.specs.Reader.{rule, integer}
 use Rattle.binary.specs.Read.{knownContent, content, contentAgrees, contentRule, trailersAgree, trailerRule, trailers, padding, afterContent, afterHeaders, afterHead, afterControl}
-use Rattle.binary.specs.Read.{requestMessage, afterFinal, afterFinalStatus, afterInformational, afterInformationalStatus, heads}
+use Rattle.binary.specs.Read.{section, requestMessage, afterFinal, afterFinalStatus, afterInformational, afterInformationalStatus, heads}
 use Rattle.binary_writer.specs.Write.{counted, fieldsBytes, sectionBytes, schemeBytes, informationalBytes}
-use Rattle.binary_round_trip.specs.RoundTrip.{countedAt, linesAt, sectionAt, headAt, headsAt, placedFrom}
+use Rattle.binary_round_trip.specs.RoundTrip.{countedAt, linesAt, sectionAt, headAt, headsAt, headerOf, placedFrom}
 use Rattle.binary_round_trip.proofs.Judgement.{Reads, reads-none, reads-give, reads-here, reads-ended, reads-tell, reads-integer, reads-bind, before, behind, reads-as}
 use Rattle.binary_round_trip.proofs.Parts.{reads-within, reads-request}
 use Rattle.binary_round_trip.proofs.Lines.{both-fit, counted-fits, reads-section}
-use Rattle.binary_round_trip.proofs.Keeping.{unstated, kept-all, no-hosts, are-trailers, as-many}
+use Rattle.binary_round_trip.proofs.Keeping.{unstated, kept-all, header-framing, no-hosts, are-trailers, as-many}
 
 -- ---- content
 
@@ -58,14 +62,16 @@ reads-content at c rest h =
 -- what a valid meaning has there, and that it is within the size
 pub record TailOk (host body : Bool) (m : Meaning) : Type 0 where
   pub headers : validSection host (m .headers) ≡ true
-  pub headersFit : length (sectionBytes (m .headers)) ≤ binaryMost
+  pub lines : length (headerOf m) ≤ linesMost
+  pub headersFit : length (sectionBytes (headerOf m)) ≤ binaryMost
   pub content : length (m .content) ≤ contentMost
   pub trailers : validSection false (m .trailers) ≡ true
   pub trailersFit : length (sectionBytes (m .trailers)) ≤ binaryMost
   pub bodyRule : validBody body (m .content) (m .trailers) ≡ true
+  pub stated : validStated (m .stated) m ≡ true
 
 abbrev pub tailBytes : Meaning → List ℕ
-tailBytes m = sectionBytes (m .headers) ++ (counted (m .content) ++ sectionBytes (m .trailers))
+tailBytes m = sectionBytes (headerOf m) ++ (counted (m .content) ++ sectionBytes (m .trailers))
 
 bodied : (body : Bool) (c : List ℕ) (ts : List Field) → validBody body c ts ≡ true → ((body || isEmpty c) ≡ true) × ((body || noFields ts) ≡ true)
 unfolding validBody
@@ -91,19 +97,30 @@ reads-trailers : (body : Bool) (ts : List Field) (at : ℕ) (rest : List ℕ) �
 unfolding trailers sectionBytes
 reads-trailers body ts at rest v h b =
     let f = counted-fits (fieldsBytes ts) h in
+    let o = section-fields false ts v in
     before _ (reads-ended at _ false (counted-some (fieldsBytes ts) rest (omega arith)))
-    (behind _ (reads-section false ts at rest v h) (reads-tell _ rest _ _ (trailers-good body _ at ts (section-fields false ts v) b)))
+    (behind _ (reads-section ts at rest (fields-ok false ts o) (section-few false ts v) h) (reads-tell _ rest _ _ (trailers-good body _ at ts o b)))
 
 reads-padding : (at : ℕ) → Reads padding at [] [] at
 unfolding padding
 reads-padding at = reads-none refl
 
 module _ (host body : Bool) (m : Meaning) (ok : TailOk host body m) where
-  reads-after : (start : Start) (h : Section) (at : ℕ)
-      → Reads (afterHeaders true body start h Unstated) at (counted (m .content) ++ sectionBytes (m .trailers)) []
-      (plainMessage start (h .lines) (nonEmpty (countedAt at (m .content))) (sectionAt (at + length (counted (m .content))) (m .trailers)))
+  -- the header section, and what is behind it
+  reads-header : (at : ℕ) (rest : List ℕ)
+      → Reads (section true) at (sectionBytes (headerOf m)) rest (record { lines = sectionAt at (headerOf m); end = at + length (sectionBytes (headerOf m)) })
+  reads-header at rest =
+      reads-section (headerOf m) at rest (stated-lines (m .stated) (m .headers) (fields-ok host (m .headers) (section-fields host (m .headers) (ok .headers)))) (ok .lines) (ok .headersFit)
+
+  reads-bare : m .stated ≡ Missing → (at : ℕ) (rest : List ℕ)
+      → Reads (section true) at (sectionBytes (m .headers)) rest (record { lines = sectionAt at (m .headers); end = at + length (sectionBytes (m .headers)) })
+  reads-bare e at rest = rw e at (reads-header at rest)
+
+  reads-after : (x : StatedLength) (start : Start) (h : Section) (at : ℕ)
+      → Reads (afterHeaders true body x start h Unstated) at (counted (m .content) ++ sectionBytes (m .trailers)) []
+      (statingMessage x start (h .lines) (nonEmpty (countedAt at (m .content))) (sectionAt (at + length (counted (m .content))) (m .trailers)))
   unfolding afterHeaders afterContent
-  reads-after start h at =
+  reads-after x start h at =
       let b = bodied body (m .content) (m .trailers) (ok .bodyRule) in
       reads-bind _ (reads-content at (m .content) _ (ok .content))
       (before _ (reads-here _ _)
@@ -136,26 +153,42 @@ requestAt at m s a p =
     requestStart (countedAt at m) s (countedAt (at + length (counted m) + length (counted (schemeBytes s))) a)
     (countedAt (at + length (counted m) + length (counted (schemeBytes s)) + length (counted a)) p)
 
-pub reads-request-message : (w : Meaning) (m a p : List ℕ) (s at : ℕ) → validControl (request m s a p) ≡ true → TailOk false true w
+pub reads-request-message : (w : Meaning) (m a p : List ℕ) (s at : ℕ) → validControl (request m s a p) ≡ true → TailOk false true w → w .stated ≡ Missing
     → Reads (requestMessage true) at (requestBytes m s a p ++ tailBytes w) [] (placedFrom (requestAt at m s a p) (at + length (requestBytes m s a p)) w)
 unfolding requestMessage afterControl afterHead placedFrom
-reads-request-message w m a p s at v ok =
-    reads-bind _ (reads-request m a p s at _ v)
-    (reads-bind _ (reads-section false (w .headers) _ _ (ok .headers) (ok .headersFit))
+reads-request-message w m a p s at v ok e =
+    rw e
+    (reads-bind _ (reads-request m a p s at _ v)
+    (reads-bind _ (reads-bare false true w ok e _ _)
     (before _ (reads-tell _ _ _ _ (authority-good _ _ _ a (w .headers) (request-ok m a p s v .host .some) (section-fields false (w .headers) (ok .headers))))
-    (before _ (reads-tell _ _ _ _ (may-state false (w .headers) _ _ (ok .headers))) (reads-after false true w ok _ _ _))))
+    (before _ (reads-tell _ _ _ _ (may-state false (w .headers) _ _ (ok .headers))) (reads-after false true w ok Missing _ _ _)))))
 
 -- ---- responses
 
-reads-final : (w : Meaning) (is : List InformationalRead) (n at : ℕ) (b : Bool) → isBodyless n ≡ b → TailOk true (not b) w
-    → Reads (afterFinalStatus true is n) at (tailBytes w) [] (placedFrom (responseStart is n) at w)
+-- the header of a response that ends at it
+module _ (t : Told) (w : Meaning) (hs : List Informational) (n : ℕ) (c : w .control ≡ response hs n) (body : Bool) (ok : TailOk true body w) (at : ℕ) where
+  header-states : binaryFramingOf (sectionAt at (headerOf w)) ≡ framingFor (w .stated) (at + length (intBytes (length (fieldsBytes (headerOf w)))))
+  header-states = header-framing true (w .headers) (section-fields true (w .headers) (ok .headers)) (w .stated) w (ok .stated) _
+
+  header-good : (end : ℕ) → bodylessRule t n end (binaryFramingOf (sectionAt at (headerOf w))) ≡ good (Sized 0)
+  header-good end = rw header-states (bodyless-good t n end (w .stated) _ hs w c (ok .stated))
+
+  header-stated : endsAtHead t n ≡ true → statedIn t n (binaryFramingOf (sectionAt at (headerOf w))) ≡ w .stated
+  unfolding statedIn
+  header-stated e = rw (e, header-states) (stated-back (w .stated) _)
+
+reads-final : (t : Told) (w : Meaning) (hs : List Informational) (is : List InformationalRead) (n at : ℕ) → w .control ≡ response hs n → Suited t n w
+    → (b : Bool) → endsAtHead t n ≡ b → TailOk true (not b) w
+    → Reads (afterFinalStatus t true is n) at (tailBytes w) [] (placedFrom (responseStart is n) at w)
 unfolding afterFinalStatus afterFinal placedFrom
-reads-final w is n at true e ok =
-    reads-bind _ (reads-section true (w .headers) at _ (ok .headers) (ok .headersFit))
-    (rw e (before _ (reads-tell _ _ _ _ (none-stated (w .headers) _ _ (ok .headers))) (reads-after true false w ok _ _ _)))
-reads-final w is n at false e ok =
-    reads-bind _ (reads-section true (w .headers) at _ (ok .headers) (ok .headersFit))
-    (rw e (before _ (reads-tell _ _ _ _ (may-state true (w .headers) _ _ (ok .headers))) (reads-after true true w ok _ _ _)))
+reads-final t w hs is n at c s true e ok =
+    reads-bind _ (reads-header true false w ok at _)
+    (rw (e, header-stated t w hs n c false ok at e)
+    (before _ (reads-tell _ _ _ _ (header-good t w hs n c false ok at _)) (reads-after true false w ok (w .stated) _ _ _)))
+reads-final t w hs is n at c s false e ok =
+    rw (s .missing e)
+    (reads-bind _ (reads-bare true true w ok (s .missing e) at _)
+    (rw e (before _ (reads-tell _ _ _ _ (may-state true (w .headers) _ _ (ok .headers))) (reads-after true true w ok Missing _ _ _))))
 
 -- a status that keeps its rule
 reads-status : (n at : ℕ) (rest : List ℕ) → statusVerdict n ≡ 0 → Reads (integer cutOff at) at (intBytes n) rest n
@@ -164,43 +197,43 @@ reads-status n at rest e = reads-integer cutOff at at n rest (omega (arith, stat
 status-good : (n p : ℕ) → statusVerdict n ≡ 0 → rule (statusVerdict n) p n ≡ good n
 status-good n p e = rw e
 
-pub reads-response : (w : Meaning) (n : ℕ) → statusVerdict n ≡ 0 → isInformational n ≡ false → TailOk true (not (isBodyless n)) w
-    → (hs : List Informational) (f at : ℕ) (is : List InformationalRead) → validHeads hs ≡ true → length hs < f
+pub reads-response : (t : Told) (w : Meaning) (all : List Informational) (n : ℕ) → w .control ≡ response all n → Suited t n w
+    → statusVerdict n ≡ 0 → isInformational n ≡ false → TailOk true (not (endsAtHead t n)) w → (hs : List Informational) (f at : ℕ) (is : List InformationalRead) → validHeads hs ≡ true → length hs < f
     → length is + length hs ≤ informationalMost → length (informationalBytes hs) ≤ binaryMost
-    → Reads (heads true f is) at (informationalBytes hs ++ (intBytes n ++ tailBytes w)) []
+    → Reads (heads t true f is) at (informationalBytes hs ++ (intBytes n ++ tailBytes w)) []
     (placedFrom (responseStart (is ++ headsAt at hs) n) (at + length (informationalBytes hs ++ intBytes n)) w)
 unfolding heads afterInformationalStatus afterInformational informationalBytes headsAt
-reads-response w n e late ok [] zero at is v h g k = absurd (omega arith)
-reads-response w n e late ok (x ∷ hs) zero at is v h g k = absurd (omega arith)
-reads-response w n e late ok [] (suc f) at is v h g k =
+reads-response t w all n c s e late ok [] zero at is v h g k = absurd (omega arith)
+reads-response t w all n c s e late ok (x ∷ hs) zero at is v h g k = absurd (omega arith)
+reads-response t w all n c s e late ok [] (suc f) at is v h g k =
     reads-as (ap (λ (l : List InformationalRead). placedFrom (responseStart l n) (at + length (intBytes n)) w) (sym (append-nil is)))
     (before _ (reads-here at _)
     (reads-bind _ (reads-status n at _ e)
-    (before _ (reads-tell _ _ _ _ (status-good n at e)) (rw late (reads-final w is n _ (isBodyless n) refl ok)))))
-reads-response w n e late ok (x ∷ hs) (suc f) at is v h g k =
+    (before _ (reads-tell _ _ _ _ (status-good n at e)) (rw late (reads-final t w all is n _ c s (endsAtHead t n) refl ok)))))
+reads-response t w all n c s e late ok (x ∷ hs) (suc f) at is v h g k =
     let o = head-ok x hs v in
     let i : List ℕ = intBytes (x .status) in
-    let s : List ℕ = sectionBytes (x .fields) in
-    let t : List ℕ = informationalBytes hs in
-    let b = both-fit (i ++ s) t k in
-    let l1 : length (i ++ s) ≡ length i + length s = length-append i s in
-    let l2 : length ((i ++ s) ++ t) ≡ length (i ++ s) + length t = length-append (i ++ s) t in
-    let l3 : length (((i ++ s) ++ t) ++ intBytes n) ≡ length ((i ++ s) ++ t) + length (intBytes n) = length-append ((i ++ s) ++ t) (intBytes n) in
-    let l4 : length (t ++ intBytes n) ≡ length t + length (intBytes n) = length-append t (intBytes n) in
+    let d : List ℕ = sectionBytes (x .fields) in
+    let y : List ℕ = informationalBytes hs in
+    let b = both-fit (i ++ d) y k in
+    let l1 : length (i ++ d) ≡ length i + length d = length-append i d in
+    let l2 : length ((i ++ d) ++ y) ≡ length (i ++ d) + length y = length-append (i ++ d) y in
+    let l3 : length (((i ++ d) ++ y) ++ intBytes n) ≡ length ((i ++ d) ++ y) + length (intBytes n) = length-append ((i ++ d) ++ y) (intBytes n) in
+    let l4 : length (y ++ intBytes n) ≡ length y + length (intBytes n) = length-append y (intBytes n) in
     let l5 : length (is ++ headAt at x ∷ []) ≡ length is + 1 = length-append is (headAt at x ∷ []) in
-    let q : ℕ = at + length i + length s in
-    let e1 : q ≡ at + length (i ++ s) = omega arith in
-    let e2 : q + length (t ++ intBytes n) ≡ at + length (((i ++ s) ++ t) ++ intBytes n) = omega arith in
-    let e3 : (is ++ headAt at x ∷ []) ++ headsAt q hs ≡ is ++ headAt at x ∷ headsAt (at + length (i ++ s)) hs =
+    let q : ℕ = at + length i + length d in
+    let e1 : q ≡ at + length (i ++ d) = omega arith in
+    let e2 : q + length (y ++ intBytes n) ≡ at + length (((i ++ d) ++ y) ++ intBytes n) = omega arith in
+    let e3 : (is ++ headAt at x ∷ []) ++ headsAt q hs ≡ is ++ headAt at x ∷ headsAt (at + length (i ++ d)) hs =
     append-assoc is (headAt at x ∷ []) (headsAt q hs) ∙ ap (λ (z : ℕ). is ++ headAt at x ∷ headsAt z hs) e1 in
     let few : leb informationalMost (length is) ≡ false = lt-leb informationalMost (length is) (omega arith) in
-    let u : nothingStated (at + length i + length s) (binaryFramingOf (sectionAt (at + length i) (x .fields))) ≡ good (Sized 0) =
+    let u : nothingStated (at + length i + length d) (binaryFramingOf (sectionAt (at + length i) (x .fields))) ≡ good (Sized 0) =
     none-stated (x .fields) (at + length i) _ (o .0 .fields) in
-    let ih = reads-response w n e late ok hs f q (is ++ headAt at x ∷ []) (o .1) (omega arith) (omega arith) (b .1) in
+    let ih = reads-response t w all n c s e late ok hs f q (is ++ headAt at x ∷ []) (o .1) (omega arith) (omega arith) (b .1) in
     reads-as (ap₂ (λ (l : List InformationalRead) (z : ℕ). placedFrom (responseStart l n) z w) e3 e2)
-    (rw (append-assoc (i ++ s) t (intBytes n ++ tailBytes w), append-assoc i s (t ++ (intBytes n ++ tailBytes w)))
+    (rw (append-assoc (i ++ d) y (intBytes n ++ tailBytes w), append-assoc i d (y ++ (intBytes n ++ tailBytes w)))
     (before _ (reads-here at _)
     (reads-bind _ (reads-status (x .status) at _ (o .0 .status))
     (before _ (reads-tell _ _ _ _ (status-good (x .status) at (o .0 .status)))
     (rw (o .0 .early, few)
-    (reads-bind _ (reads-section true (x .fields) _ _ (o .0 .fields) (both-fit i s (b .0) .1)) (before _ (reads-tell _ _ _ _ u) ih)))))))
+    (reads-bind _ (reads-section (x .fields) _ _ (fields-ok true (x .fields) (section-fields true (x .fields) (o .0 .fields))) (section-few true (x .fields) (o .0 .fields)) (both-fit i d (b .0) .1)) (before _ (reads-tell _ _ _ _ u) ih)))))))

@@ -1,5 +1,5 @@
 -- What is written as Binary HTTP is read back (00, demand 2: "Turning a message from either form into the other keeps its meaning: control data,
--- fields in order, content and trailers"; 01, "How we write").
+-- fields in order, content and trailers"; 01, "How we write"; 02, item 5: "Demand 2 includes it").
 use mathlib.Core.Path.{_≡_}
 use mathlib.Core.Bool.{true}
 use mathlib.Core.List.{List, [], _∷_, _++_}
@@ -9,8 +9,9 @@ use Rattle.numbers.specs.Integer.{intBytes}
 use Rattle.script.specs.Script.{accepted, means}
 use Rattle.script.specs.Do.{Piece, piece}
 use Rattle.messages.specs.Message.{FieldRead, InformationalRead, Start, requestStart, responseStart, Message, nonEmpty}
-use Rattle.messages.specs.Meaning.{Field, Informational, Control, request, response, Meaning, meaning}
-use Rattle.messages.specs.Valid.{valid}
+use Rattle.messages.specs.Meaning.{Field, Informational, Control, request, response, Meaning, meaning, statedFields}
+use Rattle.messages.specs.Valid.{valid, suits}
+use Rattle.messages.specs.declared.Told.{Told}
 use Rattle.binary.specs.Read.{readBinary}
 use Rattle.binary_writer.specs.Write.{counted, fieldBytes, fieldsBytes, sectionBytes, schemeBytes, controlBytes, binaryOf, binaryFits}
 
@@ -22,7 +23,7 @@ countedAt at w = piece (at + length (intBytes (length w))) w
 
 -- a field line: its name, and behind it its value
 abbrev pub lineAt : ℕ → Field → FieldRead
-lineAt at f = record { name = countedAt at (f .name); value = countedAt (at + length (counted (f .name))) (f .value) }
+lineAt at f = record { name = countedAt at (f .name); value = countedAt (at + length (counted (f .name))) (f .value); place = at }
 
 -- one line behind the other
 unfoldable pub linesAt : ℕ → List Field → List FieldRead
@@ -49,14 +50,19 @@ startOf (request m s a p) =
     (countedAt (1 + length (counted m) + length (counted (schemeBytes s)) + length (counted a)) p)
 startOf (response hs s) = responseStart (headsAt 1 hs) s
 
+-- the lines of the final header: a stated length goes first
+abbrev pub headerOf : Meaning → List Field
+headerOf m = statedFields (m .stated) ++ m .headers
+
 -- headers, content and trailers from the place `at` on
 unfoldable pub placedFrom : Start → ℕ → Meaning → Message
 placedFrom start at m =
     record {
       start = start;
-      lines = sectionAt at (m .headers);
-      chunks = nonEmpty (countedAt (at + length (sectionBytes (m .headers))) (m .content));
-      trailers = sectionAt (at + length (sectionBytes (m .headers)) + length (counted (m .content))) (m .trailers);
+      lines = sectionAt at (headerOf m);
+      chunks = nonEmpty (countedAt (at + length (sectionBytes (headerOf m))) (m .content));
+      trailers = sectionAt (at + length (sectionBytes (headerOf m)) + length (counted (m .content))) (m .trailers);
+      stated = m .stated;
     }
 
 -- the message that the reader takes from what is written
@@ -65,18 +71,20 @@ placedBinary m = placedFrom (startOf (m .control)) (length (controlBytes (m .con
 
 -- ---- the claims
 
--- a meaning that can be read, written within the size of a Binary input, is read to its last octet, and the message read has that meaning
-abbrev pub ReadsBack : Meaning → Type 0
-ReadsBack m = (readBinary (binaryOf m) ≡ accepted (length (binaryOf m)) (placedBinary m)) × (meaning (placedBinary m) ≡ m)
+-- a meaning that can be read, written within the size of a Binary input, is read to its last octet, told t, and the message read has that meaning
+abbrev pub ReadsBack : Told → Meaning → Type 0
+ReadsBack t m = (readBinary t (binaryOf m) ≡ accepted (length (binaryOf m)) (placedBinary m)) × (meaning (placedBinary m) ≡ m)
 
--- every meaning that can be read and fits is read back
+-- every meaning that can be read by a reader told so and fits is read back
 abbrev pub RoundTrip : Type 0
-RoundTrip = (m : Meaning) → valid m ≡ true → binaryFits m ≡ true → ReadsBack m
+RoundTrip = (t : Told) (m : Meaning) → valid m ≡ true → suits t m ≡ true → binaryFits m ≡ true → ReadsBack t m
 
 -- the same without places
 abbrev pub RoundTripOfMeanings : Type 0
-RoundTripOfMeanings = (m : Meaning) → valid m ≡ true → binaryFits m ≡ true → means meaning (readBinary (binaryOf m)) ≡ accepted (length (binaryOf m)) m
+RoundTripOfMeanings =
+    (t : Told) (m : Meaning) → valid m ≡ true → suits t m ≡ true → binaryFits m ≡ true
+    → means meaning (readBinary t (binaryOf m)) ≡ accepted (length (binaryOf m)) m
 
--- equal octets are equal meanings
+-- equal octets are equal meanings, whatever a reader of either is told: where one of them states a length, its line is in both, and no kept field is one
 abbrev pub Unique : Type 0
 Unique = (l m : Meaning) → valid l ≡ true → binaryFits l ≡ true → valid m ≡ true → binaryFits m ≡ true → binaryOf l ≡ binaryOf m → l ≡ m

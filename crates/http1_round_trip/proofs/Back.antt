@@ -13,17 +13,22 @@ use Rattle.octets.proofs.Kit.{and-split}
 use Rattle.script.specs.Script.{Answer, accepted, refused, more, means}
 use Rattle.script.specs.Do.{piece, Reads}
 use Rattle.script.proofs.Do.{reads}
+use Rattle.messages.specs.Told.{withHead}
+use Rattle.messages.specs.declared.StatedLength.{StatedLength}
+use Rattle.messages.specs.declared.StatedLength.the-variants.{Missing, Of}
 use Rattle.messages.specs.declared.Told.{Told}
 use Rattle.messages.specs.Message.{requestStart, Message}
 use Rattle.messages.specs.Names.{keptTrailers}
 use Rattle.messages.specs.Meaning.{Field, Control, request, response, Meaning, meaning}
-use Rattle.messages.specs.Valid.{isScheme, validControl, ofResponse, noFields, valid}
+use Rattle.messages.specs.Valid.{isScheme, validControl, ofResponse, noFields, valid, suits}
 use Rattle.messages.proofs.Valid.{section-fields, request-ok, response-ok, meaning-ok}
 use Rattle.messages.proofs.ValidLines.{content-back}
+use Rattle.messages.proofs.Stating.{never-stated, suited}
 use Rattle.http1.specs.Read as http1
 use Rattle.http1.specs.Read.{readRequest, readResponse}
-use Rattle.http1_writer.specs.Write.{sectionText, requestLine, statusLine, informationalText, lengthLine, headLines, headText, bodyText, http1Of, http1Fits}
-use Rattle.http1_round_trip.specs.RoundTrip.{isRequestOf, ReadsBack, RequestsBack, ResponsesBack, RequestMeanings, ResponseMeanings, RequestsApart, ResponsesApart}
+use Rattle.http1_writer.specs.Write.{sectionText, requestLine, statusLine, informationalText, lengthLine, headLines, headText, bodyText, http1Of, http1Fits, toHttp1}
+use Rattle.http1_round_trip.specs.RoundTrip.{isRequestOf, RequestOf, ResponseOf, ReadsBack, RequestsBack, ResponsesBack}
+use Rattle.http1_round_trip.specs.RoundTrip.{RequestMeanings, ResponseMeanings, RequestsApart, ResponsesApart, RequestsHeadUnused}
 use Rattle.http1_round_trip.proofs.Placed.{placedFrom, placedAt}
 use Rattle.http1_round_trip.proofs.Sections.{reads-from, reads-as}
 use Rattle.http1_round_trip.proofs.Keeping.{fields-back, heads-back, requestLines, request-kept, response-kept}
@@ -37,90 +42,102 @@ unfolding sectionText
 trailers-fit [] e = lit≤ tt
 trailers-fit (x ∷ ts) e = leb-true (length (sectionText (x ∷ ts))) trailerMost e
 
-record Fit (m : Meaning) : Type 0 where
-  head : length (headText m) ≤ headMost
-  lines : length (headLines m) ≤ linesMost
+record Fit (t : Told) (m : Meaning) : Type 0 where
+  head : length (headText t m) ≤ headMost
+  lines : length (headLines t m) ≤ linesMost
   trailers : length (sectionText (m .trailers)) ≤ trailerMost
 
-fit-of : (m : Meaning) → http1Fits m ≡ true → Fit m
+fit-of : (t : Told) (m : Meaning) → http1Fits t m ≡ true → Fit t m
 unfolding http1Fits
-fit-of m e =
-    let a : Bool = leb (length (headText m)) headMost in
-    let b : Bool = leb (length (headLines m)) linesMost in
+fit-of t m e =
+    let a : Bool = leb (length (headText t m)) headMost in
+    let b : Bool = leb (length (headLines t m)) linesMost in
     let p = and-split (a && b) _ e in
     let q = and-split a b (p .0) in
     record { head = leb-true _ headMost (q .0); lines = leb-true _ linesMost (q .1); trailers = trailers-fit (m .trailers) (p .1) }
 
-trailers-ok : (m : Meaning) → valid m ≡ true → http1Fits m ≡ true → TrailersOk (m .trailers)
-trailers-ok m v f = record { valid = meaning-ok m v .trailers; fit = fit-of m f .trailers }
+trailers-ok : (t : Told) (m : Meaning) → valid m ≡ true → http1Fits t m ≡ true → TrailersOk (m .trailers)
+trailers-ok t m v f = record { valid = meaning-ok m v .trailers; fit = fit-of t m f .trailers }
 
 -- ---- messages
 
-abbrev made : Control → List Field → List ℕ → List Field → Meaning
-made c fs b ts = record { control = c; headers = fs; content = b; trailers = ts }
+abbrev made : Control → List Field → List ℕ → List Field → StatedLength → Meaning
+made c fs b ts x = record { control = c; headers = fs; content = b; trailers = ts; stated = x }
 
 other : {A : Type 1} → false ≡ true → A
 other e = let z : _≡_ {A = ℕ} 0 1 = cc in absurd (omega arith)
 
-request-back : (t : Told) (c : Control) (fs : List Field) (b : List ℕ) (ts : List Field)
-    → valid (made c fs b ts) ≡ true → http1Fits (made c fs b ts) ≡ true → isRequestOf t c ≡ true
-    → Reads (http1.request t) 0 (http1Of (made c fs b ts)) (placedAt 0 (made c fs b ts))
+unstated-request : (m : List ℕ) (s : ℕ) (a p : List ℕ) (fs : List Field) (b : List ℕ) (ts : List Field) (n : ℕ) → valid (made (request m s a p) fs b ts (Of n)) ≡ true → ⊥
+unstated-request m s a p fs b ts n v =
+    let w : Meaning = made (request m s a p) fs b ts (Of n) in
+    let e : Of n ≡ Missing = never-stated (Of n) w refl (meaning-ok w v .stated) in
+    let z : _≡_ {A = ℕ} 0 1 = cc in
+    omega arith
+
+request-back : (t : Told) (c : Control) (fs : List Field) (b : List ℕ) (ts : List Field) (x : StatedLength)
+    → valid (made c fs b ts x) ≡ true → http1Fits t (made c fs b ts x) ≡ true → isRequestOf t c ≡ true
+    → Reads (http1.request t) 0 (http1Of t (made c fs b ts x)) (placedAt t 0 (made c fs b ts x))
 unfolding http1Of headText headLines lengthLine
-request-back t (response hs s) fs b ts v f e = other e
-request-back t (request m s a p) fs b ts v f e =
-    let w : Meaning = made (request m s a p) fs b ts in
+request-back t (response hs s) fs b ts x v f e = other e
+request-back t (request m s a p) fs b ts (Of n) v f e = absurd (unstated-request m s a p fs b ts n v)
+request-back t (request m s a p) fs b ts Missing v f e =
+    let w : Meaning = made (request m s a p) fs b ts Missing in
     let ok = meaning-ok w v in
-    let fit = fit-of w f in
+    let fit = fit-of t w f in
     let o = request-ok m a p s (ok .control) in
     let l : List ℕ = requestLine m p in
     let h : List Field = requestLines a fs b ts in
     let x : s ≡ t .scheme = eqb-true s (t .scheme) e in
-    reads-as (ap (λ (z : ℕ). placedFrom (requestStart (piece 0 m) z (piece (0 + length l + 6) a) (piece (0 + (length m + 1)) p)) (0 + length l) h b ts) (sym x))
+    reads-as (ap (λ (z : ℕ). placedFrom (requestStart (piece 0 m) z (piece (0 + length l + 6) a) (piece (0 + (length m + 1)) p)) (0 + length l) h b ts Missing) (sym x))
     (reads-from (append-assoc l (sectionText h) (bodyText b ts))
-    (reads-request t m a p fs b ts 0 (o .method) (o .named) (o .path) (section-fields false fs (ok .headers)) (ok .content) (trailers-ok w v f) (fit .lines) (fit .head)))
+    (reads-request t m a p fs b ts 0 (o .method) (o .named) (o .path) (section-fields false fs (ok .headers)) (ok .content) (trailers-ok t w v f) (fit .lines) (fit .head)))
 
-response-back : (c : Control) (fs : List Field) (b : List ℕ) (ts : List Field)
-    → valid (made c fs b ts) ≡ true → http1Fits (made c fs b ts) ≡ true → ofResponse c ≡ true
-    → Reads (http1.heads (suc informationalMost) [] headMost) 0 (http1Of (made c fs b ts)) (placedAt 0 (made c fs b ts))
+response-back : (t : Told) (c : Control) (fs : List Field) (b : List ℕ) (ts : List Field) (x : StatedLength)
+    → valid (made c fs b ts x) ≡ true → http1Fits t (made c fs b ts x) ≡ true → ofResponse c ≡ true → suits t (made c fs b ts x) ≡ true
+    → Reads (http1.heads t (suc informationalMost) [] headMost) 0 (http1Of t (made c fs b ts x)) (placedAt t 0 (made c fs b ts x))
 unfolding http1Of headText headLines lengthLine
-response-back (request m s a p) fs b ts v f e = other e
-response-back (response hs s) fs b ts v f e =
-    let w : Meaning = made (response hs s) fs b ts in
+response-back t (request m s a p) fs b ts x v f e u = other e
+response-back t (response hs s) fs b ts x v f e u =
+    let w : Meaning = made (response hs s) fs b ts x in
     let ok = meaning-ok w v in
-    let fit = fit-of w f in
+    let fit = fit-of t w f in
     let o = response-ok hs s (ok .control) in
     let few = o .few in
     let i : List ℕ = informationalText hs in
     let l : List ℕ = statusLine s in
-    let h : List ℕ = sectionText (headLines w) in
+    let h : List ℕ = sectionText (headLines t w) in
     let e1 : ((i ++ l) ++ h) ++ bodyText b ts ≡ i ++ (l ++ (h ++ bodyText b ts)) = append-assoc (i ++ l) h (bodyText b ts) ∙ append-assoc i l (h ++ bodyText b ts) in
     let k : length (i ++ (l ++ h)) ≤ headMost = rw (append-assoc i l h) at (fit .head) in
     reads-from e1
-    (reads-response s fs b ts (o .status) (o .late) (section-fields true fs (ok .headers)) (ok .content) (trailers-ok w v f) (ok .body) (fit .lines)
+    (reads-response t s w hs refl (o .status) (o .late) (section-fields true fs (ok .headers)) (ok .content) (trailers-ok t w v f) (ok .stated)
+    (suited t w hs s refl u) (fit .lines)
     hs (suc informationalMost) headMost 0 [] (o .heads) (omega arith) (omega arith) k)
 
 -- ---- their meanings
 
-meaning-of : (c : Control) (fs : List Field) (b : List ℕ) (ts : List Field) → valid (made c fs b ts) ≡ true → meaning (placedAt 0 (made c fs b ts)) ≡ made c fs b ts
+meaning-of : (t : Told) (c : Control) (fs : List Field) (b : List ℕ) (ts : List Field) (x : StatedLength) → valid (made c fs b ts x) ≡ true
+    → meaning (placedAt t 0 (made c fs b ts x)) ≡ made c fs b ts x
 unfolding meaning keptTrailers headLines lengthLine
-meaning-of (request m s a p) fs b ts v =
-    let ok = meaning-ok (made (request m s a p) fs b ts) v in
+meaning-of t (request m s a p) fs b ts (Of n) v = absurd (unstated-request m s a p fs b ts n v)
+meaning-of t (request m s a p) fs b ts Missing v =
+    let ok = meaning-ok (made (request m s a p) fs b ts Missing) v in
     rw (
       request-kept a fs b ts (0 + length (requestLine m p)) (section-fields false fs (ok .headers)),
       content-back _ b,
       fields-back false ts _ (section-fields false ts (ok .trailers)),
     )
-meaning-of (response hs s) fs b ts v =
-    let ok = meaning-ok (made (response hs s) fs b ts) v in
+meaning-of t (response hs s) fs b ts x v =
+    let w : Meaning = made (response hs s) fs b ts x in
+    let ok = meaning-ok w v in
     rw (
       heads-back hs 0 (response-ok hs s (ok .control) .heads),
-      response-kept s fs b ts (0 + length (informationalText hs ++ statusLine s)) (section-fields true fs (ok .headers)),
+      response-kept t s w (0 + length (informationalText hs ++ statusLine s)) (section-fields true fs (ok .headers)),
       content-back _ b,
       fields-back false ts _ (section-fields false ts (ok .trailers)),
     )
 
-pub meaning-back : (m : Meaning) → valid m ≡ true → meaning (placedAt 0 m) ≡ m
-meaning-back m v = meaning-of (m .control) (m .headers) (m .content) (m .trailers) v
+pub meaning-back : (t : Told) (m : Meaning) → valid m ≡ true → meaning (placedAt t 0 m) ≡ m
+meaning-back t m v = meaning-of t (m .control) (m .headers) (m .content) (m .trailers) (m .stated) v
 
 -- ---- the claims
 
@@ -132,50 +149,62 @@ told-scheme t (response hs s) v e = cc
 told-scheme t (request m s a p) v e = rw (eqb-true s (t .scheme) e) at (request-ok m a p s v .scheme)
 
 -- the message that is taken, with its places
-pub request-taken : (t : Told) (m : Meaning) → valid m ≡ true → http1Fits m ≡ true → isRequestOf t (m .control) ≡ true
-    → (rest : List ℕ) → readRequest t (http1Of m ++ rest) ≡ accepted (length (http1Of m)) (placedAt 0 m)
+pub request-taken : (t : Told) (m : Meaning) → RequestOf t m → (rest : List ℕ) → readRequest t (http1Of t m ++ rest) ≡ accepted (length (http1Of t m)) (placedAt t 0 m)
 unfolding readRequest
-request-taken t m v f e rest =
-    rw (told-scheme t (m .control) (meaning-ok m v .control) e)
-    (reads (request-back t (m .control) (m .headers) (m .content) (m .trailers) v f e) rest ∙ from-start (length (http1Of m)) (placedAt 0 m))
+request-taken t m o rest =
+    rw (told-scheme t (m .control) (meaning-ok m (o .0) .control) (o .2))
+    (reads (request-back t (m .control) (m .headers) (m .content) (m .trailers) (m .stated) (o .0) (o .1) (o .2)) rest
+    ∙ from-start (length (http1Of t m)) (placedAt t 0 m))
 
-pub response-taken : (m : Meaning) → valid m ≡ true → http1Fits m ≡ true → ofResponse (m .control) ≡ true
-    → (rest : List ℕ) → readResponse (http1Of m ++ rest) ≡ accepted (length (http1Of m)) (placedAt 0 m)
+pub response-taken : (t : Told) (m : Meaning) → ResponseOf t m → (rest : List ℕ) → readResponse t (http1Of t m ++ rest) ≡ accepted (length (http1Of t m)) (placedAt t 0 m)
 unfolding readResponse
-response-taken m v f e rest =
-    reads (response-back (m .control) (m .headers) (m .content) (m .trailers) v f e) rest ∙ from-start (length (http1Of m)) (placedAt 0 m)
+response-taken t m o rest =
+    reads (response-back t (m .control) (m .headers) (m .content) (m .trailers) (m .stated) (o .0) (o .1) (o .2) (o .3)) rest
+    ∙ from-start (length (http1Of t m)) (placedAt t 0 m)
 
 pub requests-back : RequestsBack
-requests-back = λ t m o. record { message = placedAt 0 m; taken = request-taken t m (o .0) (o .1) (o .2); same = meaning-back m (o .0) }
+requests-back = λ t m o. record { message = placedAt t 0 m; taken = request-taken t m o; same = meaning-back t m (o .0) }
 
 pub responses-back : ResponsesBack
-responses-back = λ m o. record { message = placedAt 0 m; taken = response-taken m (o .0) (o .1) (o .2); same = meaning-back m (o .0) }
+responses-back = λ t m o. record { message = placedAt t 0 m; taken = response-taken t m o; same = meaning-back t m (o .0) }
 
 -- ---- what follows
 
-means-back : {read : List ℕ → Answer Message} {m : Meaning} → ReadsBack read m → (rest : List ℕ) → means meaning (read (http1Of m ++ rest)) ≡ accepted (length (http1Of m)) m
+means-back : {t : Told} {read : Told → List ℕ → Answer Message} {m : Meaning} → ReadsBack t read m → (rest : List ℕ)
+    → means meaning (read t (http1Of t m ++ rest)) ≡ accepted (length (http1Of t m)) m
 means-back b rest = rw (b .taken rest, b .same)
 
 pub request-meanings : RequestMeanings
 request-meanings = λ t m o rest. means-back (requests-back t m o) rest
 
 pub response-meanings : ResponseMeanings
-response-meanings = λ m o rest. means-back (responses-back m o) rest
+response-meanings = λ t m o rest. means-back (responses-back t m o) rest
 
 abbrev valueOf : Meaning → Answer Meaning → Meaning
 valueOf m (accepted n a) = a
 valueOf m (refused k p) = m
 valueOf m more = m
 
-apart : {read : List ℕ → Answer Message} {l m : Meaning} → ReadsBack read l → ReadsBack read m
-    → (r q : List ℕ) → http1Of l ++ r ≡ http1Of m ++ q → (l ≡ m) × (r ≡ q)
-apart {read} {l} {m} a b r q e =
-    let i : l ≡ m = ap (valueOf l) (sym (means-back a r) ∙ ap (λ (s : List ℕ). means meaning (read s)) e ∙ means-back b q) in
-    let n : ℕ = length (http1Of m) in
-    (i, sym (drop-at (http1Of l) r n (ap (λ (z : Meaning). length (http1Of z)) i)) ∙ ap (drop n) e ∙ drop-at (http1Of m) q n refl)
+apart : {t : Told} {read : Told → List ℕ → Answer Message} {l m : Meaning} → ReadsBack t read l → ReadsBack t read m
+    → (r q : List ℕ) → http1Of t l ++ r ≡ http1Of t m ++ q → (l ≡ m) × (r ≡ q)
+apart {t} {read} {l} {m} a b r q e =
+    let i : l ≡ m = ap (valueOf l) (sym (means-back a r) ∙ ap (λ (s : List ℕ). means meaning (read t s)) e ∙ means-back b q) in
+    let n : ℕ = length (http1Of t m) in
+    (i, sym (drop-at (http1Of t l) r n (ap (λ (z : Meaning). length (http1Of t z)) i)) ∙ ap (drop n) e ∙ drop-at (http1Of t m) q n refl)
 
 pub requests-apart : RequestsApart
 requests-apart = λ t l m ol om r q e. apart (requests-back t l ol) (requests-back t m om) r q e
 
 pub responses-apart : ResponsesApart
-responses-apart = λ l m ol om r q e. apart (responses-back l ol) (responses-back m om) r q e
+responses-apart = λ t l m ol om r q e. apart (responses-back t l ol) (responses-back t m om) r q e
+
+-- ---- what is told of a request
+
+pub requests-head-unused : RequestsHeadUnused
+unfolding toHttp1 http1Fits http1Of headText headLines lengthLine
+requests-head-unused = λ t h m e. go t h (m .control) (m .headers) (m .content) (m .trailers) (m .stated) e
+  where
+    go : (t : Told) (h : ℕ) (c : Control) (fs : List Field) (b : List ℕ) (ts : List Field) (x : StatedLength) → ofResponse c ≡ false
+        → toHttp1 (withHead h t) (made c fs b ts x) ≡ toHttp1 t (made c fs b ts x)
+    go t h (request m s a p) fs b ts x e = refl
+    go t h (response hs s) fs b ts x e = let z : _≡_ {A = ℕ} 0 1 = cc in absurd (omega arith)

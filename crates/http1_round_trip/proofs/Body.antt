@@ -22,11 +22,12 @@ use Rattle.messages.specs.Meaning.{Field}
 use Rattle.messages.specs.Valid.{validSection}
 use Rattle.messages.specs.declared.Body.the-variants.{InChunks}
 use Rattle.messages.proofs.Valid.{section-fields, section-few}
+use Rattle.messages.proofs.Stating.{fields-ok}
 use Rattle.http1.specs.Read.{lineWithin, Content, trailerSection, chunkData, chunksFrom, content}
 use Rattle.http1_writer.specs.Write.{crlf, sectionText, chunkText, chunkedText, bodyText}
 use Rattle.http1_round_trip.proofs.Placed.{linesAt, contentAt}
 use Rattle.http1_round_trip.proofs.Lines.{chunk-clean, chunk-good, end-clean, end-good}
-use Rattle.http1_round_trip.proofs.Sections.{reads-from, reads-as, fields-ok, reads-section}
+use Rattle.http1_round_trip.proofs.Sections.{reads-from, reads-as, reads-section}
 use Rattle.http1_round_trip.proofs.Keeping.{are-trailers, bodyFor}
 
 abbrev contentTo : List Piece → ℕ → List Field → Content

@@ -2,36 +2,38 @@
 use mathlib.Core.Path.{_≡_, refl, sym, ap, _∙_}
 use mathlib.Core.Bool.{Bool, true, false, cond, not, _&&_}
 use mathlib.Core.List.{List, [], _∷_, _++_, map}
-use Prim.Native.Nat.{ℕ, _+_, _≤_, min}
+use Prim.Native.Nat.{ℕ, _+_, _≤_}
 use native.Mathlib.Omega.{arith}
 use borrow.Author.Tests.{le-leb, eqb-true}
 use lib.ListN.{length}
 use Rattle.octets.specs.Text.{lowerOf, sameText, isEmpty}
-use Rattle.octets.specs.Limits.{contentMost}
+use Rattle.octets.specs.Limits.{contentMost, statedMost}
 use Rattle.octets.proofs.Kit.{and-split}
-use Rattle.numbers.specs.Digits.{most}
-use Rattle.numbers.proofs.DigitLaws.{decimal-round}
 use Rattle.script.specs.Do.{piece, good}
 use Rattle.messages.specs.Message.{FieldRead}
-use Rattle.messages.specs.Control.{isHost, isBodyless}
+use Rattle.messages.specs.Control.{isHost, endsAtHead}
 use Rattle.messages.specs.Names.{kindOf, lineKind, sameKind, linesOf, kept, areTrailers}
-use Rattle.messages.specs.Rules.{authorityFrom, authorityIn, framingFrom, framingOf, requestBody, nothingStated, contentBody, responseBody}
+use Rattle.messages.specs.Rules.{authorityFrom, authorityIn, framingFrom, framingOf, requestBody, contentBody, responseBody, lengthIn, statedIn}
 use Rattle.messages.specs.declared.Body.{Body}
 use Rattle.messages.specs.declared.Body.the-variants.{Sized, InChunks}
 use Rattle.messages.specs.declared.Framing.{Framing}
 use Rattle.messages.specs.declared.Framing.the-variants.{Unstated, Stated, Chunked}
 use Rattle.messages.specs.declared.Kind.{Kind}
 use Rattle.messages.specs.declared.Kind.the-variants as kind
-use Rattle.messages.specs.Meaning.{Field, fieldMeans, Informational, informationalMeans}
-use Rattle.messages.specs.Valid.{validFields, validHeads, noFields, validBody}
+use Rattle.messages.specs.declared.StatedLength.{StatedLength}
+use Rattle.messages.specs.declared.StatedLength.the-variants.{Missing, Of}
+use Rattle.messages.specs.declared.Told.{Told}
+use Rattle.messages.specs.Meaning.{Field, fieldMeans, Informational, informationalMeans, response, Meaning, lengthField}
+use Rattle.messages.specs.Valid.{validFields, validHeads, noFields, validBody, validStated}
 use Rattle.messages.proofs.Valid.{section-fields, head-ok}
 use Rattle.messages.proofs.ValidLines as laws
+use Rattle.messages.proofs.Stating.{LinesOk, fields-ok, length-line, length-kind, length-framing, stated-ok, stated-back, bodyless-good, Suited}
+use Rattle.messages.proofs.Stating.{framingFor as statedFraming}
 use Rattle.http1_writer.specs.declared.LengthLine.{LengthLine}
 use Rattle.http1_writer.specs.declared.LengthLine.the-variants as line
-use Rattle.http1_writer.specs.Write.{fieldText, sectionText, statusLine, hostField, lengthField, codingField, lineFor, lengthFields}
+use Rattle.http1_writer.specs.Write.{fieldText, sectionText, statusLine, hostField, codingField, statedLine, lineFor, lengthFields}
 use Rattle.http1_round_trip.proofs.Placed.{lineAt, linesAt, headsAt}
-use Rattle.http1_round_trip.proofs.Lines.{length-line, coding-line}
-use Rattle.http1_round_trip.proofs.Sections.{LinesOk, fields-ok}
+use Rattle.http1_round_trip.proofs.Lines.{coding-line}
 
 -- ---- lines of valid fields
 
@@ -68,10 +70,6 @@ host-kind : (a : List ℕ) (at : ℕ) → lineKind (lineAt at (hostField a)) ≡
 unfolding hostField lineKind kindOf sameText lowerOf
 host-kind a at = refl
 
-length-kind : (n at : ℕ) → lineKind (lineAt at (lengthField n)) ≡ kind.ContentLength
-unfolding lengthField lineKind kindOf sameText lowerOf
-length-kind n at = refl
-
 coding-kind : (at : ℕ) → lineKind (lineAt at codingField) ≡ kind.TransferEncoding
 unfolding codingField lineKind kindOf sameText lowerOf
 coding-kind at = refl
@@ -84,22 +82,20 @@ framingFor line.Nothing p = Unstated
 framingFor (line.Length n) p = Stated n p
 framingFor line.Chunked p = Chunked
 
--- it tells of no more content than there may be
+-- it tells of no more than may be stated
 abbrev Small : LengthLine → Type 0
 Small line.Nothing = Unit {0}
-Small (line.Length n) = n ≤ contentMost
+Small (line.Length n) = n ≤ statedMost
 Small line.Chunked = Unit {0}
 
-small-line : (t u : Bool) (n : ℕ) → n ≤ contentMost → Small (lineFor t u n)
-small-line true true n h = tt
-small-line true false n h = h
-small-line false u n h = tt
+small-stated : (x : StatedLength) (m : Meaning) → validStated x m ≡ true → Small (statedLine x)
+small-stated Missing m v = tt
+small-stated (Of n) m v = stated-ok n m v .small
 
-length-said : (n p : ℕ) → n ≤ contentMost → framingFrom (lineAt p (lengthField n) ∷ []) [] ≡ Stated n p
-unfolding framingFrom lengthField
-length-said n p h =
-    let e : min n most ≡ n = omega arith in
-    rw (decimal-round n (omega arith), e)
+small-line : (p u : Bool) (x : StatedLength) (n : ℕ) → n ≤ contentMost → (m : Meaning) → validStated x m ≡ true → Small (lineFor p u x n)
+small-line true true x n h m v = small-stated x m v
+small-line true false x n h m v = omega arith
+small-line false u x n h m v = tt
 
 coding-said : (p : ℕ) → framingFrom [] (lineAt p codingField ∷ []) ≡ Chunked
 unfolding framingFrom codingField sameText lowerOf
@@ -114,20 +110,23 @@ module _ (host : Bool) (fs : List Field) (v : validFields host fs ≡ true) wher
   lead-kept : (l : LengthLine) (at : ℕ) → map fieldMeans (kept host (linesAt at (lengthFields l ++ fs))) ≡ fs
   unfolding kept linesAt
   lead-kept line.Nothing at = fields-back host fs at v
-  lead-kept (line.Length n) at = rw (length-kind n at) (fields-back host fs _ v)
+  lead-kept (line.Length n) at = rw (length-kind (lineAt at (lengthField n)) n refl) (fields-back host fs _ v)
   lead-kept line.Chunked at = rw (coding-kind at) (fields-back host fs _ v)
 
-  lead-framing : (l : LengthLine) → Small l → (at : ℕ) → framingOf (linesAt at (lengthFields l ++ fs)) ≡ framingFor l at
-  unfolding framingOf linesOf linesAt sameKind
-  lead-framing line.Nothing h at = unstated host fs at v
-  lead-framing (line.Length n) h at =
-      let ls : List FieldRead = linesAt (at + length (fieldText (lengthField n))) fs in
-      let o = lines-valid host fs (at + length (fieldText (lengthField n))) v in
-      rw (length-kind n at, laws.no-lengths host ls o, laws.no-codings host ls o) (length-said n at h)
-  lead-framing line.Chunked h at =
+  coding-framing : (at : ℕ) → framingOf (lineAt at codingField ∷ linesAt (at + length (fieldText codingField)) fs) ≡ Chunked
+  unfolding framingOf linesOf sameKind
+  coding-framing at =
       let ls : List FieldRead = linesAt (at + length (fieldText codingField)) fs in
       let o = lines-valid host fs (at + length (fieldText codingField)) v in
       rw (coding-kind at, laws.no-lengths host ls o, laws.no-codings host ls o) (coding-said at)
+
+  lead-framing : (l : LengthLine) → Small l → (at : ℕ) → framingOf (linesAt at (lengthFields l ++ fs)) ≡ framingFor l at
+  unfolding linesAt
+  lead-framing line.Nothing h at = unstated host fs at v
+  lead-framing (line.Length n) h at =
+      let q : ℕ = at + length (fieldText (lengthField n)) in
+      length-framing (lineAt at (lengthField n)) n refl host (linesAt q fs) (lines-valid host fs q v) h
+  lead-framing line.Chunked h at = coding-framing at
 
 -- ---- the content that the length line tells
 
@@ -139,19 +138,11 @@ unfolding isEmpty
 no-octets c e = sym (eqb-true (length c) 0 e)
 
 module _ (c : List ℕ) (h : length c ≤ contentMost) (end p : ℕ) where
-  request-body : (t u : Bool) → isEmpty c ≡ u → requestBody end (framingFor (lineFor t u (length c)) p) ≡ good (cond t (Sized (length c)) InChunks)
+  request-body : (b u : Bool) → isEmpty c ≡ u → requestBody end (framingFor (lineFor b u Missing (length c)) p) ≡ good (cond b (Sized (length c)) InChunks)
   unfolding requestBody
   request-body true true e = ap (λ (z : ℕ). good (Sized z)) (no-octets c e)
   request-body true false e = rw (le-leb (length c) contentMost h)
   request-body false u e = refl
-
-  response-body : (s : ℕ) (t u : Bool) → isBodyless s ≡ u → cond u (isEmpty c && t) true ≡ true
-      → responseBody s end (framingFor (lineFor t u (length c)) p) ≡ good (cond t (Sized (length c)) InChunks)
-  unfolding responseBody nothingStated contentBody requestBody
-  response-body s true true e v = rw e (ap (λ (z : ℕ). good (Sized z)) (no-octets c (and-split (isEmpty c) true v .0)))
-  response-body s true false e v = rw (e, le-leb (length c) contentMost h)
-  response-body s false true e v = let z = and-split (isEmpty c) false v .1 in cc
-  response-body s false false e v = rw e
 
 -- ---- heads of requests: the host line stands first
 
@@ -175,15 +166,12 @@ module _ (a : List ℕ) (at : ℕ) (ls : List FieldRead) where
 lead-hosts : (fs : List Field) → validFields false fs ≡ true → (l : LengthLine) (at : ℕ) → linesOf kind.Host (linesAt at (lengthFields l ++ fs)) ≡ []
 unfolding linesOf linesAt sameKind
 lead-hosts fs v line.Nothing at = no-hosts fs at v
-lead-hosts fs v (line.Length n) at = rw (length-kind n at) (no-hosts fs (at + length (fieldText (lengthField n))) v)
+lead-hosts fs v (line.Length n) at = rw (length-kind (lineAt at (lengthField n)) n refl) (no-hosts fs (at + length (fieldText (lengthField n))) v)
 lead-hosts fs v line.Chunked at = rw (coding-kind at) (no-hosts fs (at + length (fieldText codingField)) v)
 
--- the length line of a request, and of a final response
+-- the length line of a request
 abbrev pub requestLength : List ℕ → List Field → LengthLine
-requestLength c ts = lineFor (noFields ts) (isEmpty c) (length c)
-
-abbrev pub responseLength : ℕ → List ℕ → List Field → LengthLine
-responseLength s c ts = lineFor (noFields ts) (isBodyless s) (length c)
+requestLength c ts = lineFor (noFields ts) (isEmpty c) Missing (length c)
 
 -- a request's head: the authority is found, the content is told, the fields are kept
 abbrev pub requestLines : List ℕ → List Field → List ℕ → List Field → List Field
@@ -197,28 +185,63 @@ module _ (a : List ℕ) (fs : List Field) (c : List ℕ) (ts : List Field) (at :
   pub request-told : (end : ℕ) → length c ≤ contentMost → requestBody end (framingOf (linesAt at (requestLines a fs c ts))) ≡ good (bodyFor c ts)
   unfolding linesAt
   request-told end h =
-      ap (requestBody end) (host-framing a at _ ∙ lead-framing false fs v (requestLength c ts) (small-line (noFields ts) (isEmpty c) (length c) h) _)
+      ap (requestBody end) (host-framing a at _ ∙ lead-framing false fs v (requestLength c ts) (small-request (noFields ts) (isEmpty c)) _)
       ∙ request-body c h end _ (noFields ts) (isEmpty c) refl
+    where
+      small-request : (b u : Bool) → Small (lineFor b u Missing (length c))
+      small-request true true = tt
+      small-request true false = omega arith
+      small-request false u = tt
 
   pub request-kept : map fieldMeans (kept false (linesAt at (requestLines a fs c ts))) ≡ fs
   unfolding linesAt
   request-kept = ap (map fieldMeans) (host-kept a at _) ∙ lead-kept false fs v (requestLength c ts) _
 
--- a final response's head
-abbrev pub responseLines : ℕ → List Field → List ℕ → List Field → List Field
-responseLines s fs c ts = lengthFields (responseLength s c ts) ++ fs
+-- ---- heads of final responses
 
-module _ (s : ℕ) (fs : List Field) (c : List ℕ) (ts : List Field) (at : ℕ) (v : validFields true fs ≡ true) where
-  pub response-told : (end : ℕ) → length c ≤ contentMost → validBody (not (isBodyless s)) c ts ≡ true
-      → responseBody s end (framingOf (linesAt at (responseLines s fs c ts))) ≡ good (bodyFor c ts)
+-- the length line of a final response of status s that means w, and its lines
+abbrev pub responseLength : Told → ℕ → Meaning → LengthLine
+responseLength t s w = lineFor (noFields (w .trailers)) (endsAtHead t s) (w .stated) (length (w .content))
+
+abbrev pub responseLines : Told → ℕ → Meaning → List Field
+responseLines t s w = lengthFields (responseLength t s w) ++ w .headers
+
+-- a stated length's line tells what is stated
+stated-told : (x : StatedLength) (p : ℕ) → framingFor (statedLine x) p ≡ statedFraming x p
+stated-told Missing p = refl
+stated-told (Of n) p = refl
+
+module _ (t : Told) (s : ℕ) (w : Meaning) (hs : List Informational) (control : w .control ≡ response hs s) (v : validFields true (w .headers) ≡ true)
+    (few : length (w .content) ≤ contentMost) (stated : validStated (w .stated) w ≡ true) (fits : Suited t s w) where
+  response-states : (at : ℕ) → framingOf (linesAt at (responseLines t s w)) ≡ framingFor (responseLength t s w) at
+  response-states at =
+      lead-framing true (w .headers) v (responseLength t s w)
+      (small-line (noFields (w .trailers)) (endsAtHead t s) (w .stated) (length (w .content)) few w stated) at
+
+  body-with : (end p : ℕ) (b u : Bool) → noFields (w .trailers) ≡ b → endsAtHead t s ≡ u
+      → responseBody t s end (framingFor (lineFor b u (w .stated) (length (w .content))) p) ≡ good (cond b (Sized (length (w .content))) InChunks)
+  unfolding responseBody contentBody requestBody validBody
+  body-with end p true true n e =
+      let z = and-split (isEmpty (w .content)) (noFields (w .trailers)) (rw e at (fits .body)) in
+      rw (e, stated-told (w .stated) p) (bodyless-good t s end (w .stated) p hs w control stated ∙ ap (λ (k : ℕ). good (Sized k)) (no-octets (w .content) (z .0)))
+  body-with end p true false n e = rw (e, le-leb (length (w .content)) contentMost few)
+  body-with end p false true n e = let z = and-split (isEmpty (w .content)) (noFields (w .trailers)) (rw e at (fits .body)) .1 in cc
+  body-with end p false false n e = rw e
+
+  pub response-told : (end at : ℕ) → responseBody t s end (framingOf (linesAt at (responseLines t s w))) ≡ good (bodyFor (w .content) (w .trailers))
+  response-told end at = rw (response-states at) (body-with end at (noFields (w .trailers)) (endsAtHead t s) refl refl)
+
+  stated-with : (p : ℕ) (b u : Bool) → noFields (w .trailers) ≡ b → endsAtHead t s ≡ u
+      → cond u (lengthIn (framingFor (lineFor b u (w .stated) (length (w .content))) p)) Missing ≡ w .stated
   unfolding validBody
-  response-told end h b =
-      ap (responseBody s end) (lead-framing true fs v (responseLength s c ts) (small-line (noFields ts) (isBodyless s) (length c) h) at)
-      ∙ response-body c h end at s (noFields ts) (isBodyless s) refl (flip (isBodyless s) b)
-    where
-      flip : (u : Bool) → cond (not u) true (isEmpty c && noFields ts) ≡ true → cond u (isEmpty c && noFields ts) true ≡ true
-      flip true e = e
-      flip false e = e
+  stated-with p true true n e = rw (stated-told (w .stated) p) (stated-back (w .stated) p)
+  stated-with p false true n e = let z = and-split (isEmpty (w .content)) (noFields (w .trailers)) (rw e at (fits .body)) .1 in cc
+  stated-with p b false n e = sym (fits .missing e)
 
-  pub response-kept : map fieldMeans (kept true (linesAt at (responseLines s fs c ts))) ≡ fs
-  response-kept = lead-kept true fs v (responseLength s c ts) at
+  pub response-stated : (at : ℕ) → statedIn t s (framingOf (linesAt at (responseLines t s w))) ≡ w .stated
+  unfolding statedIn
+  response-stated at = rw (response-states at) (stated-with at (noFields (w .trailers)) (endsAtHead t s) refl refl)
+
+pub response-kept : (t : Told) (s : ℕ) (w : Meaning) (at : ℕ) → validFields true (w .headers) ≡ true
+    → map fieldMeans (kept true (linesAt at (responseLines t s w))) ≡ w .headers
+response-kept t s w at v = lead-kept true (w .headers) v (responseLength t s w) at

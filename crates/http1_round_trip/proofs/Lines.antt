@@ -22,9 +22,10 @@ use Rattle.script.specs.Do.{piece, good}
 use Rattle.messages.specs.Control.{methodVerdict, pathVerdict, statusVerdict, isHost, isLowerName, isTrimmedValue}
 use Rattle.messages.specs.Meaning.{Field}
 use Rattle.messages.proofs.Verdicts.{method-rule, path-rule, name-rule, value-rule}
+use Rattle.messages.proofs.Stating.{LineOk, bare-value}
 use Rattle.http1.specs.Lines.{requestOf, statusOf, fieldOf, chunkOf}
 use Rattle.http1.proofs.Back.{field-back, request-back, status-back, chunk-back, chunk-end}
-use Rattle.http1_writer.specs.Write.{hostField, lengthField, codingField}
+use Rattle.http1_writer.specs.Write.{hostField, codingField}
 use Rattle.http1_round_trip.proofs.Placed.{lineAt}
 
 -- ---- octets of a value have no CR and no LF
@@ -57,10 +58,6 @@ values = all-both (hasClass value)
 
 -- ---- field lines
 
-pub record LineOk (f : Field) : Type 0 where
-  pub name : isLowerName (f .name) ≡ true
-  pub value : isTrimmedValue (f .value) ≡ true
-
 abbrev pub fieldWord : Field → List ℕ
 fieldWord f = f .name ++ ascii ": " ++ f .value
 
@@ -78,31 +75,7 @@ module _ (f : Field) (ok : LineOk f) where
       let d : drop (length n + 2) (n ++ 58 ∷ 32 ∷ v) ≡ v = drop-append-add n (58 ∷ 32 ∷ v) 2 in
       rw (append-assoc n (ascii ": ") v, field-back n v (ok .name) (ok .value), take-append-seam n (58 ∷ 32 ∷ v), d, take-length v)
 
--- ---- values without blanks
-
-module _ (w : List ℕ) (h : Values w) (g : all (λ b. not (isBlank b)) w ≡ true) where
-  none-first : spanLen isBlank w ≡ 0
-  unfolding all spanLen
-  none-first = go w g
-    where
-      go : (v : List ℕ) → all (λ b. not (isBlank b)) v ≡ true → spanLen isBlank v ≡ 0
-      go [] e = refl
-      go (x ∷ v) e = rw (not-true (isBlank x) (and-split (not (isBlank x)) _ e .0))
-
-  none-last : (n : ℕ) → n ≤ length w → trimBack isBlank w n ≡ n
-  unfolding trimBack
-  none-last zero l = refl
-  none-last (suc n) l = rw (not-true (isBlank (getD w n 0)) (all-at (λ b. not (isBlank b)) w n g (omega arith)))
-
-  bare-value : isTrimmedValue w ≡ true
-  unfolding isTrimmedValue
-  bare-value = rw (h, none-first, none-last (length w) (omega arith)) (eq-eqb (length w) (length w) refl)
-
 -- ---- the lines that a head gains
-
-digits-bare : (n : ℕ) → all (λ b. not (isBlank b)) (digits 10 n) ≡ true
-unfolding charOf isBlank
-digits-bare n = digits-pass 10 (lit≤ tt) (lit≤ tt) (λ b. not (isBlank b)) tt n
 
 authority-bare : (b : ℕ) → hasClass authority b ≡ true → not (isBlank b) ≡ true
 authority-bare b h = go (isBlank b) refl
@@ -115,9 +88,9 @@ host-octets : (a : List ℕ) → isHost a ≡ true → all (hasClass authority) 
 unfolding isHost
 host-octets a e = into no-true (leb (length a) authorityMost) _ (past no-true (isEmpty a) _ e .1) .1
 
-names : (isLowerName (ascii "host") ≡ true) × (isLowerName (ascii "content-length") ≡ true) × (isLowerName (ascii "transfer-encoding") ≡ true) × (isTrimmedValue (ascii "chunked") ≡ true)
+names : (isLowerName (ascii "host") ≡ true) × (isLowerName (ascii "transfer-encoding") ≡ true) × (isTrimmedValue (ascii "chunked") ≡ true)
 unfolding isLowerName isTrimmedValue isEmpty all spanLen trimBack isBlank isLower lowerOf hasClass classOf isToken isValue isPath isAuthority
-names = (refl, refl, refl, refl)
+names = (refl, refl, refl)
 
 pub host-line : (a : List ℕ) → isHost a ≡ true → LineOk (hostField a)
 unfolding hostField
@@ -128,13 +101,9 @@ host-line a h =
       value = bare-value a (all-implied (hasClass authority) (hasClass value) authority-value a o) (all-implied (hasClass authority) (λ b. not (isBlank b)) authority-bare a o);
     }
 
-pub length-line : (n : ℕ) → LineOk (lengthField n)
-unfolding lengthField
-length-line n = record { name = names .1; value = bare-value (digits 10 n) (digits-value 10 (lit≤ tt) (lit≤ tt) n) (digits-bare n) }
-
 pub coding-line : LineOk codingField
 unfolding codingField
-coding-line = record { name = names .2; value = names .3 }
+coding-line = record { name = names .1; value = names .2 }
 
 -- ---- request lines
 

@@ -9,12 +9,14 @@ use Rattle.script.specs.Do.{piece}
 use Rattle.messages.specs.Message.{FieldRead, InformationalRead, Start, requestStart, responseStart, Message, nonEmpty}
 use Rattle.messages.specs.Meaning.{Field, Informational, Control, request, response, Meaning}
 use Rattle.messages.specs.Valid.{noFields}
+use Rattle.messages.specs.declared.StatedLength.{StatedLength}
+use Rattle.messages.specs.declared.Told.{Told}
 use Rattle.http1.specs.Read.{Content}
 use Rattle.http1_writer.specs.Write.{crlf, fieldText, sectionText, requestLine, statusLine, headLines, startText, chunkText}
 
 -- a field line: its name, and behind ": " its value
 abbrev pub lineAt : ℕ → Field → FieldRead
-lineAt at f = record { name = piece at (f .name); value = piece (at + (length (f .name) + 2)) (f .value) }
+lineAt at f = record { name = piece at (f .name); value = piece (at + (length (f .name) + 2)) (f .value); place = at }
 
 -- one line behind the other
 unfoldable pub linesAt : ℕ → List Field → List FieldRead
@@ -44,14 +46,15 @@ startAt at (request m s a p) = requestStart (piece at m) s (piece (at + length (
 startAt at (response hs s) = responseStart (headsAt at hs) s
 
 -- lines, content and trailers from the place `at` on, behind control data
-abbrev pub placedFrom : Start → ℕ → List Field → List ℕ → List Field → Message
-placedFrom start at fs c ts =
+abbrev pub placedFrom : Start → ℕ → List Field → List ℕ → List Field → StatedLength → Message
+placedFrom start at fs c ts x =
     record {
       start = start;
       lines = linesAt at fs;
       chunks = contentAt (at + length (sectionText fs)) c ts .chunks;
       trailers = contentAt (at + length (sectionText fs)) c ts .trailers;
+      stated = x;
     }
 
-abbrev pub placedAt : ℕ → Meaning → Message
-placedAt at m = placedFrom (startAt at (m .control)) (at + length (startText (m .control))) (headLines m) (m .content) (m .trailers)
+abbrev pub placedAt : Told → ℕ → Meaning → Message
+placedAt t at m = placedFrom (startAt at (m .control)) (at + length (startText (m .control))) (headLines t m) (m .content) (m .trailers) (m .stated)

@@ -1,6 +1,6 @@
 -- Sections are read back within an allowance.
 use mathlib.Core.Path.{_≡_, refl, sym, ap}
-use mathlib.Core.Bool.{Bool, true, false}
+use mathlib.Core.Bool.{true, false}
 use mathlib.Core.List.{List, [], _∷_, _++_, append-assoc, append-nil}
 use Prim.Native.Nat.{ℕ, zero, suc, _+_, _-_, _≤_, _<_}
 use native.Mathlib.Omega.{arith}
@@ -15,13 +15,12 @@ use Rattle.script.specs.Do.{Reads}
 use Rattle.script.proofs.Do.{reads-done, reads-word, reads-tell, reads-bind, before, behind}
 use Rattle.messages.specs.Message.{FieldRead}
 use Rattle.messages.specs.Meaning.{Field}
-use Rattle.messages.specs.Valid.{validFields}
-use Rattle.messages.proofs.Valid.{first-ok}
 use Rattle.http1.specs.Read.{lineWithin, Lines, fieldLines, section}
 use Rattle.messages.proofs.Verdicts.{name-rule}
+use Rattle.messages.proofs.Stating.{LineOk, LinesOk}
 use Rattle.http1_writer.specs.Write.{crlf, fieldText, sectionText}
 use Rattle.http1_round_trip.proofs.Placed.{lineAt, linesAt}
-use Rattle.http1_round_trip.proofs.Lines.{LineOk, fieldWord, field-clean, field-good}
+use Rattle.http1_round_trip.proofs.Lines.{fieldWord, field-clean, field-good}
 
 -- the same octets, and the same value, written otherwise
 pub reads-from : {A : Type 0} {sc : Script A} {at : ℕ} {x y : List ℕ} {a : A} → y ≡ x → Reads sc at x a → Reads sc at y a
@@ -29,16 +28,6 @@ reads-from e h = rw e h
 
 pub reads-as : {A : Type 0} {sc : Script A} {at : ℕ} {x : List ℕ} {a b : A} → a ≡ b → Reads sc at x a → Reads sc at x b
 reads-as {sc = sc} {at} {x} {a} {b} e h = rw e at h
-
--- ---- lines that can be written: of valid fields, and those that a head gains
-
-abbrev pub LinesOk : List Field → Type 0
-LinesOk [] = Unit {0}
-LinesOk (f ∷ fs) = LineOk f × LinesOk fs
-
-pub fields-ok : (host : Bool) (fs : List Field) → validFields host fs ≡ true → LinesOk fs
-fields-ok host [] v = tt
-fields-ok host (f ∷ fs) v = let o = first-ok host f fs v in (record { name = o .0 .name; value = o .0 .value }, fields-ok host fs (o .1))
 
 -- ---- a section
 
