@@ -1,7 +1,7 @@
 -- From a bundle by value to what is kept of it, and how long the line is.
 use Prim.Native.Nat.{ℕ, _+_, _-_, _≤_, _<_}
 use mathlib.Core.Path.{_≡_, refl, sym, ap, _∙_}
-use mathlib.Core.Bool.{true, false, cond}
+use mathlib.Core.Bool.{Bool, true, false, cond}
 use mathlib.Core.List.{List, _++_}
 use native.Mathlib.Omega.{arith}
 use borrow.Author.Tests.{le-leb, lt-leb}
@@ -83,3 +83,11 @@ line-whole s h e p = rw (le-leb (length s) inputMost h) (rw e at p)
 pub line-large : (s : List ℕ) {o o′ : List ℕ} {w : Written} → inputMost < length s → Served (writes (lineOf tooMuch)) o o′ w → Served (writes (salvageLine s)) o o′ w
 unfolding salvageLine
 line-large s h p = rw (lt-leb (length s) inputMost h) p
+
+pub salvage-most : (s : List ℕ) → length (salvageLine s) ≤ lineMost
+unfolding salvageLine
+salvage-most s = go (leb (length s) inputMost)
+  where
+    go : (b : Bool) → length (cond b (lineOf (frontOf (salvageOf s))) (lineOf tooMuch)) ≤ lineMost
+    go true = line-most (frontOf (salvageOf s))
+    go false = line-most tooMuch

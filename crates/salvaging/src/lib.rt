@@ -33,6 +33,7 @@ pub struct Front {
 }
 
 // What a salvage answers: 0, the entries and octets kept, the octets left off and the number that stopped it; or a refusal's number and place, and zeros.
+#[repr(C)]
 pub struct Salvaged {
     pub number: u32,
     pub place: usize,
