@@ -1,5 +1,5 @@
--- What came through the radio (02, item 12): "from arbitrary bytes it copies the longest front of whole entries that the bundle reader accepts to lent room, and
--- gives entries and bytes kept, bytes left off, and the refusal that stopped it (0 if none)". All of it is read off `walk`: its end is the end of that front.
+-- What came through the radio (02, item 12): "from arbitrary bytes it copies the longest front of whole entries that the bundle reader accepts to lent room,
+-- and gives entries and bytes kept, bytes left off, and the refusal that stopped it (0 if none)". All of it is read off `walk`: its end is the end of that front.
 use Prim.Native.Nat.{ℕ, _-_}
 use mathlib.Core.List.{List}
 use lib.ListN.{length, take}

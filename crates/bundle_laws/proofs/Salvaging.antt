@@ -7,7 +7,7 @@ use mathlib.Core.List.{List, [], _∷_, _++_, append-nil}
 use native.Mathlib.Omega.{arith}
 use borrow.Author.Tests.{le-leb, lt-leb, leb-true, leb-false, eqb-true, eqb-false}
 use lib.Dec.{leb, eqb}
-use lib.ListN.{length, take, drop, length-append}
+use lib.ListN.{length, take, length-append}
 use lib.Seq.{take-all, take-append-le, take-append-add, take-take, take-at, length-take-le}
 use Rattle.octets.specs.Ascii.{ascii}
 use Rattle.octets.specs.Refusals.{cutOff}
@@ -15,16 +15,16 @@ use Rattle.numbers.specs.Places.{push}
 use Rattle.numbers.specs.Digits.{charOf, moreOf, countOf, digits}
 use Rattle.sound.specs.Placed.{Each}
 use Rattle.messages.specs.Message.{isResponse}
-use Rattle.bundle.specs.Bundle.{wordOf, kindOf, lengthOf, Entry, entryOctets, entriesOctets, nextAt, Walk, walkFrom, walk, pickIf}
+use Rattle.bundle.specs.Bundle.{wordOf, kindOf, Entry, entryOctets, entriesOctets, nextAt, Walk, walkFrom, walk, pickIf}
 use Rattle.bundle.specs.Salvage.{salvageOf}
 use Rattle.bundle.specs.declared.Next.the-variants as next
 use Rattle.bundle.proofs.Heads.{next-end, next-cut, next-headed, head-cut}
 use Rattle.bundle.proofs.Walks.{word-taken, walk-stop, few-entries}
 use Rattle.salvaging.specs.Line.{inputMost, salvageLine}
-use Rattle.bundle_laws.specs.Reading.{InForm, IsBundle, Fronted}
+use Rattle.bundle_laws.specs.Reading.{InForm, IsBundle}
 use Rattle.bundle_laws.specs.Salvaging.{LongestFront, endedBy, endedIn, KeptBefore, Salvaging}
 use Rattle.bundle_laws.proofs.Walks.{kind-two, long, prepend, walk-back, walk-front}
-use Rattle.bundle_laws.proofs.Reading.{front, octets-of, back, is-bundle}
+use Rattle.bundle_laws.proofs.Reading.{front, octets-of, back}
 
 -- ---- the longest front
 
@@ -149,7 +149,8 @@ cut-here e g left at c some h = go (leb c 0) refl
         let z = walk-stop left at s cutOff (cut-stop e g c left h some (leb-false c 0 q)) in
         rw z (record { entries = refl; stop = λ n. refl })
 
-pub cut-walk : (es : List Entry) → Each InForm es → (left at c : ℕ) → length es ≤ left → CutTo (walkFrom left at (take c (entriesOctets es))) (endedBy (at + c) at es)
+pub cut-walk : (es : List Entry) → Each InForm es → (left at c : ℕ) → length es ≤ left
+    → CutTo (walkFrom left at (take c (entriesOctets es))) (endedBy (at + c) at es)
 unfolding entriesOctets endedBy
 cut-walk [] g left at c h =
     let t : take {A = ℕ} c [] ≡ [] = take-all c [] (omega arith) in
@@ -177,7 +178,8 @@ cut-walk (e ∷ es) g left at c h =
         rw (t, w, l, le-leb (at + n) (at + c) (omega (arith, k))) (record { entries = ap (λ (x : List Entry). e ∷ x) (j .entries); stop = j .stop })
     go false q i =
         let k : c < n = leb-false n c q in
-        rw (take-append-le c (entryOctets e) (entriesOctets es) (omega (arith, k)), lt-leb (at + n) (at + c) (omega (arith, k)), ended-none (at + c) (at + n) es (omega (arith, k)))
+        let t = take-append-le c (entryOctets e) (entriesOctets es) (omega (arith, k)) in
+        rw (t, lt-leb (at + n) (at + c) (omega (arith, k)), ended-none (at + c) (at + n) es (omega (arith, k)))
         (cut-here e (g .0) left at c (omega (arith, h)) k)
 
 module _ (b : List ℕ) (c : ℕ) (z : walk b .stop ≡ 0) where

@@ -1,5 +1,5 @@
--- Salvage (02, item 12): what is kept of whatever octets is "the longest front of whole entries that the bundle reader accepts", and "For an accepted bundle cut
--- anywhere, exactly the entries that end at or before the cut are kept".
+-- Salvage (02, item 12): what is kept of whatever octets is "the longest front of whole entries that the bundle reader accepts", and "For an accepted bundle
+-- cut anywhere, exactly the entries that end at or before the cut are kept".
 use Prim.Native.Nat.{ℕ, _+_, _≤_, _<_}
 use mathlib.Core.Path.{_≡_}
 use mathlib.Core.Bool.{cond}

@@ -1,5 +1,5 @@
--- A small table of bundles (02, items 1 and 12), by computation: "For Figure 13, flock 5, not delivered, the head is `0a 40 00 30`", what each refusal looks like, and
--- what is kept of a cut transfer.
+-- A small table of bundles (02, items 1 and 12), by computation: "For Figure 13, flock 5, not delivered, the head is `0a 40 00 30`", what each refusal looks
+-- like, and what is kept of a cut transfer.
 use Prim.Native.Nat.{ℕ}
 use mathlib.Core.Path.{_≡_}
 use mathlib.Core.List.{List, [], _∷_, _++_}

@@ -1,15 +1,14 @@
 -- A line that always fits: it is written, and stands at the start of the lent octets.
 use Prim.Native.Nat.{ℕ, _+_, _≤_}
-use mathlib.Core.Path.{_≡_, refl, sym, ap, _∙_}
-use mathlib.Core.Bool.{true, cond}
-use mathlib.Core.List.{List, [], _++_}
+use mathlib.Core.Path.{_≡_, refl, sym, _∙_}
+use mathlib.Core.Bool.{true}
+use mathlib.Core.List.{List}
 use native.Mathlib.Omega.{arith}
 use borrow.Author.Tests.{le-leb}
 use lib.Dec.{leb}
 use lib.ListN.{length, take, drop}
 use lib.Seq.{length-take-le, take-at}
 use Rattle.io.specs.Counts.{Counts}
-use Rattle.octets.specs.Refusals.{noRoom}
 use Rattle.output.specs.Splice.{splice}
 use Rattle.output.specs.Reply.{writes, writtenOf, lentAfter, Served}
 use Rattle.output.specs.declared.Written.{Written}
@@ -39,5 +38,7 @@ module _ (s : List ℕ) {o o′ : List ℕ} {w : Written} (room : lineMost ≤ l
       let l : n ≡ length (salvageLine s) = cc in
       let z : length o′ ≡ length o = rw after (splice-length o 0 (salvageLine s)) in
       let k : n ≤ length o′ = omega (arith, l, z, room, salvage-most s) in
-      let t : take n o′ ≡ salvageLine s = rw (after, l, splice-is o 0 (salvageLine s) (omega (arith, room, salvage-most s))) (take-at (salvageLine s) (drop (0 + length (salvageLine s)) o) (length (salvageLine s)) refl) in
+      let i = splice-is o 0 (salvageLine s) (omega (arith, room, salvage-most s)) in
+      let t : take n o′ ≡ salvageLine s =
+      rw (after, l, i) (take-at (salvageLine s) (drop (0 + length (salvageLine s)) o) (length (salvageLine s)) refl) in
       ((k, sym (length-take-le n o′ k)), t)

@@ -1,29 +1,28 @@
 -- From a bundle by value to what is kept of it, and how long the line is.
 use Prim.Native.Nat.{ℕ, _+_, _-_, _≤_, _<_}
-use mathlib.Core.Path.{_≡_, refl, sym, ap, _∙_}
+use mathlib.Core.Path.{_≡_, ap, _∙_}
 use mathlib.Core.Bool.{Bool, true, false, cond}
-use mathlib.Core.List.{List, _++_}
+use mathlib.Core.List.{List}
 use native.Mathlib.Omega.{arith}
 use borrow.Author.Tests.{le-leb, lt-leb}
 use lib.Dec.{leb}
-use lib.ListN.{length, take, drop, length-append}
+use lib.ListN.{length, length-append}
 use lib.Seq.{length-take-le}
 use Rattle.octets.specs.Refusals.{noRoom}
 use Rattle.numbers.proofs.DigitLaws.{digits-length, count-most}
-use Rattle.output.specs.Splice.{splice, part, mayCopy, Put, PutIf}
+use Rattle.output.specs.Splice.{part, mayCopy, PutIf}
 use Rattle.output.specs.Reply.{writes, lentAfter, Served}
 use Rattle.output.specs.declared.Written.{Written}
 use Rattle.output.proofs.Laws.{elements-take}
 use Rattle.output.proofs.Room.{put-of}
 use Rattle.bundle.specs.Bundle.{walk}
 use Rattle.bundle.specs.Answers.{bundleOf}
-use Rattle.bundle.specs.Salvage.{Salvage, salvageOf, salvageReply}
+use Rattle.bundle.specs.Salvage.{salvageOf}
 use Rattle.bundle.specs.declared.Bundle.{Bundle}
 use Rattle.bundle.proofs.Walks.{end-within}
-use Rattle.salvaging.specs.Answers.{frontOf, keeps, keepsNothing, salvagedOf, Salvages}
+use Rattle.salvaging.specs.Answers.{frontOf, keepsNothing, salvagedOf, Salvages}
 use Rattle.salvaging.specs.Line.{lineOf, inputMost, tooMuch, salvageLine, lineSize, lineMost}
 use Rattle.salvaging.specs.declared.Front.{Front}
-use Rattle.salvaging.specs.declared.Salvaged.{Salvaged}
 
 -- ---- the front
 
@@ -75,12 +74,13 @@ line-length f = simp (length-append, digits-length) (omega arith)
 pub line-most : (f : Front) → length (lineOf f) ≤ lineMost
 line-most f = omega (arith, line-length f, count-most 10 (f .entries), count-most 10 (f .kept), count-most 10 (f .left), count-most 10 (f .stop))
 
-pub line-whole : (s : List ℕ) {o o′ : List ℕ} {w : Written} {f : Front} → length s ≤ inputMost → f ≡ frontOf (salvageOf s) → Served (writes (lineOf f)) o o′ w
-    → Served (writes (salvageLine s)) o o′ w
+pub line-whole : (s : List ℕ) {o o′ : List ℕ} {w : Written} {f : Front} → length s ≤ inputMost → f ≡ frontOf (salvageOf s)
+    → Served (writes (lineOf f)) o o′ w → Served (writes (salvageLine s)) o o′ w
 unfolding salvageLine
 line-whole s h e p = rw (le-leb (length s) inputMost h) (rw e at p)
 
-pub line-large : (s : List ℕ) {o o′ : List ℕ} {w : Written} → inputMost < length s → Served (writes (lineOf tooMuch)) o o′ w → Served (writes (salvageLine s)) o o′ w
+pub line-large : (s : List ℕ) {o o′ : List ℕ} {w : Written} → inputMost < length s → Served (writes (lineOf tooMuch)) o o′ w
+    → Served (writes (salvageLine s)) o o′ w
 unfolding salvageLine
 line-large s h p = rw (lt-leb (length s) inputMost h) p
 

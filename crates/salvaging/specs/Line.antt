@@ -1,5 +1,5 @@
--- What the salvage program prints for an input (02, item 12): "A program prints one line, `kept ENTRIES BYTES left BYTES stop NUMBER`; above 65,536 bytes of input
--- it is `kept 0 0 left 65536 stop 8`".
+-- What the salvage program prints for an input (02, item 12): "A program prints one line, `kept ENTRIES BYTES left BYTES stop NUMBER`; above 65,536 bytes of
+-- input it is `kept 0 0 left 65536 stop 8`".
 use Prim.Native.Nat.{ℕ, _+_}
 use mathlib.Core.Bool.{cond}
 use mathlib.Core.List.{List, [], _∷_, _++_}
@@ -18,7 +18,9 @@ labelled word n = word ++ digits 10 n
 
 -- the line, with LF at its end
 abbrev pub lineOf : Front → List ℕ
-lineOf f = labelled (ascii "kept ") (f .entries) ++ labelled (ascii " ") (f .kept) ++ labelled (ascii " left ") (f .left) ++ labelled (ascii " stop ") (f .stop) ++ 10 ∷ []
+lineOf f =
+    labelled (ascii "kept ") (f .entries) ++ labelled (ascii " ") (f .kept) ++ labelled (ascii " left ") (f .left) ++ labelled (ascii " stop ") (f .stop)
+    ++ 10 ∷ []
 
 -- octets of input at most
 abbrev pub inputMost : ℕ

@@ -8,20 +8,19 @@ use output::put_octet;
 use output::put_part;
 use output::put_text;
 ghost use mathlib.Core.Path.{_≡_};
-ghost use Prim.Native.Nat.{_+_, _≤_};
+ghost use Prim.Native.Nat.{_≤_};
 ghost use lib.ListN.{length};
-ghost use Rattle.numbers.specs.Digits.{countOf};
 ghost use Rattle.output.specs.Splice.{Put, Puts};
 ghost use Rattle.output.specs.Reply.{writes, Served};
 ghost use Rattle.bundle.specs.Salvage.{salvageOf};
 ghost use Rattle.salvaging.specs.Answers.{frontOf, Salvages};
-ghost use Rattle.salvaging.specs.Line.{labelled, labelledSize, lineOf, lineSize, lineMost, salvageLine};
+ghost use Rattle.salvaging.specs.Line.{labelled, labelledSize, lineOf, lineSize, salvageLine};
 
 // The input of the program: so many octets at most.
-pub struct Input;
+struct Input;
 
 impl Input {
-    pub const MOST: usize = 65536;
+    const MOST: usize = 65536;
 }
 
 // How much is kept and left off, and the number that stopped it.
