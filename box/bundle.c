@@ -1,10 +1,11 @@
 /* The C example of bundles: takes HTTP/1.1 requests off standard input under http, turns each into Binary HTTP and gathers them in one bundle, each as an entry of the
- * flock that its field `flock` names; then reads the bundle and gives each flock its list, as the service would hand it on.
+ * flock that its field `flock` names; then reads the bundle and gives each flock its list, as the service would hand it on; then keeps what is whole of a transfer that
+ * stopped one octet before the bundle's end.
  *
  *     target/box/bundle < file of requests
  *
- * A line for each entry, then one for each flock. Status 0; 1 where a request was refused, is not whole or names no flock; 2 where the input could not be read or
- * a list is not the bundle that it must be.
+ * A line for each entry, one for each flock, one for the transfer. Status 0; 1 where a request was refused, is not whole or names no flock; 2 where the input could not be
+ * read, or a list or what is kept is not the bundle that it must be.
  */
 #include <stdbool.h>
 #include <stdint.h>
@@ -77,6 +78,12 @@ int main(void)
         if (own.count != 0)
             printf("flock %u: %zu entries, %zu octets\n", (unsigned)flock, own.count, answer.len);
     }
+    size_t came = used == 0 ? 0 : used - 1;
+    struct ospirnar_salvage_answer kept = ospirnar_salvage(bundle, came, list, sizeof list);
+    struct ospirnar_bundle_answer again = ospirnar_read_bundle(list, kept.kept, entries, NUMBERS);
+    if (kept.number != 0 || kept.kept + kept.left != came || again.number != 0 || again.count != kept.entries)
+        return 2;
+    printf("of %zu octets that came: %zu entries, %zu octets kept, %zu left off, stopped by %u\n", came, kept.entries, kept.kept, kept.left, (unsigned)kept.stop);
     printf("%zu entries, %zu octets\n", whole.count, used);
     return 0;
 }

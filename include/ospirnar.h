@@ -103,7 +103,7 @@ uint32_t ospirnar_response_field(const uint8_t *input, size_t input_len, uint32_
 uint32_t ospirnar_binary_field(const uint8_t *input, size_t input_len, uint32_t head, const uint8_t *name, size_t name_len, uint32_t *number, size_t *place,
                                size_t *start, size_t *length);
 
-/* Bundles (document 02, item 1): entries one behind the other, at most 256, each a head of four octets and a Binary message as ospirnar_binary_to_binary writes it. The
+/* Bundles (document 02, items 1 and 12): entries one behind the other, at most 256, each a head of four octets and a Binary message as ospirnar_binary_to_binary writes it. The
  * head is a number of 32 bits, most significant octet first: 7 bits flock (1 to 127), 1 bit delivered, 2 bits kind (0 request, 1 response), 22 bits length of the
  * message. These calls answer by value. A call of them keeps 65,535 octets and some KB beside on the stack. */
 
@@ -134,6 +134,14 @@ struct ospirnar_list_answer {
     size_t place, len;
 };
 
+/* number 0: `place` is 0, `entries` and `kept` are the entries and octets kept, `left` the octets left off, `stop` the refusal that stopped it (0 where the whole input is a bundle).
+ * Otherwise a refusal: `place` is where it arose, all else is 0. */
+struct ospirnar_salvage_answer {
+    uint32_t number;
+    size_t place, entries, kept, left;
+    uint32_t stop;
+};
+
 /* The bundle that the input is: three numbers for each entry, in order, into `entries`; all behind them stays. Refusals, all placed at the entry's first octet: 9 for a cut head; 8 for a
  * 257th entry; 15 for flock 0 or kind 2 or 3; 8 for a length above 65,535; 9 for a cut message; the message's own number; 15 for a kind other than the message's or a message that is
  * not as we write it. Then 13 at 0 where the numbers do not fit (OSPIRNAR_ENTRIES_MOST * OSPIRNAR_ENTRY_NUMBERS are always enough). A refusal alters nothing. */
@@ -147,6 +155,14 @@ struct ospirnar_append_answer ospirnar_append(uint8_t *buffer, size_t buffer_len
 /* The entries of one flock, heads and messages, delivered ones too, copied in order: itself a bundle. Refusals: the bundle's own; 15 at 0 for a flock outside 1 to 127; 13 at 0 where it does
  * not fit. A refusal alters nothing. */
 struct ospirnar_list_answer ospirnar_flock_list(const uint8_t *input, size_t input_len, uint32_t flock, uint8_t *output, size_t output_len);
+
+/* Of whatever octets, a transfer that stopped anywhere or was damaged: the longest front of whole entries that ospirnar_read_bundle accepts, copied; itself a bundle. `stop` is the number that
+ * ospirnar_read_bundle gives for the whole input, and `kept` its place. The only refusal is 13 at 0 where what is kept does not fit; it alters nothing. */
+struct ospirnar_salvage_answer ospirnar_salvage(const uint8_t *input, size_t input_len, uint8_t *output, size_t output_len);
+
+/* The line that the salvage program prints for an input, `kept ENTRIES OCTETS left OCTETS stop NUMBER` and LF; above 65,536 octets `kept 0 0 left 65536 stop 8`. 13 at 0 where it does not fit (99
+ * octets are always enough); nothing else is refused. */
+struct ospirnar_list_answer ospirnar_salvage_line(const uint8_t *input, size_t input_len, uint8_t *output, size_t output_len);
 
 #ifdef __cplusplus
 }

@@ -171,6 +171,25 @@ pub few-entries : (s : List ℕ) → length (walk s .entries) ≤ 256
 unfolding walk
 few-entries s = walk-few 256 0 s
 
+pub walk-within : (left at : ℕ) (s : List ℕ) → walkFrom left at s .end ≤ at + length s
+unfolding walkFrom
+walk-within zero at s = go (nextAt zero s) refl
+  where
+    go : (x : Next) → x ≡ nextAt zero s → onward x at s (λ a r. endsAt a tooLarge) .end ≤ at + length s
+    go (next.Entry w) e = let h = stands zero s w e .some in absurd (omega arith)
+    go (next.Stop k) e = omega arith
+walk-within (suc left) at s = go (nextAt (suc left) s) refl (walk-within left)
+  where
+    go : (x : Next) → x ≡ nextAt (suc left) s → ((a : ℕ) (r : List ℕ) → walkFrom left a r .end ≤ a + length r) → onward x at s (walkFrom left) .end ≤ at + length s
+    go (next.Entry w) e h =
+        let k = h (at + (4 + lengthOf w)) (drop (4 + lengthOf w) s) in
+        omega (arith, k, stands (suc left) s w e .whole, length-drop (4 + lengthOf w) s)
+    go (next.Stop k) e h = omega arith
+
+pub end-within : (s : List ℕ) → walk s .end ≤ length s
+unfolding walk
+end-within s = omega (arith, walk-within 256 0 s)
+
 pub numbers-length : (at : ℕ) (es : List Entry) → length (numbersFrom at es) ≡ length es * 3
 unfolding numbersFrom
 numbers-length at [] = refl

@@ -1,4 +1,5 @@
--- What the C entries on bundles answer, by value, and what they leave in what they are lent (02, item 1), in terms of `walk`, `appendPlan` and `flockList`.
+-- What the C entries on bundles answer, by value, and what they leave in what they are lent (02, item 1), in terms of `walk`, `appendPlan` and `flockList`;
+-- salvage answers as `salvaging/Answers` says.
 use Prim.Native.Nat.{ℕ, _*_}
 use mathlib.Core.Path.{_≡_}
 use mathlib.Core.Bool.{Bool, true, false, cond}
@@ -50,7 +51,7 @@ appendOf p = record { number = p .number; place = p .place; used = p .used; long
 abbrev pub AppendEntered : List ℕ → ℕ → ℕ → List ℕ → List ℕ → AppendAnswer → Type 0
 AppendEntered b used f m b′ r = (r ≡ appendOf (appendPlan b used f m)) × (b′ ≡ appended b used f m)
 
--- ---- the list
+-- ---- the list, and the line of the salvage program
 
 -- the length written, or the refusal's number and place
 abbrev pub listOf : Written → ListAnswer

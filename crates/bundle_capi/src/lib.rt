@@ -4,11 +4,17 @@ use bundle::reader::read_bundle;
 use bundle_edit::append;
 use octets::Refusals;
 use output::Written;
+use salvaging::Salvaged;
+use salvaging::salvage;
+use salvaging::salvage_line;
 ghost use mathlib.Core.Path.{_≡_};
 ghost use Prim.Native.Nat.{_+_, _≤_};
 ghost use lib.ListN.{length};
 ghost use Rattle.output.specs.Splice.{splice, part};
 ghost use Rattle.bundle.specs.Bundle.{walk, flockList};
+ghost use Rattle.output.specs.Reply.{writes};
+ghost use Rattle.salvaging.specs.Answers.{Salvages};
+ghost use Rattle.salvaging.specs.Line.{salvageLine};
 ghost use Rattle.bundle_capi.specs.Entries.{BundleEntered, AppendEntered, listOf, ListEntered};
 
 // What the reader answers: 0, the bundle's length and the number of entries, or a refusal's number and place.
@@ -29,7 +35,7 @@ pub struct AppendAnswer {
     pub long: usize,
 }
 
-// What the list answers: 0 and the length written, or a refusal's number and place.
+// What a list and a line answer: 0 and the length written, or a refusal's number and place.
 #[repr(C)]
 pub struct ListAnswer {
     pub number: u32,
@@ -122,5 +128,22 @@ pub extern "C" fn ospirnar_flock_list(input: &[u8], flock: u32, output: &mut [u8
     ensures { λ r. ⌜ ListEntered (flockList flock (now (input .entry))) (now (output .entry)) (now (output .exit)) r ⌝ }
 {
     let w = flock_list(input, flock, output);
+    list_answer(w)
+}
+
+// The longest front of whole entries that is a bundle, copied: what is kept of octets that came through whole or not.
+#[no_mangle]
+pub extern "C" fn ospirnar_salvage(input: &[u8], output: &mut [u8]) -> Salvaged
+    ensures { λ r. ⌜ Salvages (now (input .entry)) (now (output .entry)) (now (output .exit)) r ⌝ }
+{
+    salvage(input, output)
+}
+
+// The line that the salvage program prints for an input.
+#[no_mangle]
+pub extern "C" fn ospirnar_salvage_line(input: &[u8], output: &mut [u8]) -> ListAnswer
+    ensures { λ r. ⌜ ListEntered (writes (salvageLine (now (input .entry)))) (now (output .entry)) (now (output .exit)) r ⌝ }
+{
+    let w = salvage_line(input, output);
     list_answer(w)
 }

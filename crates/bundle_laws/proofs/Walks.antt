@@ -108,7 +108,7 @@ word-front a b h =
       List·getD-append a b 0 3 (omega (arith, h)),
     )
 
-kind-two : (b : Bool) → kindNumber b < 2
+pub kind-two : (b : Bool) → kindNumber b < 2
 kind-two true = omega arith
 kind-two false = omega arith
 

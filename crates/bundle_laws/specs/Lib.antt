@@ -1,5 +1,6 @@
 pub mod Reading
 pub mod Appending
 pub mod Listing
+pub mod Salvaging
 pub mod Demands
 pub mod Table

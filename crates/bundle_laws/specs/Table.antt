@@ -1,13 +1,17 @@
--- A small table of bundles (02, item 1), by computation: "For Figure 13, flock 5, not delivered, the head is `0a 40 00 30`", and what each refusal looks like.
+-- A small table of bundles (02, items 1 and 12), by computation: "For Figure 13, flock 5, not delivered, the head is `0a 40 00 30`", what each refusal looks
+-- like, and what is kept of a cut transfer.
 use Prim.Native.Nat.{ℕ}
 use mathlib.Core.Path.{_≡_}
 use mathlib.Core.List.{List, [], _∷_, _++_}
 use lib.ListN.{length}
+use Rattle.octets.specs.Ascii.{ascii}
 use Rattle.numbers.specs.Places.{push}
 use Rattle.output.specs.Reply.{Reply, writes, refuses}
 use Rattle.examples.specs.Examples.{hex, figure13, postBinary}
 use Rattle.bundle.specs.Bundle.{wordOf, headOf, headOctets, entriesOctets, messageVerdict, headed, nextAt, walkFrom, walk, ofFlock, flockList}
+use Rattle.bundle.specs.Salvage.{salvageOf}
 use Rattle.bundle_edit.specs.Append.{behindBundle, appendReply}
+use Rattle.salvaging.specs.Line.{salvageLine}
 
 -- ---- what a row says
 
@@ -20,6 +24,10 @@ pub data Row : Type 0 where
   appends : List ℕ → ℕ → ℕ → List ℕ → Reply → Row
   -- the list of a flock of these octets
   lists : ℕ → List ℕ → Reply → Row
+  -- of these octets so many entries and these octets are kept, so many are left off, and the number that stopped it
+  salvages : List ℕ → ℕ → List ℕ → ℕ → ℕ → Row
+  -- the salvage program prints this line for these octets
+  prints : List ℕ → List ℕ → Row
 
 -- it holds
 abbrev pub Holds : Row → Type 0
@@ -27,6 +35,8 @@ Holds (heads f d k n l) = headOctets (headOf f d k n) ≡ l
 Holds (walks s count end stop) = (length (walk s .entries) ≡ count) × (walk s .end ≡ end) × (walk s .stop ≡ stop)
 Holds (appends b used f m y) = appendReply b used f m ≡ y
 Holds (lists f s y) = flockList f s ≡ y
+Holds (salvages s count kept left stop) = salvageOf s ≡ record { entries = count; octets = kept; left = left; stop = stop }
+Holds (prints s line) = salvageLine s ≡ line
 
 -- all rows hold
 abbrev pub All : List Row → Type 0
@@ -80,9 +90,16 @@ table =
     ∷ lists 7 entry13 (writes [])
     ∷ lists 0 entry13 (refuses 15 0)
     ∷ lists 0 (hex "0a") (refuses 9 0)
+    -- salvage: of a whole bundle; cut in a head, in a message and between entries; damaged
+    ∷ salvages (entry13 ++ delivered13) 2 (entry13 ++ delivered13) 0 0
+    ∷ salvages (entry13 ++ hex "0a4000") 1 entry13 3 9
+    ∷ salvages (entry13 ++ hex "0b40003001") 1 entry13 5 9
+    ∷ salvages entry13 1 entry13 0 0
+    ∷ salvages (entry13 ++ hex "00400030" ++ figure13) 1 entry13 52 15
+    ∷ prints (entry13 ++ hex "0b40003001") (ascii "kept 1 52 left 5 stop 9\n")
     ∷ []
 
 -- opens the definitions of bundles, so that the rows are proved by computation
 unfoldable pub opened : Unit {0}
-unfolding push wordOf headOctets entriesOctets messageVerdict headed nextAt walkFrom walk ofFlock flockList behindBundle appendReply
+unfolding push wordOf headOctets entriesOctets messageVerdict headed nextAt walkFrom walk ofFlock flockList behindBundle appendReply salvageOf salvageLine
 opened = tt
