@@ -18,6 +18,7 @@ use Rattle.messages.specs.Message.{Message}
 use Rattle.messages.specs.Meaning.{Control, request, response, Meaning, meaning}
 use Rattle.messages.specs.Valid.{ofResponse}
 use Rattle.binary.specs.Read.{readBinary}
+use Rattle.messages.specs.Told.{plain}
 use Rattle.binary_writer.specs.Write.{controlBytes, binaryOf, binaryFits, toBinary}
 use Rattle.output.specs.Splice.{splice}
 use Rattle.output.specs.Reply.{Reply, writes, refuses, writtenOf, lentAfterAt, ServedAt}
@@ -87,9 +88,9 @@ pair-entry f x = go (leb (length (binaryOf x)) 65535) refl
         }
     go false e = refl
 
-pub paired : (f : ℕ) (m : List ℕ) → Paired f (binaryToBinary m) (messageEntry f m)
+pub paired : (f : ℕ) (m : List ℕ) → Paired f (binaryToBinary (plain 0) m) (messageEntry f m)
 unfolding binaryToBinary
-paired f m = go (readBinary m)
+paired f m = go (readBinary (plain 0) m)
   where
     go : (x : Answer Message) → Paired f (replyFrom (length m) x toBinary) (replyFrom (length m) x (entryFor f))
     go (accepted n a) = pair-entry f (meaning a)
@@ -310,7 +311,7 @@ fair-behind b used f m =
     either (FairReply f) (eqb (w .stop) 0) _ _
     (λ _.
     either (FairReply f) (ltb (length (w .entries)) 256) _ _
-    (λ _. either (FairReply f) (isFlock f) _ _ (λ g. fair-pair f (binaryToBinary m) (messageEntry f m) (flock-least f g .0) (paired f m)) (λ _. tt)) (λ _. tt))
+    (λ _. either (FairReply f) (isFlock f) _ _ (λ g. fair-pair f (binaryToBinary (plain 0) m) (messageEntry f m) (flock-least f g .0) (paired f m)) (λ _. tt)) (λ _. tt))
     (λ _. tt)
 
 fair-of : (y : Reply) (f used : ℕ) (b : List ℕ) (w : Written) → used ≤ length b → FairReply f y → w ≡ writtenOf y (length b - used) → Fair (length b) used f w

@@ -3,6 +3,7 @@ use bundle::Bundle;
 use bundle::Head;
 use bundle::entry::is_flock;
 use bundle::reader::read_bundle;
+use messages::call::plain;
 use octets::Limits;
 use octets::Refusals;
 use output::Written;
@@ -15,6 +16,7 @@ ghost use lib.ListN.{length, take};
 ghost use Rattle.octets.specs.Limits.{binaryMost, flocksMost};
 ghost use Rattle.output.specs.Splice.{splice};
 ghost use Rattle.output.specs.Reply.{ServedAt};
+ghost use Rattle.messages.specs.Told.{plain as toldPlain};
 ghost use Rattle.turn.specs.Turn.{binaryToBinary};
 ghost use Rattle.bundle.specs.Bundle.{headOf, headOctets, isFlock, walk};
 ghost use Rattle.bundle.specs.Answers.{bundleOf};
@@ -89,12 +91,13 @@ fn behind_head(size: usize, used: usize) -> usize
     used + 4
 }
 
-// The message anew into the buffer from a place on: the only loan.
+// The message, which answers no HEAD, anew into the buffer from a place on: the only loan.
 fn lend_behind(message: &[u8], buf: &mut [u8], from: usize) -> Written
     requires { ⌜ from ≤ length (now buf) ⌝ }
-    ensures { λ r. ⌜ ServedAt (binaryToBinary (now (message .entry))) from (now (buf .entry)) (now (buf .exit)) r ⌝ }
+    ensures { λ r. ⌜ ServedAt (binaryToBinary (toldPlain 0) (now (message .entry))) from (now (buf .entry)) (now (buf .exit)) r ⌝ }
 {
-    binary_to_binary(message, &mut buf[from..])
+    let told = plain(0);
+    binary_to_binary(message, told, &mut buf[from..])
 }
 
 // The message as an entry at `used`: written behind its head first, the head last.

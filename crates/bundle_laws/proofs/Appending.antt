@@ -17,6 +17,7 @@ use Rattle.messages.specs.Message.{isResponse, Message}
 use Rattle.messages.specs.Meaning.{Meaning, meaning}
 use Rattle.messages.specs.Valid.{ofResponse, valid}
 use Rattle.sound.specs.Placed.{Each}
+use Rattle.messages.specs.Told.{plain}
 use Rattle.binary.specs.Read.{readBinary}
 use Rattle.binary_sound.proofs.Sound.{binary-sound}
 use Rattle.binary_writer.specs.Write.{binaryOf, binaryFits, toBinary}
@@ -80,9 +81,9 @@ headed f kind x l e = go (binaryFits x) refl e
     go false h q = absurd (no-reply q)
 
 made : (f : ℕ) (m l : List ℕ) → messageEntry f m ≡ writes l → Made f m l
-made f m l e = go (readBinary m) refl e
+made f m l e = go (readBinary (plain 0) m) refl e
   where
-    go : (x : Answer Message) → readBinary m ≡ x → replyFrom (length m) x (entryFor f) ≡ writes l → Made f m l
+    go : (x : Answer Message) → readBinary (plain 0) m ≡ x → replyFrom (length m) x (entryFor f) ≡ writes l → Made f m l
     go (accepted n a) r q =
         let h = headed f (kindNumber (ofResponse (meaning a .control))) (meaning a) l q in
         record { long = n; message = a; read = r; fits = h .0; is = h .1 }

@@ -17,6 +17,7 @@ use Rattle.script.specs.Script.{Answer, accepted, refused, more}
 use Rattle.messages.specs.Message.{isResponse, Message}
 use Rattle.messages.specs.Meaning.{Meaning, meaning}
 use Rattle.sound.specs.Placed.{Each}
+use Rattle.messages.specs.Told.{plain}
 use Rattle.binary.specs.Read.{readBinary}
 use Rattle.binary_sound.proofs.Sound.{binary-sound}
 use Rattle.binary_sound.proofs.Refusals.{binary-refused}
@@ -54,9 +55,9 @@ fifteen e = omega arith
 
 pub verdict-zero : (kind : ℕ) (w : List ℕ) → messageVerdict kind w ≡ 0 → Judged kind w
 unfolding messageVerdict
-verdict-zero kind w e = go (readBinary w) refl e
+verdict-zero kind w e = go (readBinary (plain 0) w) refl e
   where
-    go : (x : Answer Message) → readBinary w ≡ x → verdictOn kind w x ≡ 0 → Judged kind w
+    go : (x : Answer Message) → readBinary (plain 0) w ≡ x → verdictOn kind w x ≡ 0 → Judged kind w
     go (accepted n m) q v =
         let a = into fifteen (eqb kind (kindNumber (isResponse (m .start)))) _ v in
         let b = into fifteen (isWritten (toBinary (meaning m)) w) _ (a .1) in

@@ -7,34 +7,39 @@ use mathlib.Core.List.{List, [], _∷_, _++_}
 use lib.Dec.{eqb}
 use lib.ListN.{length}
 use Rattle.stream.specs.Taking.{waits, takeF, takeOff, onto}
+use Rattle.messages.specs.Told.{plain}
 use Rattle.messages.specs.declared.Told.{Told}
 use Rattle.sound.specs.Placed.{Each}
 use Rattle.output.specs.Reply.{writes}
 use Rattle.turn.specs.Turn.{binaryToBinary, binaryToHttp1}
 use Rattle.demands.specs.Demand2.{binaryAnew, binaryAsHttp1, Kept}
-use Rattle.demands.specs.Demand3.{streamOf, entriesOf, meaningsOf, NoResponse, readMeaning}
+use Rattle.demands.specs.Demand3.{Call, streamOf, entriesOf, meaningsOf, NoResponse, readMeaning}
 use Rattle.bundle.specs.Bundle.{wordOf, kindOf, Entry, walk}
 use Rattle.bundle_laws.specs.Reading.{InForm}
 
 -- ---- demand 2
 
--- the message of an entry: written anew it is itself, and it keeps its meaning in every turning
+-- the message of an entry, which answers no HEAD: written anew it is itself, and it keeps its meaning in every turning
 pub record MessageKept (e : Entry) : Type 0 where
-  pub anew : binaryToBinary (e .text) ≡ writes (e .text)
-  pub kept : Kept binaryAnew (e .text) (e .text)
+  pub anew : binaryToBinary (plain 0) (e .text) ≡ writes (e .text)
+  pub kept : Kept (binaryAnew (plain 0)) (e .text) (e .text)
   pub http1 : (t : Told) (h : List ℕ) → binaryToHttp1 t (e .text) ≡ writes h → Kept (binaryAsHttp1 t) (e .text) h
 
 -- ---- demand 3
 
--- a text before others, if the test passes
-abbrev pub textIf : Bool → List ℕ → List (List ℕ) → List (List ℕ)
-textIf true w ws = w ∷ ws
-textIf false w ws = ws
+-- a call before others, if the test passes
+abbrev pub callIf : Bool → Call → List Call → List Call
+callIf true c cs = c ∷ cs
+callIf false c cs = cs
 
--- the messages of the entries that are requests, in order
-unfoldable pub requestsOf : List Entry → List (List ℕ)
+-- the call on the message of an entry
+abbrev pub callOn : Entry → Call
+callOn e = record { head = 0; input = e .text }
+
+-- those on the entries that are requests, in order
+unfoldable pub requestsOf : List Entry → List Call
 requestsOf [] = []
-requestsOf (e ∷ es) = textIf (eqb (kindOf (wordOf (e .head))) 0) (e .text) (requestsOf es)
+requestsOf (e ∷ es) = callIf (eqb (kindOf (wordOf (e .head))) 0) (callOn e) (requestsOf es)
 
 -- calls of the HTTP/1.1 writer, told t, in one lent space: on the requests of good entries, so on those of a bundle and of a flock's list, whatever selection
 -- of them. What is left out by a refusal is said by `entriesOf` (demands/specs/Demand3)

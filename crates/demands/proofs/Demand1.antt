@@ -79,9 +79,9 @@ binary-wrongs s m =
 http1-wrongs : (t : Told) (s : List ℕ) (m : Meaning) → Wrongs s (toHttp1 t m)
 unfolding toHttp1
 http1-wrongs t s m =
-    either (Wrongs s) (onConnection t (m .control)) (cond (http1Fits m) (writes (http1Of m)) (refuses tooLarge 0)) (refuses otherScheme 0)
+    either (Wrongs s) (onConnection t (m .control)) (cond (http1Fits t m) (writes (http1Of t m)) (refuses tooLarge 0)) (refuses otherScheme 0)
     (λ a.
-    either (Wrongs s) (http1Fits m) (writes (http1Of m)) (refuses tooLarge 0) (λ b. octets-wrongs s (http1Of m))
+    either (Wrongs s) (http1Fits t m) (writes (http1Of t m)) (refuses tooLarge 0) (λ b. octets-wrongs s (http1Of t m))
     (λ b. wrong-wrongs s tooLarge 0 (lit≤ tt, lit≤ tt, omega arith)))
     (λ a. wrong-wrongs s otherScheme 0 (lit≤ tt, lit≤ tt, omega arith))
 
@@ -119,19 +119,19 @@ request-turned : (t : Told) (s : List ℕ) → Wrongs s (requestToBinary t s)
 unfolding requestToBinary
 request-turned t s = reply-wrongs s http1Last (lit≤ tt) (readRequest t s) (request-refused t s) toBinary (binary-wrongs s)
 
-response-turned : (s : List ℕ) → Wrongs s (responseToBinary s)
+response-turned : (t : Told) (s : List ℕ) → Wrongs s (responseToBinary t s)
 unfolding responseToBinary
-response-turned s = reply-wrongs s http1Last (lit≤ tt) (readResponse s) (response-refused s) toBinary (binary-wrongs s)
+response-turned t s = reply-wrongs s http1Last (lit≤ tt) (readResponse t s) (response-refused t s) toBinary (binary-wrongs s)
 
-binary-anew : (s : List ℕ) → Wrongs s (binaryToBinary s)
+binary-anew : (t : Told) (s : List ℕ) → Wrongs s (binaryToBinary t s)
 unfolding binaryToBinary
-binary-anew s = reply-wrongs s binaryLast (lit≤ tt) (readBinary s) (binary-refused s) toBinary (binary-wrongs s)
+binary-anew t s = reply-wrongs s binaryLast (lit≤ tt) (readBinary t s) (binary-refused t s) toBinary (binary-wrongs s)
 
 binary-turned : (t : Told) (s : List ℕ) → Wrongs s (binaryToHttp1 t s)
 unfolding binaryToHttp1
 binary-turned t s =
-    either (Wrongs s) (isScheme (t .scheme)) (replyFrom (length s) (readBinary s) (toHttp1 t)) (refuses notSupported 0)
-    (λ a. reply-wrongs s binaryLast (lit≤ tt) (readBinary s) (binary-refused s) (toHttp1 t) (http1-wrongs t s))
+    either (Wrongs s) (isScheme (t .scheme)) (replyFrom (length s) (readBinary t s) (toHttp1 t)) (refuses notSupported 0)
+    (λ a. reply-wrongs s binaryLast (lit≤ tt) (readBinary t s) (binary-refused t s) (toHttp1 t) (http1-wrongs t s))
     (λ a. wrong-wrongs s notSupported 0 (lit≤ tt, lit≤ tt, omega arith))
 
 -- ---- the claim
@@ -139,11 +139,11 @@ binary-turned t s =
 pub demand1 : Demand1
 demand1 = record {
   requests = λ t. read-numbers http1Last (readRequest t) (lit≤ tt) (request-refused t);
-  responses = read-numbers http1Last readResponse (lit≤ tt) response-refused;
-  binaries = read-numbers binaryLast readBinary (lit≤ tt) binary-refused;
+  responses = λ t. read-numbers http1Last (readResponse t) (lit≤ tt) (response-refused t);
+  binaries = λ t. read-numbers binaryLast (readBinary t) (lit≤ tt) (binary-refused t);
   whole = binary-settled;
   requestsTurned = λ t. turn-numbers (requestToBinary t) (request-turned t);
-  responsesTurned = turn-numbers responseToBinary response-turned;
-  binariesAnew = turn-numbers binaryToBinary binary-anew;
+  responsesTurned = λ t. turn-numbers (responseToBinary t) (response-turned t);
+  binariesAnew = λ t. turn-numbers (binaryToBinary t) (binary-anew t);
   binariesTurned = λ t. turn-numbers (binaryToHttp1 t) (binary-turned t);
 }

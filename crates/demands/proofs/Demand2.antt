@@ -12,7 +12,7 @@ use Rattle.script.specs.Script.{Answer, accepted, refused, more, means, run}
 use Rattle.messages.specs.declared.Told.{Told}
 use Rattle.messages.specs.Message.{FieldRead, Start, requestStart, responseStart, Message}
 use Rattle.messages.specs.Meaning.{Control, request, response, Meaning, controlMeans, meaning}
-use Rattle.messages.specs.Valid.{isScheme, ofResponse, valid}
+use Rattle.messages.specs.Valid.{isScheme, ofResponse, valid, suits}
 use Rattle.http1.specs.Read as script
 use Rattle.http1.specs.Read.{readRequest, readResponse}
 use Rattle.binary.specs.Read.{readBinary}
@@ -110,20 +110,21 @@ module _ (w : Turning) (turn : List ℕ → Reply) (replies : (s : List ℕ) →
 
 -- ---- into Binary
 
-binary-reply : (told : Bool) (read : List ℕ → Answer Message) (n : ℕ) (x : Answer Message) → turn.replyFrom n x toBinary ≡ replyFor (intoBinary told read) n x
+binary-reply : (t : Told) (told : Bool) (read : List ℕ → Answer Message) (n : ℕ) (x : Answer Message) → turn.replyFrom n x toBinary ≡ replyFor (intoBinary t told read) n x
 unfolding toBinary
-binary-reply told read n (accepted k m) = refl
-binary-reply told read n (refused k p) = refl
-binary-reply told read n more = refl
+binary-reply t told read n (accepted k m) = refl
+binary-reply t told read n (refused k p) = refl
+binary-reply t told read n more = refl
 
--- from any reader whose messages are valid
-module _ (told : Bool) (read : List ℕ → Answer Message) (sound : (s : List ℕ) (n : ℕ) (m : Message) → read s ≡ accepted n m → valid (meaning m) ≡ true) where
+-- from any reader whose messages are valid and suit what is told
+module _ (t : Told) (told : Bool) (read : List ℕ → Answer Message)
+    (sound : (s : List ℕ) (n : ℕ) (m : Message) → read s ≡ accepted n m → (valid (meaning m) ≡ true) × (suits t (meaning m) ≡ true)) where
   binary-back : (s : List ℕ) (n : ℕ) (m : Message) → read s ≡ accepted n m → true ≡ true → binaryFits (meaning m) ≡ true
-      → (rest : List ℕ) → means meaning (readBinary (binaryOf (meaning m) ++ [])) ≡ accepted (length (binaryOf (meaning m))) (meaning m)
-  binary-back s n m r g f rest = rw (append-nil (binaryOf (meaning m))) (round-trip-of-meanings (meaning m) (sound s n m r) f)
+      → (rest : List ℕ) → means meaning (readBinary t (binaryOf (meaning m) ++ [])) ≡ accepted (length (binaryOf (meaning m))) (meaning m)
+  binary-back s n m r g f rest = rw (append-nil (binaryOf (meaning m))) (round-trip-of-meanings t (meaning m) (sound s n m r .0) (sound s n m r .1) f)
 
-  binary-turns : (turn : List ℕ → Reply) → ((s : List ℕ) → turn s ≡ replyTo (intoBinary told read) s) → Turns (intoBinary told read) turn
-  binary-turns turn replies = turns (intoBinary told read) turn replies binary-back
+  binary-turns : (turn : List ℕ → Reply) → ((s : List ℕ) → turn s ≡ replyTo (intoBinary t told read) s) → Turns (intoBinary t told read) turn
+  binary-turns turn replies = turns (intoBinary t told read) turn replies binary-back
 
 request-replies : (t : Told) (s : List ℕ) → requestToBinary t s ≡ replyTo (requestsAsBinary t) s
 unfolding requestToBinary readRequest
@@ -132,21 +133,21 @@ request-replies t s = go (isScheme (t .scheme)) (run (script.request t) 0 s)
     go : (b : Bool) (x : Answer Message)
         → turn.replyFrom (length s) (cond b x (refused notSupported 0)) toBinary
         ≡ cond b (replyFor (requestsAsBinary t) (length s) (cond b x (refused notSupported 0))) (refuses notSupported 0)
-    go true x = binary-reply _ _ (length s) x
+    go true x = binary-reply t _ _ (length s) x
     go false x = refl
 
-response-replies : (s : List ℕ) → responseToBinary s ≡ replyTo responsesAsBinary s
+response-replies : (t : Told) (s : List ℕ) → responseToBinary t s ≡ replyTo (responsesAsBinary t) s
 unfolding responseToBinary
-response-replies s = binary-reply _ _ (length s) (readResponse s)
+response-replies t s = binary-reply t _ _ (length s) (readResponse t s)
 
-anew-replies : (s : List ℕ) → binaryToBinary s ≡ replyTo binaryAnew s
+anew-replies : (t : Told) (s : List ℕ) → binaryToBinary t s ≡ replyTo (binaryAnew t) s
 unfolding binaryToBinary
-anew-replies s = binary-reply _ _ (length s) (readBinary s)
+anew-replies t s = binary-reply t _ _ (length s) (readBinary t s)
 
 -- ---- into HTTP/1.1
 
-pub binary-valid : (s : List ℕ) (n : ℕ) (m : Message) → readBinary s ≡ accepted n m → valid (meaning m) ≡ true
-binary-valid s n m e = binary-sound s n m e .sound .valid
+pub binary-valid : (t : Told) (s : List ℕ) (n : ℕ) (m : Message) → readBinary t s ≡ accepted n m → valid (meaning m) ≡ true
+binary-valid t s n m e = binary-sound t s n m e .sound .valid
 
 http1-reply : (t : Told) (n : ℕ) (x : Answer Message) → turn.replyFrom n x (toHttp1 t) ≡ replyFor (binaryAsHttp1 t) n x
 unfolding toHttp1
@@ -156,17 +157,17 @@ http1-reply t n more = refl
 
 http1-replies : (t : Told) (s : List ℕ) → binaryToHttp1 t s ≡ replyTo (binaryAsHttp1 t) s
 unfolding binaryToHttp1
-http1-replies t s = ap (λ (y : Reply). cond (isScheme (t .scheme)) y (refuses notSupported 0)) (http1-reply t (length s) (readBinary s))
+http1-replies t s = ap (λ (y : Reply). cond (isScheme (t .scheme)) y (refuses notSupported 0)) (http1-reply t (length s) (readBinary t s))
 
 -- a valid meaning that goes on the connection and fits is read back by the reader of its kind
-http1-meanings : (t : Told) (m : Meaning) (c : Control) → m .control ≡ c → valid m ≡ true → onConnection t c ≡ true → http1Fits m ≡ true
-    → (rest : List ℕ) → means meaning (http1Reader t c (http1Of m ++ rest)) ≡ accepted (length (http1Of m)) m
-http1-meanings t m (request x s a p) e v g f rest = request-meanings t m (v, f, rw e g) rest
-http1-meanings t m (response hs s) e v g f rest = response-meanings m (v, f, rw e refl) rest
+http1-meanings : (t : Told) (m : Meaning) (c : Control) → m .control ≡ c → valid m ≡ true → suits t m ≡ true → onConnection t c ≡ true → http1Fits t m ≡ true
+    → (rest : List ℕ) → means meaning (http1Reader t c (http1Of t m ++ rest)) ≡ accepted (length (http1Of t m)) m
+http1-meanings t m (request x s a p) e v u g f rest = request-meanings t m (v, f, rw e g) rest
+http1-meanings t m (response hs s) e v u g f rest = response-meanings t m (v, f, rw e refl, u) rest
 
 http1-turns : (t : Told) → Turns (binaryAsHttp1 t) (binaryToHttp1 t)
 http1-turns t = turns (binaryAsHttp1 t) (binaryToHttp1 t) (http1-replies t)
-    (λ s n m r g f rest. http1-meanings t (meaning m) (meaning m .control) refl (binary-valid s n m r) g f rest)
+    (λ s n m r g f rest. http1-meanings t (meaning m) (meaning m .control) refl (binary-valid t s n m r) (binary-sound t s n m r .suits) g f rest)
 
 -- ---- the kinds of messages
 
@@ -182,16 +183,17 @@ of-requests : (t : Told) (s : List ℕ) (n : ℕ) (m : Message) → readRequest 
 unfolding meaning
 of-requests t s n m e = request-kind t (m .lines) (m .start) (request-sound t s n m e .request)
 
-of-responses : (s : List ℕ) (n : ℕ) (m : Message) → readResponse s ≡ accepted n m → ofResponse (meaning m .control) ≡ true
+of-responses : (t : Told) (s : List ℕ) (n : ℕ) (m : Message) → readResponse t s ≡ accepted n m → ofResponse (meaning m .control) ≡ true
 unfolding meaning
-of-responses s n m e = response-kind (m .start) (response-sound s n m e .response)
+of-responses t s n m e = response-kind (m .start) (response-sound t s n m e .response)
 
 pub demand2 : Demand2
 demand2 = record {
   ofRequests = of-requests;
   ofResponses = of-responses;
-  requests = λ t. binary-turns (isScheme (t .scheme)) (readRequest t) (λ s n m r. request-sound t s n m r .sound .valid) (requestToBinary t) (request-replies t);
-  responses = binary-turns true readResponse (λ s n m r. response-sound s n m r .sound .valid) responseToBinary response-replies;
-  binaries = binary-turns true readBinary binary-valid binaryToBinary anew-replies;
+  requests = λ t.
+      binary-turns t (isScheme (t .scheme)) (readRequest t) (λ s n m r. let h = request-sound t s n m r in (h .sound .valid, h .suits)) (requestToBinary t) (request-replies t);
+  responses = λ t. binary-turns t true (readResponse t) (λ s n m r. let h = response-sound t s n m r in (h .sound .valid, h .suits)) (responseToBinary t) (response-replies t);
+  binaries = λ t. binary-turns t true (readBinary t) (λ s n m r. let h = binary-sound t s n m r in (h .sound .valid, h .suits)) (binaryToBinary t) (anew-replies t);
   http1 = http1-turns;
 }

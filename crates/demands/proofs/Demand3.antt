@@ -15,6 +15,7 @@ use Rattle.script.specs.Script.{Answer, accepted, refused, more, Settled, means
 use Rattle.stream.specs.Taking.{message, waits, takeF, takeOff, onto, addOctets, addEntry, addCall, stream, entries, sent}
 use Rattle.stream.proofs.Taking as taking
 use Rattle.stream.proofs.Taking.{Within, Stable}
+use Rattle.messages.specs.Told.{withHead}
 use Rattle.messages.specs.declared.Told.{Told}
 use Rattle.messages.specs.Message.{Message}
 use Rattle.messages.specs.Meaning.{Control, request, response, Meaning, meaning}
@@ -28,11 +29,10 @@ use Rattle.output.specs.Reply.{Reply, writes, refuses, writtenOf, lentAfter, Se
 use Rattle.output.specs.declared.Written.{Written}
 use Rattle.output.specs.declared.Written.the-variants.{Done, Refused}
 use Rattle.output.proofs.Serve.{after-tail}
-use Rattle.turn.specs.Turn.{binaryToHttp1}
 use Rattle.http1_round_trip.specs.RoundTrip.{isRequestOf, RequestOf}
-use Rattle.http1_round_trip.proofs.Back.{request-meanings}
+use Rattle.http1_round_trip.proofs.Back.{request-meanings, text-unused, fits-unused}
 use Rattle.demands.specs.Demand2.{binaryAsHttp1, Kept}
-use Rattle.demands.specs.Demand3.{Space, fresh, lentIn, answerIn, longOf, call, entryIn, calls, entriesIn, spaceOf, streamOf, entriesOf, meaningsOf, NotResponse, NoResponse, readMeaning, Demand3}
+use Rattle.demands.specs.Demand3.{Call, toldOf, replyOf, Space, fresh, lentIn, answerIn, longOf, call, entryIn, calls, entriesIn, spaceOf, streamOf, entriesOf, meaningsOf, NotResponse, NoResponse, readMeaning, Demand3}
 use Rattle.demands.proofs.Demand2.{no, binary-valid, lent, demand2}
 
 -- ---- the request reader of meanings
@@ -56,21 +56,21 @@ module _ (t : Told) where
 
   -- a request that can be written is; nothing else
   unfoldable write : Meaning → Option (List ℕ)
-  write m = cond (valid m && http1Fits m && isRequestOf t (m .control)) (some (http1Of m)) none
+  write m = cond (valid m && http1Fits t m && isRequestOf t (m .control)) (some (http1Of t m)) none
 
-  write-is : (m : Meaning) → RequestOf t m → write m ≡ some (http1Of m)
+  write-is : (m : Meaning) → RequestOf t m → write m ≡ some (http1Of t m)
   unfolding write
   write-is m h = rw (h .0, h .1, h .2)
 
   back : (m : Meaning) (b r : List ℕ) → write m ≡ some b → readMeaning t (b ++ r) ≡ accepted (length b) m
   unfolding write
-  back m b r e = go (valid m && http1Fits m && isRequestOf t (m .control)) refl e
+  back m b r e = go (valid m && http1Fits t m && isRequestOf t (m .control)) refl e
     where
-      go : (x : Bool) → valid m && http1Fits m && isRequestOf t (m .control) ≡ x → cond x (some (http1Of m)) none ≡ some b → readMeaning t (b ++ r) ≡ accepted (length b) m
+      go : (x : Bool) → valid m && http1Fits t m && isRequestOf t (m .control) ≡ x → cond x (some (http1Of t m)) none ≡ some b → readMeaning t (b ++ r) ≡ accepted (length b) m
       go true q h =
-          let z : http1Of m ≡ b = cc in
-          let p = and-split (valid m && http1Fits m) _ q in
-          let v = and-split (valid m) (http1Fits m) (p .0) in
+          let z : http1Of t m ≡ b = cc in
+          let p = and-split (valid m && http1Fits t m) _ q in
+          let v = and-split (valid m) (http1Fits t m) (p .0) in
           rw (← z) (request-meanings t m (v .0, v .1, p .1) r)
       go false q h = no cc
 
@@ -108,19 +108,30 @@ abbrev at : List ℕ → List ℕ → Space
 at front lent = record { whole = front ++ lent; written = length front }
 
 -- what a call does to it: nothing, or it writes a meaning
-data Step (t : Told) (s front lent : List ℕ) : Type 0 where
-  skips : call t (at front lent) s ≡ at front lent → entryIn t (at front lent) s ≡ [] → Step t s front lent
-  adds : (m : Meaning) → valid m ≡ true → http1Fits m ≡ true → onConnection t (m .control) ≡ true → length (http1Of m) ≤ length lent
-      → call t (at front lent) s ≡ at (front ++ http1Of m) (drop (length (http1Of m)) lent)
-      → entryIn t (at front lent) s ≡ (length (http1Of m), m) ∷ [] → Step t s front lent
+data Step (t : Told) (c : Call) (front lent : List ℕ) : Type 0 where
+  skips : call t (at front lent) c ≡ at front lent → entryIn t (at front lent) c ≡ [] → Step t c front lent
+  adds : (m : Meaning) → valid m ≡ true → http1Fits (toldOf t c) m ≡ true → onConnection t (m .control) ≡ true → length (http1Of (toldOf t c) m) ≤ length lent
+      → call t (at front lent) c ≡ at (front ++ http1Of (toldOf t c) m) (drop (length (http1Of (toldOf t c) m)) lent)
+      → entryIn t (at front lent) c ≡ (length (http1Of (toldOf t c) m), m) ∷ [] → Step t c front lent
+
+-- a meaning, with what the call that wrote it was told of a HEAD
+abbrev Wrote : Type 0
+Wrote = ℕ × Meaning
+
+abbrev textOf : Told → Wrote → List ℕ
+textOf t w = http1Of (withHead (w .0) t) (w .1)
 
 -- what is written of meanings, and the entry of each
-abbrev texts : List Meaning → List ℕ
-texts [] = []
-texts (m ∷ ms) = http1Of m ++ texts ms
+abbrev texts : Told → List Wrote → List ℕ
+texts t [] = []
+texts t (w ∷ ws) = textOf t w ++ texts t ws
 
-abbrev measured : Meaning → ℕ × Meaning
-measured m = (length (http1Of m), m)
+abbrev measured : Told → Wrote → ℕ × Meaning
+measured t w = (length (textOf t w), w .1)
+
+-- the meanings alone
+abbrev meant : List Wrote → List Meaning
+meant ws = map (λ w. w .1) ws
 
 abbrev space : List ℕ → ℕ → Space
 space o n = record { whole = o; written = n }
@@ -143,127 +154,129 @@ fitted (refuses k p) o n e = no cc
 
 module _ (t : Told) where
   -- calls in code
-  called : (z : Space) (s o′ : List ℕ) (r : Written) → Served (binaryToHttp1 t s) (lentIn z) o′ r
-      → (answerIn t z s ≡ r) × (call t z s ≡ space (take (z .written) (z .whole) ++ o′) (z .written + longOf r))
+  called : (z : Space) (c : Call) (o′ : List ℕ) (r : Written) → Served (replyOf t c) (lentIn z) o′ r
+      → (answerIn t z c ≡ r) × (call t z c ≡ space (take (z .written) (z .whole) ++ o′) (z .written + longOf r))
   unfolding call answerIn
-  called z s o′ r h = (sym (h .answer), ap₂ (λ (o : List ℕ) (w : Written). space (take (z .written) (z .whole) ++ o) (z .written + longOf w)) (sym (h .after)) (sym (h .answer)))
+  called z c o′ r h = (sym (h .answer), ap₂ (λ (o : List ℕ) (w : Written). space (take (z .written) (z .whole) ++ o) (z .written + longOf w)) (sym (h .after)) (sym (h .answer)))
 
-  called-at : (z : Space) (s o′ : List ℕ) (r : Written) → z .written ≤ length (z .whole) → ServedAt (binaryToHttp1 t s) (z .written) (z .whole) o′ r
-      → (answerIn t z s ≡ r) × (call t z s ≡ space o′ (z .written + longOf r))
+  called-at : (z : Space) (c : Call) (o′ : List ℕ) (r : Written) → z .written ≤ length (z .whole) → ServedAt (replyOf t c) (z .written) (z .whole) o′ r
+      → (answerIn t z c ≡ r) × (call t z c ≡ space o′ (z .written + longOf r))
   unfolding call answerIn
-  called-at z s o′ r k h =
-      let y : Reply = binaryToHttp1 t s in
+  called-at z c o′ r k h =
+      let y : Reply = replyOf t c in
       let e : writtenOf y (length (lentIn z)) ≡ r = ap (writtenOf y) (length-drop (z .written) (z .whole)) ∙ sym (h .answer) in
       let a : take (z .written) (z .whole) ++ lentAfter y (lentIn z) ≡ o′ = after-tail y (z .written) (z .whole) k ∙ sym (h .after) in
       (e, ap₂ (λ (o : List ℕ) (w : Written). space o (z .written + longOf w)) a e)
 
-  unaltered : (z : Space) (s : List ℕ) (k p : ℕ) → answerIn t z s ≡ Refused k p → lentAfter (binaryToHttp1 t s) (lentIn z) ≡ lentIn z
+  unaltered : (z : Space) (c : Call) (k p : ℕ) → answerIn t z c ≡ Refused k p → lentAfter (replyOf t c) (lentIn z) ≡ lentIn z
   unfolding answerIn
-  unaltered z s k p e = lent (binaryToHttp1 t s) .unaltered (lentIn z) k p e
+  unaltered z c k p e = lent (replyOf t c) .unaltered (lentIn z) k p e
 
-  refused-call : (z : Space) (s : List ℕ) (k p : ℕ) → answerIn t z s ≡ Refused k p → (call t z s ≡ z) × (entryIn t z s ≡ [])
+  refused-call : (z : Space) (c : Call) (k p : ℕ) → answerIn t z c ≡ Refused k p → (call t z c ≡ z) × (entryIn t z c ≡ [])
   unfolding call entryIn
-  refused-call z s k p e = (rw (e, unaltered z s k p e) (ap₂ space (take-append-drop (z .written) (z .whole)) (omega arith)), rw e)
+  refused-call z c k p e = (rw (e, unaltered z c k p e) (ap₂ space (take-append-drop (z .written) (z .whole)) (omega arith)), rw e)
 
-  record Accepted (z : Space) (s : List ℕ) (n : ℕ) : Type 0 where
-    kept : Fitted (binaryToHttp1 t s) (lentIn z) n
-    meant : Kept (binaryAsHttp1 t) s (kept .text)
+  record Accepted (z : Space) (c : Call) (n : ℕ) : Type 0 where
+    kept : Fitted (replyOf t c) (lentIn z) n
+    holds : Kept (binaryAsHttp1 (toldOf t c)) (c .input) (kept .text)
 
-  accepted-call : (z : Space) (s : List ℕ) (n : ℕ) → answerIn t z s ≡ Done n → Accepted z s n
+  accepted-call : (z : Space) (c : Call) (n : ℕ) → answerIn t z c ≡ Done n → Accepted z c n
   unfolding answerIn
-  accepted-call z s n e =
-      let f = fitted (binaryToHttp1 t s) (lentIn z) n e in
-      record { kept = f; meant = demand2 .http1 t .kept s (f .text) (f .reply) }
+  accepted-call z c n e =
+      let f = fitted (replyOf t c) (lentIn z) n e in
+      record { kept = f; holds = demand2 .http1 (toldOf t c) .kept (c .input) (f .text) (f .reply) }
 
-  accepted-entry : (z : Space) (s : List ℕ) (n : ℕ) (m : Message) (k : ℕ) → answerIn t z s ≡ Done n → readBinary s ≡ accepted k m → entryIn t z s ≡ (n, meaning m) ∷ []
+  accepted-entry : (z : Space) (c : Call) (n : ℕ) (m : Message) (k : ℕ) → answerIn t z c ≡ Done n → readBinary (toldOf t c) (c .input) ≡ accepted k m → entryIn t z c ≡ (n, meaning m) ∷ []
   unfolding entryIn
-  accepted-entry z s n m k e r = rw (e, r)
+  accepted-entry z c n m k e r = rw (e, r)
 
-  written-call : (front lent : List ℕ) (s : List ℕ) (n : ℕ) (b : List ℕ) → answerIn t (at front lent) s ≡ Done n → n ≡ length b
-      → lentAfter (binaryToHttp1 t s) lent ≡ b ++ drop (length b) lent
-      → call t (at front lent) s ≡ at (front ++ b) (drop (length b) lent)
+  written-call : (front lent : List ℕ) (c : Call) (n : ℕ) (b : List ℕ) → answerIn t (at front lent) c ≡ Done n → n ≡ length b
+      → lentAfter (replyOf t c) lent ≡ b ++ drop (length b) lent
+      → call t (at front lent) c ≡ at (front ++ b) (drop (length b) lent)
   unfolding call
-  written-call front lent s n b e l a =
+  written-call front lent c n b e l a =
       rw (e, take-append-seam front lent, drop-append-seam front lent, a)
       (ap₂ space (sym (append-assoc front b (drop (length b) lent))) (ap (λ (i : ℕ). length front + i) l ∙ sym (length-append front b)))
 
-  step : (s front lent : List ℕ) → Step t s front lent
-  step s front rest = go (answerIn t (at front rest) s) refl
+  step : (c : Call) (front lent : List ℕ) → Step t c front lent
+  step c front rest = go (answerIn t (at front rest) c) refl
     where
-      go : (x : Written) → answerIn t (at front rest) s ≡ x → Step t s front rest
-      go (Refused k p) e = let r = refused-call (at front rest) s k p e in skips (r .0) (r .1)
+      go : (x : Written) → answerIn t (at front rest) c ≡ x → Step t c front rest
+      go (Refused k p) e = let r = refused-call (at front rest) c k p e in skips (r .0) (r .1)
       go (Done n) e =
-          let a = accepted-call (at front rest) s n e in
-          let k = a .meant in
+          let a = accepted-call (at front rest) c n e in
+          let k = a .holds in
           let m : Meaning = meaning (k .message) in
-          let z : a .kept .text ≡ http1Of m = k .written in
+          let z : a .kept .text ≡ http1Of (toldOf t c) m = k .written in
           let room : length (a .kept .text) ≤ length rest = rw (drop-append-seam front rest) at (a .kept .room) in
-          let l = lent (binaryToHttp1 t s) .done rest (a .kept .text) (a .kept .reply) room in
-          let y = accepted-entry (at front rest) s n (k .message) (k .long) e (k .read) in
-          let c = written-call front rest s n (a .kept .text) e (a .kept .long) (l .1) in
-          adds m (binary-valid s (k .long) (k .message) (k .read)) (k .fits) (k .goes) (rw z at room) (rw z at c)
+          let l = lent (replyOf t c) .done rest (a .kept .text) (a .kept .reply) room in
+          let y = accepted-entry (at front rest) c n (k .message) (k .long) e (k .read) in
+          let d = written-call front rest c n (a .kept .text) e (a .kept .long) (l .1) in
+          adds m (binary-valid (toldOf t c) (c .input) (k .long) (k .message) (k .read)) (k .fits) (k .goes) (rw z at room) (rw z at d)
           (y ∙ ap (λ (i : ℕ). (i, m) ∷ []) (a .kept .long ∙ ap length z))
 
   -- ---- a list of calls
 
   -- what the writer turns
-  abbrev Writable : Meaning → Type 0
-  Writable m = (valid m ≡ true) × (http1Fits m ≡ true) × (onConnection t (m .control) ≡ true)
+  abbrev Writable : Wrote → Type 0
+  Writable w = (valid (w .1) ≡ true) × (http1Fits (withHead (w .0) t) (w .1) ≡ true) × (onConnection t (w .1 .control) ≡ true)
 
-  -- from the octets `front` on: what is then there are the meanings ms, written
-  record Left (z : Space) (ss : List (List ℕ)) (front rest : List ℕ) : Type 0 where
-    ms : List Meaning
-    each : Each Writable ms
-    here : calls t z ss ≡ at (front ++ texts ms) (drop (length (texts ms)) rest)
-    room : length (texts ms) ≤ length rest
-    same : entriesIn t z ss ≡ map measured ms
+  -- from the octets `front` on: what is then there are the meanings ws, written
+  record Left (z : Space) (cs : List Call) (front rest : List ℕ) : Type 0 where
+    ws : List Wrote
+    each : Each Writable ws
+    here : calls t z cs ≡ at (front ++ texts t ws) (drop (length (texts t ws)) rest)
+    room : length (texts t ws) ≤ length rest
+    same : entriesIn t z cs ≡ map (measured t) ws
 
   abbrev joined : List (ℕ × Meaning) → List (ℕ × Meaning) → List (ℕ × Meaning)
   joined a b = a ++ b
 
   -- a call that wrote nothing, and the calls behind it
-  left-same : (s : List ℕ) (ss : List (List ℕ)) (front rest : List ℕ) → call t (at front rest) s ≡ at front rest → entryIn t (at front rest) s ≡ []
-      → Left (at front rest) ss front rest → Left (at front rest) (s ∷ ss) front rest
+  left-same : (c : Call) (cs : List Call) (front rest : List ℕ) → call t (at front rest) c ≡ at front rest → entryIn t (at front rest) c ≡ []
+      → Left (at front rest) cs front rest → Left (at front rest) (c ∷ cs) front rest
   unfolding calls entriesIn
-  left-same s ss front rest c e x =
+  left-same c cs front rest d e x =
       record {
-        ms = x .ms;
+        ws = x .ws;
         each = x .each;
-        here = ap (λ (z : Space). calls t z ss) c ∙ x .here;
+        here = ap (λ (z : Space). calls t z cs) d ∙ x .here;
         room = x .room;
-        same = ap₂ joined e (ap (λ (z : Space). entriesIn t z ss) c) ∙ x .same;
+        same = ap₂ joined e (ap (λ (z : Space). entriesIn t z cs) d) ∙ x .same;
       }
 
   -- a call that wrote a message, and the calls behind it
-  left-more : (m : Meaning) → Writable m → (s : List ℕ) (ss : List (List ℕ)) (front rest : List ℕ) → length (http1Of m) ≤ length rest
-      → call t (at front rest) s ≡ at (front ++ http1Of m) (drop (length (http1Of m)) rest) → entryIn t (at front rest) s ≡ measured m ∷ []
-      → Left (at (front ++ http1Of m) (drop (length (http1Of m)) rest)) ss (front ++ http1Of m) (drop (length (http1Of m)) rest)
-      → Left (at front rest) (s ∷ ss) front rest
+  left-more : (w : Wrote) → Writable w → (c : Call) (cs : List Call) (front rest : List ℕ) → length (textOf t w) ≤ length rest
+      → call t (at front rest) c ≡ at (front ++ textOf t w) (drop (length (textOf t w)) rest) → entryIn t (at front rest) c ≡ measured t w ∷ []
+      → Left (at (front ++ textOf t w) (drop (length (textOf t w)) rest)) cs (front ++ textOf t w) (drop (length (textOf t w)) rest)
+      → Left (at front rest) (c ∷ cs) front rest
   unfolding calls entriesIn
-  left-more m h s ss front rest r c e x =
-      let b : List ℕ = http1Of m in
-      let u : List ℕ = texts (x .ms) in
+  left-more w h c cs front rest r y e x =
+      let b : List ℕ = textOf t w in
+      let u : List ℕ = texts t (x .ws) in
       let l : length (b ++ u) ≡ length b + length u = length-append b u in
       let d : length (drop (length b) rest) ≡ _ = length-drop (length b) rest in
       let g = x .room in
       let f : (front ++ b) ++ u ≡ front ++ (b ++ u) = append-assoc front b u in
       let i : drop (length u) (drop (length b) rest) ≡ drop (length (b ++ u)) rest = drop-drop (length u) (length b) rest ∙ ap (λ (n : ℕ). drop n rest) (sym l) in
       record {
-        ms = m ∷ x .ms;
+        ws = w ∷ x .ws;
         each = (h, x .each);
-        here = ap (λ (z : Space). calls t z ss) c ∙ x .here ∙ ap₂ at f i;
+        here = ap (λ (z : Space). calls t z cs) y ∙ x .here ∙ ap₂ at f i;
         room = omega arith;
-        same = ap₂ joined e (ap (λ (z : Space). entriesIn t z ss) c) ∙ ap (λ (k : List (ℕ × Meaning)). measured m ∷ k) (x .same);
+        same = ap₂ joined e (ap (λ (z : Space). entriesIn t z cs) y) ∙ ap (λ (k : List (ℕ × Meaning)). measured t w ∷ k) (x .same);
       }
 
-  left : (ss : List (List ℕ)) (front rest : List ℕ) → Left (at front rest) ss front rest
+  left : (cs : List Call) (front rest : List ℕ) → Left (at front rest) cs front rest
   unfolding calls entriesIn
-  left [] front rest = record { ms = []; each = tt; here = ap (λ (o : List ℕ). at o rest) (sym (append-nil front)); room = omega arith; same = refl }
-  left (s ∷ ss) front rest = go (step s front rest) (λ f r. left ss f r)
+  left [] front rest = record { ws = []; each = tt; here = ap (λ (o : List ℕ). at o rest) (sym (append-nil front)); room = omega arith; same = refl }
+  left (c ∷ cs) front rest = go (step c front rest) (λ f r. left cs f r)
     where
-      go : Step t s front rest → ((f r : List ℕ) → Left (at f r) ss f r) → Left (at front rest) (s ∷ ss) front rest
-      go (skips c e) ih = left-same s ss front rest c e (ih front rest)
-      go (adds m v f g r c e) ih = left-more m (v, f, g) s ss front rest r c e (ih (front ++ http1Of m) (drop (length (http1Of m)) rest))
+      go : Step t c front rest → ((f r : List ℕ) → Left (at f r) cs f r) → Left (at front rest) (c ∷ cs) front rest
+      go (skips d e) ih = left-same c cs front rest d e (ih front rest)
+      go (adds m v f g r d e) ih =
+          let w : Wrote = (c .head, m) in
+          left-more w (v, f, g) c cs front rest r d e (ih (front ++ textOf t w) (drop (length (textOf t w)) rest))
 
   -- ---- where no response is among them
 
@@ -271,73 +284,81 @@ module _ (t : Told) where
   request-of (request m s a p) g f = g
   request-of (response hs s) g f = no cc
 
-  requests-of : (ms : List Meaning) → Each Writable ms → Each NotResponse (map measured ms) → Each (RequestOf t) ms
-  requests-of [] w h = tt
-  requests-of (m ∷ ms) w h = ((w .0 .0, w .0 .1, request-of (m .control) (w .0 .2) (h .0)), requests-of ms (w .1) (h .1))
+  requests-of : (ws : List Wrote) → Each Writable ws → Each NotResponse (map (measured t) ws) → Each (RequestOf t) (meant ws)
+  requests-of [] e h = tt
+  requests-of (w ∷ ws) e h =
+      let f = fits-unused t (w .0) (w .1) (h .0) in
+      ((e .0 .0, sym f ∙ e .0 .1, request-of (w .1 .control) (e .0 .2) (h .0)), requests-of ws (e .1) (h .1))
 
-  stream-texts : (ms : List Meaning) → Each (RequestOf t) ms → stream (write t) ms ≡ texts ms
+  stream-texts : (ws : List Wrote) → Each (RequestOf t) (meant ws) → Each NotResponse (map (measured t) ws) → stream (write t) (meant ws) ≡ texts t ws
   unfolding stream
-  stream-texts [] h = refl
-  stream-texts (m ∷ ms) h = rw (write-is t m (h .0)) (ap (λ (b : List ℕ). http1Of m ++ b) (stream-texts ms (h .1)))
+  stream-texts [] h n = refl
+  stream-texts (w ∷ ws) h n =
+      rw (write-is t (w .1) (h .0)) (ap₂ (λ (a b : List ℕ). a ++ b) (sym (text-unused t (w .0) (w .1) (n .0))) (stream-texts ws (h .1) (n .1)))
 
-  entries-measured : (ms : List Meaning) → Each (RequestOf t) ms → entries (write t) ms ≡ map measured ms
+  entries-measured : (ws : List Wrote) → Each (RequestOf t) (meant ws) → Each NotResponse (map (measured t) ws) → entries (write t) (meant ws) ≡ map (measured t) ws
   unfolding entries
-  entries-measured [] h = refl
-  entries-measured (m ∷ ms) h = rw (write-is t m (h .0)) (ap (λ (k : List (ℕ × Meaning)). measured m ∷ k) (entries-measured ms (h .1)))
+  entries-measured [] h n = refl
+  entries-measured (w ∷ ws) h n =
+      rw (write-is t (w .1) (h .0))
+      (ap₂ (λ (a : List ℕ) (k : List (ℕ × Meaning)). (length a, w .1) ∷ k) (sym (text-unused t (w .0) (w .1) (n .0))) (entries-measured ws (h .1) (n .1)))
 
   -- ---- the calls in a fresh space
 
-  module _ (o : List ℕ) (ss : List (List ℕ)) where
-    all : Left (fresh o) ss [] o
-    all = left ss [] o
+  module _ (o : List ℕ) (cs : List Call) where
+    all : Left (fresh o) cs [] o
+    all = left cs [] o
 
     abbrev text : List ℕ
-    text = texts (all .ms)
+    text = texts t (all .ws)
 
-    untouched-all : (length (spaceOf t o ss .whole) ≡ length o) × (spaceOf t o ss .written ≤ length o)
-        × (drop (spaceOf t o ss .written) (spaceOf t o ss .whole) ≡ drop (spaceOf t o ss .written) o)
+    untouched-all : (length (spaceOf t o cs .whole) ≡ length o) × (spaceOf t o cs .written ≤ length o)
+        × (drop (spaceOf t o cs .written) (spaceOf t o cs .whole) ≡ drop (spaceOf t o cs .written) o)
     untouched-all =
         let l : length (text ++ drop (length text) o) ≡ length text + length (drop (length text) o) = length-append text (drop (length text) o) in
         let d : length (drop (length text) o) ≡ _ = length-drop (length text) o in
         let r : length text ≤ length o = all .room in
-        let w : spaceOf t o ss .written ≡ length text = ap (λ (z : Space). z .written) (all .here) in
-        let c : spaceOf t o ss .whole ≡ text ++ drop (length text) o = ap (λ (z : Space). z .whole) (all .here) in
+        let w : spaceOf t o cs .written ≡ length text = ap (λ (z : Space). z .written) (all .here) in
+        let c : spaceOf t o cs .whole ≡ text ++ drop (length text) o = ap (λ (z : Space). z .whole) (all .here) in
         (ap length c ∙ omega arith, omega arith, ap₂ drop w c ∙ drop-append-seam text (drop (length text) o) ∙ ap (λ (n : ℕ). drop n o) (sym w))
 
-    module _ (h : NoResponse t o ss) where
-      requests : Each (RequestOf t) (all .ms)
-      requests = requests-of (all .ms) (all .each) (rw (all .same) at h)
+    module _ (h : NoResponse t o cs) where
+      none : Each NotResponse (map (measured t) (all .ws))
+      none = rw (all .same) at h
 
-      stream-is : streamOf t o ss ≡ stream (write t) (all .ms)
+      requests : Each (RequestOf t) (meant (all .ws))
+      requests = requests-of (all .ws) (all .each) none
+
+      stream-is : streamOf t o cs ≡ stream (write t) (meant (all .ws))
       stream-is =
-          ap (λ (z : Space). take (z .written) (z .whole)) (all .here) ∙ take-append-seam text (drop (length text) o) ∙ sym (stream-texts (all .ms) requests)
+          ap (λ (z : Space). take (z .written) (z .whole)) (all .here) ∙ take-append-seam text (drop (length text) o) ∙ sym (stream-texts (all .ws) requests none)
 
-      entries-are : entriesOf t o ss ≡ entries (write t) (all .ms)
-      entries-are = all .same ∙ sym (entries-measured (all .ms) requests)
+      entries-are : entriesOf t o cs ≡ entries (write t) (meant (all .ws))
+      entries-are = all .same ∙ sym (entries-measured (all .ws) requests none)
 
-      meanings-are : meaningsOf t o ss ≡ sent (write t) (all .ms)
-      meanings-are = ap (map (λ e. e .1)) entries-are ∙ entries-sent (write t) (all .ms)
+      meanings-are : meaningsOf t o cs ≡ sent (write t) (meant (all .ws))
+      meanings-are = ap (map (λ e. e .1)) entries-are ∙ entries-sent (write t) (meant (all .ws))
 
-      taken-all : (behind : List ℕ) → takeOff (readMeaning t) (streamOf t o ss ++ behind) ≡ onto (entriesOf t o ss) (takeOff (readMeaning t) behind)
-      taken-all behind = rw (stream-is, entries-are) (taking.taken (readMeaning t) (within t) (stays t) (write t) (back t) (all .ms) behind)
+      taken-all : (behind : List ℕ) → takeOff (readMeaning t) (streamOf t o cs ++ behind) ≡ onto (entriesOf t o cs) (takeOff (readMeaning t) behind)
+      taken-all behind = rw (stream-is, entries-are) (taking.taken (readMeaning t) (within t) (stays t) (write t) (back t) (meant (all .ws)) behind)
 
-      left-all : (behind : List ℕ) → takeF (readMeaning t) (length (entriesOf t o ss)) (streamOf t o ss ++ behind) ≡ onto (entriesOf t o ss) (waits behind)
-      left-all behind = rw (stream-is, entries-are) (left-behind (readMeaning t) (write t) (back t) (all .ms) behind)
+      left-all : (behind : List ℕ) → takeF (readMeaning t) (length (entriesOf t o cs)) (streamOf t o cs ++ behind) ≡ onto (entriesOf t o cs) (waits behind)
+      left-all behind = rw (stream-is, entries-are) (left-behind (readMeaning t) (write t) (back t) (meant (all .ws)) behind)
 
 pub demand3 : (t : Told) → Demand3 t
 demand3 t = record {
   called = called t;
   calledAt = called-at t;
-  accepts = λ z s n e.
-      let a = accepted-call t z s n e in
-      let k = a .meant in
-      (k .long, k .message, k .read, accepted-entry t z s n (k .message) (k .long) e (k .read), omega (arith, a .kept .long, a .kept .room));
+  accepts = λ z c n e.
+      let a = accepted-call t z c n e in
+      let k = a .holds in
+      (k .long, k .message, k .read, accepted-entry t z c n (k .message) (k .long) e (k .read), omega (arith, a .kept .long, a .kept .room));
   refuses = refused-call t;
   taken = taken-all t;
   left = left-all t;
-  same = λ o ss h q rs g.
-      let x = taking.same (readMeaning t) (within t) (stays t) (write t) (back t) (all t o ss .ms) (all t q rs .ms) in
-      rw (stream-is t o ss h, stream-is t q rs g, meanings-are t o ss h, meanings-are t q rs g) x;
+  same = λ o cs h q ds g.
+      let x = taking.same (readMeaning t) (within t) (stays t) (write t) (back t) (meant (all t o cs .ws)) (meant (all t q ds .ws)) in
+      rw (stream-is t o cs h, stream-is t q ds g, meanings-are t o cs h, meanings-are t q ds g) x;
   untouched = untouched-all t;
   reading = request-front t .reading;
   first = request-front t .first;

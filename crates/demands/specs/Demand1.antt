@@ -58,14 +58,14 @@ pub record TurnNumbers (turn : List ℕ → Reply) : Type 0 where
 
 -- demand 1 on refusals: of each reader and each turning
 pub record Demand1 : Type 0 where
-  -- the readers of HTTP/1.1, under whatever scheme is told: 2 to 8
+  -- the readers of HTTP/1.1, whatever is told: 2 to 8
   pub requests : (t : Told) → ReadNumbers 8 (readRequest t)
-  pub responses : ReadNumbers 8 readResponse
+  pub responses : (t : Told) → ReadNumbers 8 (readResponse t)
   -- the reader of Binary HTTP: 2 to 12, and it never asks for more
-  pub binaries : ReadNumbers 12 readBinary
-  pub whole : (s : List ℕ) → Settled (readBinary s)
+  pub binaries : (t : Told) → ReadNumbers 12 (readBinary t)
+  pub whole : (t : Told) (s : List ℕ) → Settled (readBinary t s)
   -- the four turnings
   pub requestsTurned : (t : Told) → TurnNumbers (requestToBinary t)
-  pub responsesTurned : TurnNumbers responseToBinary
-  pub binariesAnew : TurnNumbers binaryToBinary
+  pub responsesTurned : (t : Told) → TurnNumbers (responseToBinary t)
+  pub binariesAnew : (t : Told) → TurnNumbers (binaryToBinary t)
   pub binariesTurned : (t : Told) → TurnNumbers (binaryToHttp1 t)

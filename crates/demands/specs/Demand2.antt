@@ -1,5 +1,5 @@
 -- Demand 2 (00): "Turning a message from either form into the other keeps its meaning: control data, fields in order, content and trailers. The only
--- messages that can't be turned are those that document 01 numbers." One statement, `Turns`, of each of the four turnings (01, "The two forms and the
+-- messages that can't be turned are those that document 01 numbers." A stated length is part of the meaning (02, item 5). One statement, `Turns`, of each of the four turnings (01, "The two forms and the
 -- meaning between them", "Numbers a call answers with").
 use Prim.Native.Nat.{ℕ, _<_, _≤_}
 use mathlib.Core.Path.{_≡_}
@@ -36,7 +36,7 @@ pub record Turning : Type 0 where
   pub fits : Meaning → Bool
   -- what is written
   pub write : Meaning → List ℕ
-  -- the reader of the written form, told the same scheme: for a request's control data, or a response's
+  -- the reader of the written form, told the same: for a request's control data, or a response's
   pub back : Control → List ℕ → Answer Message
   -- the written form is read off a stream, so that octets may stand behind; a Binary input is one message
   pub streams : Bool
@@ -44,42 +44,42 @@ pub record Turning : Type 0 where
 -- each reader takes its own kind of message
 abbrev pub http1Reader : Told → Control → List ℕ → Answer Message
 http1Reader t (request m s a p) = readRequest t
-http1Reader t (response hs s) = readResponse
+http1Reader t (response hs s) = readResponse t
 
 -- into Binary, from any reader: every message goes, if it fits
-abbrev pub intoBinary : Bool → (List ℕ → Answer Message) → Turning
-intoBinary told read =
+abbrev pub intoBinary : Told → Bool → (List ℕ → Answer Message) → Turning
+intoBinary t told read =
     record {
       told = told;
       read = read;
       goes = λ m. true;
       fits = binaryFits;
       write = binaryOf;
-      back = λ c. readBinary;
+      back = λ c. readBinary t;
       streams = false;
     }
 
 -- the four turnings: requests as Binary
 abbrev pub requestsAsBinary : Told → Turning
-requestsAsBinary t = intoBinary (isScheme (t .scheme)) (readRequest t)
+requestsAsBinary t = intoBinary t (isScheme (t .scheme)) (readRequest t)
 
 -- responses as Binary
-abbrev pub responsesAsBinary : Turning
-responsesAsBinary = intoBinary true readResponse
+abbrev pub responsesAsBinary : Told → Turning
+responsesAsBinary t = intoBinary t true (readResponse t)
 
 -- Binary written anew
-abbrev pub binaryAnew : Turning
-binaryAnew = intoBinary true readBinary
+abbrev pub binaryAnew : Told → Turning
+binaryAnew t = intoBinary t true (readBinary t)
 
 -- Binary as HTTP/1.1, on a connection of the scheme told
 abbrev pub binaryAsHttp1 : Told → Turning
 binaryAsHttp1 t =
     record {
       told = isScheme (t .scheme);
-      read = readBinary;
+      read = readBinary t;
       goes = λ m. onConnection t (m .control);
-      fits = http1Fits;
-      write = http1Of;
+      fits = http1Fits t;
+      write = http1Of t;
       back = http1Reader t;
       streams = true;
     }
@@ -145,13 +145,13 @@ pub record Turns (w : Turning) (turn : List ℕ → Reply) : Type 0 where
   -- what is answered and left where there is so much room
   pub room : (s : List ℕ) → Lent (turn s)
 
--- demand 2: `Turns` of each of the four turnings
+-- demand 2: `Turns` of each of the four turnings, whatever is told
 pub record Demand2 : Type 0 where
   -- what a reader of HTTP/1.1 accepts is of its kind, and a request's scheme is the one told
   pub ofRequests : (t : Told) (s : List ℕ) (n : ℕ) (m : Message) → readRequest t s ≡ accepted n m → isRequestOf t (meaning m .control) ≡ true
-  pub ofResponses : (s : List ℕ) (n : ℕ) (m : Message) → readResponse s ≡ accepted n m → ofResponse (meaning m .control) ≡ true
+  pub ofResponses : (t : Told) (s : List ℕ) (n : ℕ) (m : Message) → readResponse t s ≡ accepted n m → ofResponse (meaning m .control) ≡ true
   -- the four turnings
   pub requests : (t : Told) → Turns (requestsAsBinary t) (requestToBinary t)
-  pub responses : Turns responsesAsBinary responseToBinary
-  pub binaries : Turns binaryAnew binaryToBinary
+  pub responses : (t : Told) → Turns (responsesAsBinary t) (responseToBinary t)
+  pub binaries : (t : Told) → Turns (binaryAnew t) (binaryToBinary t)
   pub http1 : (t : Told) → Turns (binaryAsHttp1 t) (binaryToHttp1 t)

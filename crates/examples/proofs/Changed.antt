@@ -1,9 +1,15 @@
 -- Every row of the table for 02, by computation.
 use mathlib.Core.Path.{refl}
 use Rattle.examples.specs.Examples.{hex}
-use Rattle.examples.specs.Changes.{Statement, changes}
+use Rattle.examples.specs.Changes.{Statement, widths, headText, statedText, statedBinary, wideText, replies}
 use Rattle.examples.specs.Computing.{computing}
 
 pub changed : Statement
-unfolding computing changes hex
-changed = (refl, (refl, (refl, (refl, (refl, tt)))))
+unfolding computing widths headText statedText statedBinary wideText replies hex
+changed = record {
+  item4 = (refl, (refl, (refl, (refl, (refl, tt)))));
+  item5 = (
+    (refl, refl),
+    ((refl, refl), (refl, ((refl, refl), (refl, ((refl, refl), (refl, ((refl, refl), ((refl, refl), ((refl, refl), ((refl, refl), ((refl, refl), tt))))))))))),
+  );
+}

@@ -6,11 +6,13 @@ use Rattle.numbers.specs.Integer.{extraOf, readMore, readInt, intLen, tagOf, in
 use Rattle.numbers.specs.Digits.{digitOf, charOf, numFrom, numOf, moreOf, countOf, digits}
 use Rattle.script.specs.Script.{crState, lineOf, cutBy, run, free}
 use Rattle.script.specs.Do.{_>>=_}
-use Rattle.messages.specs.Control.{isUnsupported, methodVerdict, pathVerdict, authorityVerdict, isHost, statusVerdict, isInformational, isBodyless, isLowerName, isTrimmedValue}
+use Rattle.messages.specs.Control.{isUnsupported, methodVerdict, pathVerdict, authorityVerdict, isHost, statusVerdict, isInformational, isBodyless, endsAtHead, isLowerName, isTrimmedValue}
 use Rattle.messages.specs.Names.{isHopByHop, kindOf, lineKind, sameKind, linesOf, kept, areTrailers, keptTrailers}
-use Rattle.messages.specs.Rules.{authorityFrom, authorityIn, framingFrom, framingOf, binaryFramingOf, requestBody, nothingStated, contentBody, responseBody, mayState}
-use Rattle.messages.specs.Meaning.{fieldMeans, informationalMeans, contentOf, meaning}
-use Rattle.messages.specs.Valid.{validField, validFields, validSection, validInformational, validHeads, isScheme, validControl, validBody, valid}
+use Rattle.messages.specs.Rules.{authorityFrom, authorityIn, framingFrom, framingOf, binaryFramingOf, requestBody, nothingStated}
+use Rattle.messages.specs.Rules.{lengthAlone, bodylessRule, contentBody, responseBody, statedIn, mayState}
+use Rattle.messages.specs.Told.{isYes}
+use Rattle.messages.specs.Meaning.{fieldMeans, informationalMeans, contentOf, meaning, lengthField}
+use Rattle.messages.specs.Valid.{validField, validFields, validSection, validInformational, validHeads, isScheme, validControl, validBody, validStated, valid, suits}
 use Rattle.messages.specs.Answers.{fieldsNumbers, chunksNumbers, informationalNumbers, informationalLines, padded, rangesOf, noRanges, recordOf}
 use Rattle.http1.specs.Lines.{isOther, requestParts, requestVersion, requestTarget, requestLens, requestOf, statusVersion, isStatusShape, statusLens, statusOf, valueFrom, valueIn, nameTo, fieldLens, fieldOf, chunkLens, chunkOf}
 use Rattle.http1.specs.Read.{fieldLines, section, trailerSection, chunkData, chunksFrom, content, afterHead, request, readRequest, afterFinal, heads, readResponse}
@@ -21,7 +23,7 @@ use Rattle.binary.specs.Read.{trailersAgree, trailerRule, trailers, padding, af
 use Rattle.binary.specs.Read.{afterFinal as afterFinal-binary, afterFinalStatus, afterInformational, afterInformationalStatus, heads as heads-binary}
 use Rattle.binary.specs.Read.{afterIndicator, message, readBinary}
 use Rattle.binary_writer.specs.Write.{counted, fieldBytes, fieldsBytes, sectionBytes, schemeBytes, informationalBytes, controlBytes, binaryOf, binaryFits, toBinary}
-use Rattle.http1_writer.specs.Write.{fieldText, sectionText, requestLine, statusLine, hostField, lengthField, codingField, lengthLine, headLines, informationalText, headText, chunkText, chunkedText, bodyText, http1Of, http1Fits, toHttp1}
+use Rattle.http1_writer.specs.Write.{fieldText, sectionText, requestLine, statusLine, hostField, codingField, lengthLine, headLines, informationalText, headText, chunkText, chunkedText, bodyText, http1Of, http1Fits, toHttp1}
 use Rattle.turn.specs.Turn.{requestToBinary, responseToBinary, binaryToBinary, binaryToHttp1}
 use Rattle.turn.specs.Question.{firstOf, requestQuestion, responseQuestion, binaryQuestion}
 use Rattle.stream.specs.Taking.{takeF, takeOff, resume, stream, entries, sent}
@@ -29,5 +31,5 @@ use Rattle.listing.specs.Listing.{row, endLine, rows, listingOf}
 
 -- names every one that does not open by itself
 unfoldable pub computing : Unit {0}
-unfolding isToken isValue isPath isAuthority classOf hasClass isBlank spanLen all lowerOf isLower sameText trimBack isEmpty push extraOf readMore readInt intLen tagOf intBytes digitOf charOf numFrom numOf moreOf countOf digits crState lineOf cutBy run free _>>=_ isUnsupported methodVerdict pathVerdict authorityVerdict isHost statusVerdict isInformational isBodyless isLowerName isTrimmedValue isHopByHop kindOf lineKind sameKind linesOf kept areTrailers keptTrailers authorityFrom authorityIn framingFrom framingOf binaryFramingOf requestBody nothingStated contentBody responseBody mayState fieldMeans informationalMeans contentOf meaning validField validFields validSection validInformational validHeads isScheme validControl validBody valid fieldsNumbers chunksNumbers informationalNumbers informationalLines padded rangesOf noRanges recordOf isOther requestParts requestVersion requestTarget requestLens requestOf statusVersion isStatusShape statusLens statusOf valueFrom valueIn nameTo fieldLens fieldOf chunkLens chunkOf fieldLines section trailerSection chunkData chunksFrom content afterHead request readRequest afterFinal heads readResponse bind-binary integer string part partWithin ruledPart schemeOf schemePart afterScheme requestControl judgedLine afterNameLength knownLine knownLines bodyLines knownSection openLines section-binary knownContent openChunks content-binary contentAgrees contentRule trailersAgree trailerRule trailers padding afterContent afterHeaders afterHead-binary afterControl requestMessage afterFinal-binary afterFinalStatus afterInformational afterInformationalStatus heads-binary afterIndicator message readBinary counted fieldBytes fieldsBytes sectionBytes schemeBytes informationalBytes controlBytes binaryOf binaryFits fieldText sectionText requestLine statusLine hostField lengthField codingField lengthLine headLines informationalText headText chunkText chunkedText bodyText http1Of http1Fits toBinary toHttp1 requestToBinary responseToBinary binaryToBinary binaryToHttp1 firstOf requestQuestion responseQuestion binaryQuestion takeF takeOff resume stream entries sent row endLine rows listingOf
+unfolding isToken isValue isPath isAuthority classOf hasClass isBlank spanLen all lowerOf isLower sameText trimBack isEmpty push extraOf readMore readInt intLen tagOf intBytes digitOf charOf numFrom numOf moreOf countOf digits crState lineOf cutBy run free _>>=_ isUnsupported methodVerdict pathVerdict authorityVerdict isHost statusVerdict isInformational isBodyless endsAtHead isLowerName isTrimmedValue isHopByHop kindOf lineKind sameKind linesOf kept areTrailers keptTrailers authorityFrom authorityIn framingFrom framingOf binaryFramingOf requestBody nothingStated lengthAlone bodylessRule contentBody responseBody statedIn mayState isYes fieldMeans informationalMeans contentOf meaning validField validFields validSection validInformational validHeads isScheme validControl validBody validStated valid suits fieldsNumbers chunksNumbers informationalNumbers informationalLines padded rangesOf noRanges recordOf isOther requestParts requestVersion requestTarget requestLens requestOf statusVersion isStatusShape statusLens statusOf valueFrom valueIn nameTo fieldLens fieldOf chunkLens chunkOf fieldLines section trailerSection chunkData chunksFrom content afterHead request readRequest afterFinal heads readResponse bind-binary integer string part partWithin ruledPart schemeOf schemePart afterScheme requestControl judgedLine afterNameLength knownLine knownLines bodyLines knownSection openLines section-binary knownContent openChunks content-binary contentAgrees contentRule trailersAgree trailerRule trailers padding afterContent afterHeaders afterHead-binary afterControl requestMessage afterFinal-binary afterFinalStatus afterInformational afterInformationalStatus heads-binary afterIndicator message readBinary counted fieldBytes fieldsBytes sectionBytes schemeBytes informationalBytes controlBytes binaryOf binaryFits fieldText sectionText requestLine statusLine hostField lengthField codingField lengthLine headLines informationalText headText chunkText chunkedText bodyText http1Of http1Fits toBinary toHttp1 requestToBinary responseToBinary binaryToBinary binaryToHttp1 firstOf requestQuestion responseQuestion binaryQuestion takeF takeOff resume stream entries sent row endLine rows listingOf
 computing = tt

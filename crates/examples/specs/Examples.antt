@@ -12,17 +12,17 @@ use Rattle.numbers.specs.Digits.{digitOf}
 use Rattle.numbers.specs.Integer.{readInt}
 use Rattle.numbers.specs.declared.Integer.the-variants.{Value, Cut}
 use Rattle.script.specs.Script.{Answer}
-use Rattle.messages.specs.Told.{plain}
+use Rattle.messages.specs.Told.{plain, withHead}
 use Rattle.messages.specs.declared.Told.{Told}
-use Rattle.messages.specs.Told.{plain}
 use Rattle.messages.specs.Message.{Message}
 use Rattle.messages.specs.Answers.{readingOf, numberOf, placeOf}
 use Rattle.messages.specs.declared.Record.{Record}
+use Rattle.messages.specs.declared.StatedLength.{StatedLength}
 use Rattle.messages.specs.declared.Outcome.{Outcome}
 use Rattle.messages.specs.declared.Outcome.the-variants as outcome
-use Rattle.http1.specs.Read.{readRequest}
+use Rattle.http1.specs.Read.{readRequest, readResponse}
 use Rattle.binary.specs.Read.{readBinary}
-use Rattle.turn.specs.Turn.{requestToBinary, binaryToBinary}
+use Rattle.turn.specs.Turn.{requestToBinary, responseToBinary, binaryToBinary, binaryToHttp1}
 use Rattle.output.specs.Reply.{Reply, writes, refuses}
 
 -- ---- octets by pairs of hexadecimal digits; spaces are passed over
@@ -50,7 +50,17 @@ pub data Example : Type 0 where
   integer : List ℕ → ℕ → Example
   -- reading as an HTTP/1.1 request under http: number, then the length or the refusal's place
   http1 : List ℕ → ℕ → ℕ → Example
-  -- reading as Binary: the same
+  -- reading as an HTTP/1.1 response, told whether it answers a HEAD (0 no, 1 yes): the same
+  http1Reply : ℕ → List ℕ → ℕ → ℕ → Example
+  -- reading as Binary, told the same of it
+  binaryReply : ℕ → List ℕ → ℕ → ℕ → Example
+  -- an accepted HTTP/1.1 response, told so, has this stated length
+  states : ℕ → List ℕ → StatedLength → Example
+  -- an HTTP/1.1 response, told so, becomes these octets of Binary
+  replyBecomes : ℕ → List ℕ → List ℕ → Example
+  -- a Binary message, told so, becomes these octets of HTTP/1.1 under http
+  goesAs : ℕ → List ℕ → List ℕ → Example
+  -- reading as Binary: number, then the length or the refusal's place
   binary : List ℕ → ℕ → ℕ → Example
   -- an accepted Binary message has so many octets of content and so many trailers
   binaryHas : List ℕ → ℕ → ℕ → Example
@@ -61,7 +71,7 @@ pub data Example : Type 0 where
   -- so many octets
   long : List ℕ → ℕ → Example
 
--- a call told http
+-- a call told http, and that its message answers no HEAD
 abbrev pub http : Told
 http = plain 0
 
@@ -75,14 +85,25 @@ Counts (outcome.Message r) c t = (r .content ≡ c) × (r .trailers ≡ t)
 Counts (outcome.Refusal k p) c t = ⊥
 Counts outcome.More c t = ⊥
 
+-- the stated length of an accepted message
+abbrev pub States : Outcome → StatedLength → Type 0
+States (outcome.Message r) x = r .stated ≡ x
+States (outcome.Refusal k p) x = ⊥
+States outcome.More x = ⊥
+
 -- what a row says of the definitions
 abbrev pub Holds : Example → Type 0
 Holds (integer s v) = readInt 0 s ≡ Value v (length s)
 Holds (http1 s k p) = Answers s (readRequest http s) k p
-Holds (binary s k p) = Answers s (readBinary s) k p
-Holds (binaryHas s c t) = Counts (readingOf (readBinary s) .outcome) c t
+Holds (http1Reply h s k p) = Answers s (readResponse (withHead h http) s) k p
+Holds (binaryReply h s k p) = Answers s (readBinary (withHead h http) s) k p
+Holds (states h s x) = States (readingOf (readResponse (withHead h http) s) .outcome) x
+Holds (replyBecomes h s b) = responseToBinary (withHead h http) s ≡ writes b
+Holds (goesAs h s b) = binaryToHttp1 (withHead h http) s ≡ writes b
+Holds (binary s k p) = Answers s (readBinary http s) k p
+Holds (binaryHas s c t) = Counts (readingOf (readBinary http s) .outcome) c t
 Holds (becomes s b) = requestToBinary http s ≡ writes b
-Holds (anew s b) = binaryToBinary s ≡ writes b
+Holds (anew s b) = binaryToBinary http s ≡ writes b
 Holds (long s n) = length s ≡ n
 
 -- each row of a list holds

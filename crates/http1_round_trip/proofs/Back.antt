@@ -26,7 +26,8 @@ use Rattle.messages.proofs.ValidLines.{content-back}
 use Rattle.messages.proofs.Stating.{never-stated, suited}
 use Rattle.http1.specs.Read as http1
 use Rattle.http1.specs.Read.{readRequest, readResponse}
-use Rattle.http1_writer.specs.Write.{sectionText, requestLine, statusLine, informationalText, lengthLine, headLines, headText, bodyText, http1Of, http1Fits, toHttp1}
+use Rattle.http1_writer.specs.Write.{sectionText, requestLine, statusLine, informationalText, unmeasured, lineFor, lengthLine, headLines, headText, bodyText, http1Of}
+use Rattle.http1_writer.specs.Write.{http1Fits, onConnection, toHttp1}
 use Rattle.http1_round_trip.specs.RoundTrip.{isRequestOf, RequestOf, ResponseOf, ReadsBack, RequestsBack, ResponsesBack}
 use Rattle.http1_round_trip.specs.RoundTrip.{RequestMeanings, ResponseMeanings, RequestsApart, ResponsesApart, RequestsHeadUnused}
 use Rattle.http1_round_trip.proofs.Placed.{placedFrom, placedAt}
@@ -200,11 +201,27 @@ responses-apart = λ t l m ol om r q e. apart (responses-back t l ol) (responses
 
 -- ---- what is told of a request
 
-pub requests-head-unused : RequestsHeadUnused
-unfolding toHttp1 http1Fits http1Of headText headLines lengthLine
-requests-head-unused = λ t h m e. go t h (m .control) (m .headers) (m .content) (m .trailers) (m .stated) e
+line-unused : (t : Told) (h : ℕ) (m : Meaning) → ofResponse (m .control) ≡ false → lengthLine (withHead h t) m ≡ lengthLine t m
+unfolding lengthLine
+line-unused t h m e = ap (λ (x : Bool). lineFor (noFields (m .trailers)) x (m .stated) (length (m .content))) (go (m .control) e)
   where
-    go : (t : Told) (h : ℕ) (c : Control) (fs : List Field) (b : List ℕ) (ts : List Field) (x : StatedLength) → ofResponse c ≡ false
-        → toHttp1 (withHead h t) (made c fs b ts x) ≡ toHttp1 t (made c fs b ts x)
-    go t h (request m s a p) fs b ts x e = refl
-    go t h (response hs s) fs b ts x e = let z : _≡_ {A = ℕ} 0 1 = cc in absurd (omega arith)
+    go : (c : Control) → ofResponse c ≡ false → unmeasured (withHead h t) c (m .content) ≡ unmeasured t c (m .content)
+    go (request q s a p) o = refl
+    go (response hs s) o = let z : _≡_ {A = ℕ} 0 1 = cc in absurd (omega arith)
+
+module _ (t : Told) (h : ℕ) (m : Meaning) (e : ofResponse (m .control) ≡ false) where
+  pub text-unused : http1Of (withHead h t) m ≡ http1Of t m
+  unfolding http1Of headText headLines
+  text-unused = rw (line-unused t h m e)
+
+  pub fits-unused : http1Fits (withHead h t) m ≡ http1Fits t m
+  unfolding http1Fits headText headLines
+  fits-unused = rw (line-unused t h m e)
+
+pub requests-head-unused : RequestsHeadUnused
+unfolding toHttp1
+requests-head-unused = λ t h m e. rw (text-unused t h m e, fits-unused t h m e, on t h (m .control))
+  where
+    on : (t : Told) (h : ℕ) (c : Control) → onConnection (withHead h t) c ≡ onConnection t c
+    on t h (request q s a p) = refl
+    on t h (response hs s) = refl

@@ -6,6 +6,7 @@ use mathlib.Core.Bool.{true}
 use mathlib.Core.List.{List}
 use lib.ListN.{length}
 use Rattle.script.specs.Script.{accepted, means}
+use Rattle.messages.specs.declared.Told.{Told}
 use Rattle.messages.specs.Message.{Message}
 use Rattle.messages.specs.Meaning.{meaning}
 use Rattle.binary.specs.Read.{readBinary}
@@ -15,12 +16,12 @@ use Rattle.turn.specs.Turn.{binaryToBinary}
 
 pub record Anew : Type 0 where
   -- what an accepted Binary message means, written anew, is read as the same meaning
-  pub reads : (s : List ℕ) (n : ℕ) (m : Message) → readBinary s ≡ accepted n m → binaryFits (meaning m) ≡ true
-      → means meaning (readBinary (binaryOf (meaning m))) ≡ accepted (length (binaryOf (meaning m))) (meaning m)
+  pub reads : (t : Told) (s : List ℕ) (n : ℕ) (m : Message) → readBinary t s ≡ accepted n m → binaryFits (meaning m) ≡ true
+      → means meaning (readBinary t (binaryOf (meaning m))) ≡ accepted (length (binaryOf (meaning m))) (meaning m)
   -- writing anew twice is writing anew once
-  pub once : (s b : List ℕ) → binaryToBinary s ≡ writes b → binaryToBinary b ≡ writes b
-  -- two Binary messages are written anew alike exactly when they mean the same
-  pub alike : (r s : List ℕ) (k n : ℕ) (l m : Message) → readBinary r ≡ accepted k l → readBinary s ≡ accepted n m → meaning l ≡ meaning m
-      → binaryToBinary r ≡ binaryToBinary s
-  pub apart : (r s b : List ℕ) (k n : ℕ) (l m : Message) → readBinary r ≡ accepted k l → readBinary s ≡ accepted n m → binaryToBinary r ≡ writes b
-      → binaryToBinary s ≡ writes b → meaning l ≡ meaning m
+  pub once : (t : Told) (s b : List ℕ) → binaryToBinary t s ≡ writes b → binaryToBinary t b ≡ writes b
+  -- two Binary messages, whatever is told of each, are written anew alike exactly when they mean the same
+  pub alike : (t u : Told) (r s : List ℕ) (k n : ℕ) (l m : Message) → readBinary t r ≡ accepted k l → readBinary u s ≡ accepted n m → meaning l ≡ meaning m
+      → binaryToBinary t r ≡ binaryToBinary u s
+  pub apart : (t u : Told) (r s b : List ℕ) (k n : ℕ) (l m : Message) → readBinary t r ≡ accepted k l → readBinary u s ≡ accepted n m
+      → binaryToBinary t r ≡ writes b → binaryToBinary u s ≡ writes b → meaning l ≡ meaning m
