@@ -24,7 +24,7 @@ use Rattle.messages.specs.Valid.{validFields, validSection, validHeads, validCo
 use Rattle.messages.specs.declared.StatedLength.{StatedLength}
 use Rattle.messages.specs.declared.StatedLength.the-variants.{Missing, Of}
 use Rattle.messages.proofs.Verdicts.{status-rule}
-use Rattle.messages.proofs.Valid.{section-fields, section-few, first-ok, head-ok, response-ok, request-ok, meaning-ok}
+use Rattle.messages.proofs.Valid.{section-fields, section-few, first-ok, head-ok, response-ok, meaning-ok}
 use Rattle.messages.proofs.ValidLines.{said}
 use Rattle.messages.proofs.Stating.{LinesOk, fields-ok, stated-lines, stated-few, stated-ok}
 use Rattle.binary.specs.Reader.{got, Reader}
@@ -133,7 +133,8 @@ fields-sound host fs v h = record { lines = fields-ok host fs (section-fields ho
 early-late : (n k : ℕ) → isInformational n ≡ true → isInformational k ≡ false → n ≡ k → ⊥
 early-late n k e l q = let z : _≡_ {A = ℕ} 0 1 = cc in omega arith
 
-module _ (n k : ℕ) (u : statusVerdict n ≡ 0) (v : statusVerdict k ≡ 0) (late : isInformational n ≡ false) (after : isInformational k ≡ false) (x y : List ℕ) where
+module _ (n k : ℕ) (u : statusVerdict n ≡ 0) (v : statusVerdict k ≡ 0) (late : isInformational n ≡ false) (after : isInformational k ≡ false)
+    (x y : List ℕ) where
   heads-apart : (hs ks : List Informational) → validHeads hs ≡ true → validHeads ks ≡ true
       → length (informationalBytes hs) ≤ binaryMost → length (informationalBytes ks) ≤ binaryMost
       → informationalBytes hs ++ (intBytes n ++ x) ≡ informationalBytes ks ++ (intBytes k ++ y) → (hs ≡ ks) × (n ≡ k) × (x ≡ y)
@@ -144,15 +145,19 @@ module _ (n k : ℕ) (u : statusVerdict n ≡ 0) (v : statusVerdict k ≡ 0) (la
       let i : List ℕ = intBytes (j .status) in
       let s : List ℕ = sectionBytes (j .fields) in
       let r : List ℕ = informationalBytes ks in
-      let q : intBytes n ++ x ≡ i ++ (s ++ (r ++ (intBytes k ++ y))) = e ∙ append-assoc (i ++ s) r (intBytes k ++ y) ∙ append-assoc i s (r ++ (intBytes k ++ y)) in
-      absurd (early-late (j .status) n (o .early) late (sym (int-apart n (j .status) x _ (status-small n u) (status-small (j .status) (o .status)) q .0)))
+      let q : intBytes n ++ x ≡ i ++ (s ++ (r ++ (intBytes k ++ y))) =
+      e ∙ append-assoc (i ++ s) r (intBytes k ++ y) ∙ append-assoc i s (r ++ (intBytes k ++ y)) in
+      let z = int-apart n (j .status) x _ (status-small n u) (status-small (j .status) (o .status)) q in
+      absurd (early-late (j .status) n (o .early) late (sym (z .0)))
   heads-apart (h ∷ hs) [] a b f g e =
       let o = head-ok h hs a .0 in
       let i : List ℕ = intBytes (h .status) in
       let s : List ℕ = sectionBytes (h .fields) in
       let r : List ℕ = informationalBytes hs in
-      let q : intBytes k ++ y ≡ i ++ (s ++ (r ++ (intBytes n ++ x))) = sym e ∙ append-assoc (i ++ s) r (intBytes n ++ x) ∙ append-assoc i s (r ++ (intBytes n ++ x)) in
-      absurd (early-late (h .status) k (o .early) after (sym (int-apart k (h .status) y _ (status-small k v) (status-small (h .status) (o .status)) q .0)))
+      let q : intBytes k ++ y ≡ i ++ (s ++ (r ++ (intBytes n ++ x))) =
+      sym e ∙ append-assoc (i ++ s) r (intBytes n ++ x) ∙ append-assoc i s (r ++ (intBytes n ++ x)) in
+      let z = int-apart k (h .status) y _ (status-small k v) (status-small (h .status) (o .status)) q in
+      absurd (early-late (h .status) k (o .early) after (sym (z .0)))
   heads-apart (h ∷ hs) (j ∷ ks) a b f g e =
       let o = head-ok h hs a in
       let p = head-ok j ks b in
@@ -167,8 +172,10 @@ module _ (n k : ℕ) (u : statusVerdict n ≡ 0) (v : statusVerdict k ≡ 0) (la
       ∙ append-assoc (i′ ++ s′) (informationalBytes ks) (intBytes k ++ y) ∙ append-assoc i′ s′ r′ in
       let bf = both-fit (i ++ s) (informationalBytes hs) f in
       let bg = both-fit (i′ ++ s′) (informationalBytes ks) g in
-      let z = int-apart (h .status) (j .status) (s ++ r) (s′ ++ r′) (status-small (h .status) (o .0 .status)) (status-small (j .status) (p .0 .status)) q in
-      let w = section-apart (h .fields) (j .fields) r r′ (fields-sound true (h .fields) (o .0 .fields) (both-fit i s (bf .0) .1)) (fields-sound true (j .fields) (p .0 .fields) (both-fit i′ s′ (bg .0) .1)) (z .1) in
+      let z = int-apart (h .status) (j .status) (s ++ r) (s′ ++ r′) (status-small _ (o .0 .status)) (status-small _ (p .0 .status)) q in
+      let sh = fields-sound true (h .fields) (o .0 .fields) (both-fit i s (bf .0) .1) in
+      let sj = fields-sound true (j .fields) (p .0 .fields) (both-fit i′ s′ (bg .0) .1) in
+      let w = section-apart (h .fields) (j .fields) r r′ sh sj (z .1) in
       let t = heads-apart hs ks (o .1) (p .1) (bf .1) (bg .1) (w .1) in
       let c : h ≡ j = same-head (z .0) (w .0) in
       (same-heads c (t .0), t .1, t .2)
@@ -176,7 +183,8 @@ module _ (n k : ℕ) (u : statusVerdict n ≡ 0) (v : statusVerdict k ≡ 0) (la
 -- ---- control data
 
 -- of control data with a framing indicator in front, and others behind them
-control-apart : (c d : Control) (x y : List ℕ) → validControl c ≡ true → validControl d ≡ true → length (controlRest c) ≤ binaryMost → length (controlRest d) ≤ binaryMost
+control-apart : (c d : Control) (x y : List ℕ) → validControl c ≡ true → validControl d ≡ true
+    → length (controlRest c) ≤ binaryMost → length (controlRest d) ≤ binaryMost
     → intBytes (indicatorOf c) ++ (controlRest c ++ x) ≡ intBytes (indicatorOf d) ++ (controlRest d ++ y) → (c ≡ d) × (x ≡ y)
 control-apart (request m s a p) (request m′ s′ a′ p′) x y u v f g e =
     let z = reads-apart (reads-request m a p s 0 x u) (reads-request m′ a′ p′ s′ 0 y v) (int-apart 0 0 _ _ (lit< tt) (lit< tt) e .1) in
@@ -191,7 +199,9 @@ control-apart (response hs n) (response ks k) x y u v f g e =
     let h = informationalBytes hs in
     let j = informationalBytes ks in
     let q = sym (append-assoc h (intBytes n) x) ∙ int-apart 1 1 _ _ (lit< tt) (lit< tt) e .1 ∙ append-assoc j (intBytes k) y in
-    let z = heads-apart n k (o .status) (p .status) (o .late) (p .late) x y hs ks (o .heads) (p .heads) (both-fit h (intBytes n) f .0) (both-fit j (intBytes k) g .0) q in
+    let fh = both-fit h (intBytes n) f .0 in
+    let fj = both-fit j (intBytes k) g .0 in
+    let z = heads-apart n k (o .status) (p .status) (o .late) (p .late) x y hs ks (o .heads) (p .heads) fh fj q in
     (same-response (z .0) (z .1), z .2)
 
 -- ---- whole meanings
@@ -213,8 +223,9 @@ tail-apart l m vl vm fl fm e =
     let om = meaning-ok m vm in
     let h = section-apart (headerOf l) (headerOf m) _ _ (header-sound l vl (fl .headers)) (header-sound m vm (fm .headers)) e in
     let c = counted-apart (l .content) (m .content) _ _ (counted-fits (l .content) (fl .content)) (counted-fits (m .content) (fm .content)) (h .1) in
-    let t = section-apart (l .trailers) (m .trailers) [] [] (fields-sound false (l .trailers) (ol .trailers) (fl .trailers)) (fields-sound false (m .trailers) (om .trailers) (fm .trailers))
-    (ap (λ (w : List ℕ). w ++ []) (c .1)) in
+    let sl = fields-sound false (l .trailers) (ol .trailers) (fl .trailers) in
+    let sm = fields-sound false (m .trailers) (om .trailers) (fm .trailers) in
+    let t = section-apart (l .trailers) (m .trailers) [] [] sl sm (ap (λ (w : List ℕ). w ++ []) (c .1)) in
     (h .0, c .0, t .0)
 
 pub unique : Unique
@@ -229,5 +240,6 @@ unique = λ l m vl fl vm fm e.
     let t = tail-apart l m vl vm kl km (c .1) in
     let host : Bool = ofResponse (l .control) in
     let w : validFields host (m .headers) ≡ true = rw (c .0) (section-fields (ofResponse (m .control)) (m .headers) (om .headers)) in
-    let h = header-apart host (l .stated) (m .stated) l m (l .headers) (m .headers) (ol .stated) (om .stated) (section-fields host (l .headers) (ol .headers)) w (t .0) in
+    let v : validFields host (l .headers) ≡ true = section-fields host (l .headers) (ol .headers) in
+    let h = header-apart host (l .stated) (m .stated) l m (l .headers) (m .headers) (ol .stated) (om .stated) v w (t .0) in
     same-meaning (c .0) (h .1) (t .1) (t .2) (h .0)

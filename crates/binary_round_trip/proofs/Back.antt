@@ -1,5 +1,5 @@
 -- The round trip of Binary HTTP, and what follows from it. Assumes nothing.
-use mathlib.Core.Path.{_≡_, refl, sym, ap, _∙_, subst}
+use mathlib.Core.Path.{_≡_, refl, ap, _∙_, subst}
 use mathlib.Core.Bool.{Bool, true, false, not}
 use mathlib.Core.List.{List, [], _++_, append-assoc, append-nil}
 use Prim.Native.Nat.{ℕ, suc, _+_, _≤_, _<_}
@@ -11,7 +11,6 @@ use Rattle.octets.specs.Limits.{binaryMost, informationalMost}
 use Rattle.octets.specs.Refusals.{cutOff}
 use Rattle.numbers.specs.Integer.{intLen, intBytes}
 use Rattle.numbers.proofs.IntegerLaws.{int-length}
-use Rattle.script.specs.Script.{Answer, accepted, refused, more, means}
 use Rattle.messages.specs.Message.{isResponse}
 use Rattle.messages.specs.Names.{keptTrailers}
 use Rattle.messages.specs.Meaning.{Control, request, response, controlMeans, Meaning, meaning}

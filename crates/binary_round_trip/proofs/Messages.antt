@@ -110,7 +110,8 @@ module _ (host body : Bool) (m : Meaning) (ok : TailOk host body m) where
   reads-header : (at : ℕ) (rest : List ℕ)
       → Reads (section true) at (sectionBytes (headerOf m)) rest (record { lines = sectionAt at (headerOf m); end = at + length (sectionBytes (headerOf m)) })
   reads-header at rest =
-      reads-section (headerOf m) at rest (stated-lines (m .stated) (m .headers) (fields-ok host (m .headers) (section-fields host (m .headers) (ok .headers)))) (ok .lines) (ok .headersFit)
+      let l = fields-ok host (m .headers) (section-fields host (m .headers) (ok .headers)) in
+      reads-section (headerOf m) at rest (stated-lines (m .stated) (m .headers) l) (ok .lines) (ok .headersFit)
 
   reads-bare : m .stated ≡ Missing → (at : ℕ) (rest : List ℕ)
       → Reads (section true) at (sectionBytes (m .headers)) rest (record { lines = sectionAt at (m .headers); end = at + length (sectionBytes (m .headers)) })
@@ -229,6 +230,7 @@ reads-response t w all n c s e late ok (x ∷ hs) (suc f) at is v h g k =
     let few : leb informationalMost (length is) ≡ false = lt-leb informationalMost (length is) (omega arith) in
     let u : nothingStated (at + length i + length d) (binaryFramingOf (sectionAt (at + length i) (x .fields))) ≡ good (Sized 0) =
     none-stated (x .fields) (at + length i) _ (o .0 .fields) in
+    let l = fields-ok true (x .fields) (section-fields true (x .fields) (o .0 .fields)) in
     let ih = reads-response t w all n c s e late ok hs f q (is ++ headAt at x ∷ []) (o .1) (omega arith) (omega arith) (b .1) in
     reads-as (ap₂ (λ (l : List InformationalRead) (z : ℕ). placedFrom (responseStart l n) z w) e3 e2)
     (rw (append-assoc (i ++ d) y (intBytes n ++ tailBytes w), append-assoc i d (y ++ (intBytes n ++ tailBytes w)))
@@ -236,4 +238,4 @@ reads-response t w all n c s e late ok (x ∷ hs) (suc f) at is v h g k =
     (reads-bind _ (reads-status (x .status) at _ (o .0 .status))
     (before _ (reads-tell _ _ _ _ (status-good (x .status) at (o .0 .status)))
     (rw (o .0 .early, few)
-    (reads-bind _ (reads-section (x .fields) _ _ (fields-ok true (x .fields) (section-fields true (x .fields) (o .0 .fields))) (section-few true (x .fields) (o .0 .fields)) (both-fit i d (b .0) .1)) (before _ (reads-tell _ _ _ _ u) ih)))))))
+    (reads-bind _ (reads-section (x .fields) _ _ l (section-few true (x .fields) (o .0 .fields)) (both-fit i d (b .0) .1)) (before _ (reads-tell _ _ _ _ u) ih)))))))

@@ -164,10 +164,9 @@ module _ (s ranges : List ℕ) (k n : ℕ) where
   unfolding sectionBytes
   put-header x e p q t =
       let fs = map fieldMeans (fieldsIn s ranges k n) in
-      put-as
-      (
+      put-as (
         counted-is _ _ (header-fields x s ranges k n)
-        ∙ ap (λ (w : List ℕ). intBytes (statedSize x + fieldsSize ranges k n) ++ w) (fields-append (statedFields x) fs),
+            ∙ ap (λ (w : List ℕ). intBytes (statedSize x + fieldsSize ranges k n) ++ w) (fields-append (statedFields x) fs),
         refl,
       )
       (put-then (rw e at p) (put-then q t))

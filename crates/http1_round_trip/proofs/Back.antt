@@ -68,7 +68,8 @@ made c fs b ts x = record { control = c; headers = fs; content = b; trailers = t
 other : {A : Type 1} → false ≡ true → A
 other e = let z : _≡_ {A = ℕ} 0 1 = cc in absurd (omega arith)
 
-unstated-request : (m : List ℕ) (s : ℕ) (a p : List ℕ) (fs : List Field) (b : List ℕ) (ts : List Field) (n : ℕ) → valid (made (request m s a p) fs b ts (Of n)) ≡ true → ⊥
+unstated-request : (m : List ℕ) (s : ℕ) (a p : List ℕ) (fs : List Field) (b : List ℕ) (ts : List Field) (n : ℕ)
+    → valid (made (request m s a p) fs b ts (Of n)) ≡ true → ⊥
 unstated-request m s a p fs b ts n v =
     let w : Meaning = made (request m s a p) fs b ts (Of n) in
     let e : Of n ≡ Missing = never-stated (Of n) w refl (meaning-ok w v .stated) in
@@ -150,14 +151,16 @@ told-scheme t (response hs s) v e = cc
 told-scheme t (request m s a p) v e = rw (eqb-true s (t .scheme) e) at (request-ok m a p s v .scheme)
 
 -- the message that is taken, with its places
-pub request-taken : (t : Told) (m : Meaning) → RequestOf t m → (rest : List ℕ) → readRequest t (http1Of t m ++ rest) ≡ accepted (length (http1Of t m)) (placedAt t 0 m)
+pub request-taken : (t : Told) (m : Meaning) → RequestOf t m → (rest : List ℕ)
+    → readRequest t (http1Of t m ++ rest) ≡ accepted (length (http1Of t m)) (placedAt t 0 m)
 unfolding readRequest
 request-taken t m o rest =
     rw (told-scheme t (m .control) (meaning-ok m (o .0) .control) (o .2))
     (reads (request-back t (m .control) (m .headers) (m .content) (m .trailers) (m .stated) (o .0) (o .1) (o .2)) rest
     ∙ from-start (length (http1Of t m)) (placedAt t 0 m))
 
-pub response-taken : (t : Told) (m : Meaning) → ResponseOf t m → (rest : List ℕ) → readResponse t (http1Of t m ++ rest) ≡ accepted (length (http1Of t m)) (placedAt t 0 m)
+pub response-taken : (t : Told) (m : Meaning) → ResponseOf t m → (rest : List ℕ)
+    → readResponse t (http1Of t m ++ rest) ≡ accepted (length (http1Of t m)) (placedAt t 0 m)
 unfolding readResponse
 response-taken t m o rest =
     reads (response-back t (m .control) (m .headers) (m .content) (m .trailers) (m .stated) (o .0) (o .1) (o .2) (o .3)) rest

@@ -1,6 +1,6 @@
 -- What the rules on host and lengths say of a written head, and what is kept of it.
 use mathlib.Core.Path.{_≡_, refl, sym, ap, _∙_}
-use mathlib.Core.Bool.{Bool, true, false, cond, not, _&&_}
+use mathlib.Core.Bool.{Bool, true, false, cond}
 use mathlib.Core.List.{List, [], _∷_, _++_, map}
 use Prim.Native.Nat.{ℕ, _+_, _≤_}
 use native.Mathlib.Omega.{arith}
@@ -223,7 +223,8 @@ module _ (t : Told) (s : ℕ) (w : Meaning) (hs : List Informational) (control :
   unfolding responseBody contentBody requestBody validBody
   body-with end p true true n e =
       let z = and-split (isEmpty (w .content)) (noFields (w .trailers)) (rw e at (fits .body)) in
-      rw (e, stated-told (w .stated) p) (bodyless-good t s end (w .stated) p hs w control stated ∙ ap (λ (k : ℕ). good (Sized k)) (no-octets (w .content) (z .0)))
+      let q = bodyless-good t s end (w .stated) p hs w control stated in
+      rw (e, stated-told (w .stated) p) (q ∙ ap (λ (k : ℕ). good (Sized k)) (no-octets (w .content) (z .0)))
   body-with end p true false n e = rw (e, le-leb (length (w .content)) contentMost few)
   body-with end p false true n e = let z = and-split (isEmpty (w .content)) (noFields (w .trailers)) (rw e at (fits .body)) .1 in cc
   body-with end p false false n e = rw e

@@ -2,11 +2,10 @@
 use mathlib.Core.Path.{_≡_, refl}
 use mathlib.Core.Bool.{Bool, true, false, not}
 use mathlib.Core.List.{List, [], _∷_, _++_, append-assoc}
-use Prim.Native.Nat.{ℕ, zero, suc, _+_, _≤_}
+use Prim.Native.Nat.{ℕ, _+_, _≤_}
 use native.Mathlib.Omega.{arith}
-use borrow.Author.Tests.{eq-eqb, not-true}
 use lib.Dec.{leb, lit≤}
-use lib.ListN.{length, getD, drop}
+use lib.ListN.{length, drop}
 use lib.Seq.{drop-append-add, take-append-seam, take-length}
 use Rattle.octets.specs.Ascii.{ascii}
 use Rattle.octets.specs.Class.{isToken, isValue, isPath, isAuthority, classOf, hasClass, token, value, path, authority, isBlank}
@@ -14,9 +13,9 @@ use Rattle.octets.specs.Text.{spanLen, all, lowerOf, isLower, trimBack, isEmpty
 use Rattle.octets.specs.Limits.{authorityMost, contentMost}
 use Rattle.octets.proofs.Kit.{and-split, past, into, no-true}
 use Rattle.octets.proofs.Classes.{not-at, no-cr, no-lf, token-value, path-value, authority-value, blank-authority}
-use Rattle.octets.proofs.Texts.{all-both, all-implied, all-at}
-use Rattle.numbers.specs.Digits.{charOf, digits}
-use Rattle.numbers.proofs.DigitLaws.{digits-pass, digits-value}
+use Rattle.octets.proofs.Texts.{all-both, all-implied}
+use Rattle.numbers.specs.Digits.{digits}
+use Rattle.numbers.proofs.DigitLaws.{digits-value}
 use Rattle.script.specs.Script.{free}
 use Rattle.script.specs.Do.{piece, good}
 use Rattle.messages.specs.Control.{methodVerdict, pathVerdict, statusVerdict, isHost, isLowerName, isTrimmedValue}

@@ -97,7 +97,9 @@ module _ (t : Told) (s : ℕ) (w : Meaning) (all : List Informational) (control 
       let l1 : length ((i ++ crlf) ++ sectionText final) ≡ length (i ++ crlf) + length (sectionText final) = length-append (i ++ crlf) (sectionText final) in
       let l2 : length (i ++ crlf) ≡ length i + 2 = length-append i crlf in
       let k = status-clean s in
-      reads-as (ap (λ (x : StatedLength). placedFrom (responseStart is s) (at + length (i ++ crlf)) final (w .content) (w .trailers) x) (response-stated t s w all control v few stated fits (at + length (i ++ crlf))))
+      let q : ℕ = at + length (i ++ crlf) in
+      let e = response-stated t s w all control v few stated fits q in
+      reads-as (ap (λ (x : StatedLength). placedFrom (responseStart is s) q final (w .content) (w .trailers) x) e)
       (reads-bind _ (reads-word (lineWithin left) at i (k .lf, k .cr, omega arith))
       (before _ (reads-tell _ _ _ (status-good s at verdict))
       (rw late

@@ -1,6 +1,7 @@
 -- What is written as HTTP/1.1 is read back (00, demand 2: "Turning a message from either form into the other keeps its meaning: control data,
--- fields in order, content and trailers"; 01, "How we write"; 02, item 5: "Demand 2 includes it"). It serves demand 3 too, call by call: "the request reader, told the same scheme, first
--- takes off exactly the meanings of the accepted calls, in order. Each is as long as its call said, and what is then left is exactly the bytes behind."
+-- fields in order, content and trailers"; 01, "How we write"; 02, item 5: "Demand 2 includes it"). It serves demand 3 too, call by call: "the request reader,
+-- told the same scheme, first takes off exactly the meanings of the accepted calls, in order. Each is as long as its call said, and what is then left is exactly
+-- the bytes behind."
 use mathlib.Core.Path.{_≡_}
 use mathlib.Core.Bool.{Bool, true, false}
 use mathlib.Core.List.{List, _++_}

@@ -1,11 +1,11 @@
 -- Lines that can be written, the line of a length, and what the rules say of a head that it begins. Both forms' round trips use it.
 use Prim.Native.Nat.{ℕ, zero, suc, _≤_, _<_, min}
-use mathlib.Core.Path.{_≡_, refl, ap, _∙_}
+use mathlib.Core.Path.{_≡_, refl, ap}
 use mathlib.Core.Bool.{Bool, true, false, cond, not, _&&_}
 use mathlib.Core.List.{List, [], _∷_, _++_, map}
 use native.Mathlib.Omega.{arith}
 use borrow.Author.Tests.{eq-eqb, not-true, le-leb, leb-true, ltb-true}
-use lib.Dec.{leb, ltb, eqb, lit≤}
+use lib.Dec.{leb, eqb, lit≤}
 use lib.ListN.{length, getD}
 use Rattle.octets.specs.Ascii.{ascii}
 use Rattle.octets.specs.Class.{isToken, isValue, isPath, isAuthority, classOf, hasClass, value, isBlank}
@@ -19,8 +19,8 @@ use Rattle.script.specs.Do.{good}
 use Rattle.messages.specs.Control.{isLowerName, isTrimmedValue, endsAtHead}
 use Rattle.messages.specs.Message.{FieldRead}
 use Rattle.messages.specs.Names.{kindOf, lineKind, sameKind, linesOf, kept}
-use Rattle.messages.specs.Rules.{framingFrom, framingOf, binaryFramingOf, nothingStated, lengthAlone, bodylessRule, lengthIn, statedIn}
-use Rattle.messages.specs.Meaning.{Field, Informational, Control, request, response, Meaning, lengthField, statedFields}
+use Rattle.messages.specs.Rules.{framingFrom, framingOf, binaryFramingOf, nothingStated, lengthAlone, bodylessRule, lengthIn}
+use Rattle.messages.specs.Meaning.{Field, Informational, response, Meaning, lengthField, statedFields}
 use Rattle.messages.specs.Valid.{validFields, validBody, mayStateLength, validStated, isMissing, suits}
 use Rattle.messages.specs.declared.Body.the-variants.{Sized}
 use Rattle.messages.specs.declared.Framing.{Framing}
@@ -30,8 +30,8 @@ use Rattle.messages.specs.declared.Kind.the-variants as kind
 use Rattle.messages.specs.declared.StatedLength.{StatedLength}
 use Rattle.messages.specs.declared.StatedLength.the-variants.{Missing, Of}
 use Rattle.messages.specs.declared.Told.{Told}
-use Rattle.messages.proofs.Valid.{first-ok, section-few}
-use Rattle.messages.proofs.ValidLines.{said, no-lengths, no-codings, unstated, unstated-binary}
+use Rattle.messages.proofs.Valid.{first-ok}
+use Rattle.messages.proofs.ValidLines.{said, no-lengths, no-codings}
 
 -- ---- lines that can be written: of valid fields, and those that a head gains
 
@@ -143,7 +143,8 @@ pub stated-lines : (x : StatedLength) (fs : List Field) → LinesOk fs → Lines
 stated-lines Missing fs ok = ok
 stated-lines (Of n) fs ok = (length-line n, ok)
 
-pub stated-few : (m : Meaning) → length (m .headers) ≤ linesMost → validStated (m .stated) m ≡ true → length (statedFields (m .stated) ++ m .headers) ≤ linesMost
+pub stated-few : (m : Meaning) → length (m .headers) ≤ linesMost → validStated (m .stated) m ≡ true
+    → length (statedFields (m .stated) ++ m .headers) ≤ linesMost
 stated-few m few v = go (m .stated) v
   where
     go : (x : StatedLength) → validStated x m ≡ true → length (statedFields x ++ m .headers) ≤ linesMost
@@ -160,7 +161,8 @@ pub stated-back : (x : StatedLength) (p : ℕ) → lengthIn (framingFor x p) ≡
 stated-back Missing p = refl
 stated-back (Of n) p = refl
 
-pub bodyless-good : (t : Told) (n end : ℕ) (x : StatedLength) (p : ℕ) (hs : List Informational) (m : Meaning) → m .control ≡ response hs n → validStated x m ≡ true
+pub bodyless-good : (t : Told) (n end : ℕ) (x : StatedLength) (p : ℕ) (hs : List Informational) (m : Meaning)
+    → m .control ≡ response hs n → validStated x m ≡ true
     → bodylessRule t n end (framingFor x p) ≡ good (Sized 0)
 unfolding bodylessRule nothingStated lengthAlone validStated
 bodyless-good t n end Missing p hs m c v = go (eqb n 204)

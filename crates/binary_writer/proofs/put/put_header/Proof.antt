@@ -23,14 +23,14 @@ put-int-requires : tie.Need-put-int-requires
 put-int-requires c κs = search needs
 
 put-stated-requires : tie.Need-put-stated-requires
-put-stated-requires c κs = 
+put-stated-requires c κs =
     let e = header-sum (c .before .before .before .before .before .before .before .before .before .before .args .stated) (c .before .before .before .before .before .before .before .before .before .before .args .ranges .now) (c .before .before .before .before .before .before .before .before .before .before .args .k) (c .before .before .before .before .before .before .before .before .before .before .args .n) (c .before .before .before .before .before .before .stated-size .ensures .0) (c .before .before .before .before .before .fields-size .ensures .0) in
     let i = ap (λ (n : ℕ). intLen n) e in
     let p = puts (c .before .before .before .put-int .ensures) (omega (arith, c .before .before .before .before .before .before .before .before .before .before .pre .1, i)) in
     omega (arith, c .before .before .before .before .before .before .before .before .before .before .pre .1, c .before .before .before .put-int .kept, p .next, i)
 
 put-fields-requires : tie.Need-put-fields-requires
-put-fields-requires c κs = 
+put-fields-requires c κs =
     let e = header-sum (c .before .before .before .before .before .before .before .before .before .before .before .before .before .before .args .stated) (c .before .before .before .before .before .before .before .before .before .before .before .before .before .before .args .ranges .now) (c .before .before .before .before .before .before .before .before .before .before .before .before .before .before .args .k) (c .before .before .before .before .before .before .before .before .before .before .before .before .before .before .args .n) (c .before .before .before .before .before .before .before .before .before .before .stated-size .ensures .0) (c .before .before .before .before .before .before .before .before .before .fields-size .ensures .0) in
     let i = ap (λ (n : ℕ). intLen n) e in
     let p = puts (c .before .before .before .before .before .before .before .put-int .ensures) (omega (arith, c .before .before .before .before .before .before .before .before .before .before .before .before .before .before .pre .1, i)) in
@@ -40,7 +40,7 @@ same-length : tie.Need-same-length
 same-length c = search needs
 
 returns : tie.Need-returns
-returns c = 
+returns c =
     let e = header-sum (c .before .before .before .before .before .before .before .before .before .before .before .before .before .before .before .before .before .args .stated) (c .before .before .before .before .before .before .before .before .before .before .before .before .before .before .before .before .before .args .ranges .now) (c .before .before .before .before .before .before .before .before .before .before .before .before .before .before .before .before .before .args .k) (c .before .before .before .before .before .before .before .before .before .before .before .before .before .before .before .before .before .args .n) (c .before .before .before .before .before .before .before .before .before .before .before .before .before .stated-size .ensures .0) (c .before .before .before .before .before .before .before .before .before .before .before .before .fields-size .ensures .0) in
     let i = ap (λ (n : ℕ). intLen n) e in
     let p = puts (c .before .before .before .before .before .before .before .before .before .before .put-int .ensures) (omega (arith, c .before .before .before .before .before .before .before .before .before .before .before .before .before .before .before .before .before .pre .1, i)) in
