@@ -198,6 +198,11 @@ module _ (t : Told) where
       rw (e, take-append-seam front lent, drop-append-seam front lent, a)
       (ap₂ space (sym (append-assoc front b (drop (length b) lent))) (ap (λ (i : ℕ). length front + i) l ∙ sym (length-append front b)))
 
+  -- of the connection a call is told the scheme alone
+  on-connection : (h : ℕ) (c : Control) → onConnection (withHead h t) c ≡ onConnection t c
+  on-connection h (request m s a p) = refl
+  on-connection h (response hs s) = refl
+
   step : (c : Call) (front lent : List ℕ) → Step t c front lent
   step c front rest = go (answerIn t (at front rest) c) refl
     where
@@ -212,7 +217,7 @@ module _ (t : Told) where
           let l = lent (replyOf t c) .done rest (a .kept .text) (a .kept .reply) room in
           let y = accepted-entry (at front rest) c n (k .message) (k .long) e (k .read) in
           let d = written-call front rest c n (a .kept .text) e (a .kept .long) (l .1) in
-          adds m (binary-valid (toldOf t c) (c .input) (k .long) (k .message) (k .read)) (k .fits) (k .goes) (rw z at room) (rw z at d)
+          adds m (binary-valid (toldOf t c) (c .input) (k .long) (k .message) (k .read)) (k .fits) (sym (on-connection (c .head) (m .control)) ∙ k .goes) (rw z at room) (rw z at d)
           (y ∙ ap (λ (i : ℕ). (i, m) ∷ []) (a .kept .long ∙ ap length z))
 
   -- ---- a list of calls
@@ -323,18 +328,18 @@ module _ (t : Told) where
         (ap length c ∙ omega arith, omega arith, ap₂ drop w c ∙ drop-append-seam text (drop (length text) o) ∙ ap (λ (n : ℕ). drop n o) (sym w))
 
     module _ (h : NoResponse t o cs) where
-      none : Each NotResponse (map (measured t) (all .ws))
-      none = rw (all .same) at h
+      no-response : Each NotResponse (map (measured t) (all .ws))
+      no-response = rw (all .same) at h
 
       requests : Each (RequestOf t) (meant (all .ws))
-      requests = requests-of (all .ws) (all .each) none
+      requests = requests-of (all .ws) (all .each) no-response
 
       stream-is : streamOf t o cs ≡ stream (write t) (meant (all .ws))
       stream-is =
-          ap (λ (z : Space). take (z .written) (z .whole)) (all .here) ∙ take-append-seam text (drop (length text) o) ∙ sym (stream-texts (all .ws) requests none)
+          ap (λ (z : Space). take (z .written) (z .whole)) (all .here) ∙ take-append-seam text (drop (length text) o) ∙ sym (stream-texts (all .ws) requests no-response)
 
       entries-are : entriesOf t o cs ≡ entries (write t) (meant (all .ws))
-      entries-are = all .same ∙ sym (entries-measured (all .ws) requests none)
+      entries-are = all .same ∙ sym (entries-measured (all .ws) requests no-response)
 
       meanings-are : meaningsOf t o cs ≡ sent (write t) (meant (all .ws))
       meanings-are = ap (map (λ e. e .1)) entries-are ∙ entries-sent (write t) (meant (all .ws))

@@ -15,15 +15,16 @@ use Rattle.messages.specs.Told.{plain}
 use Rattle.messages.specs.Control.{isUnsupported, methodVerdict, pathVerdict, authorityVerdict, isHost, isLowerName, isTrimmedValue}
 use Rattle.messages.specs.Names.{isHopByHop, kindOf, lineKind, sameKind, linesOf, kept, areTrailers, keptTrailers}
 use Rattle.messages.specs.Rules.{authorityFrom, authorityIn, framingFrom, binaryFramingOf, mayState}
-use Rattle.messages.specs.Meaning.{request, Meaning, fieldMeans, contentOf, meaning}
+use Rattle.messages.specs.Meaning.{request, Meaning, fieldMeans, contentOf, meaning, lengthField}
+use Rattle.messages.specs.declared.StatedLength.the-variants.{Missing}
 use Rattle.messages.specs.Valid.{isScheme}
 use Rattle.binary.specs.Reader.{_>>=_, integer, string}
 use Rattle.binary.specs.Read.{part, partWithin, ruledPart, schemeOf, schemePart, afterScheme, requestControl, knownLine, knownLines, bodyLines, knownSection, section, knownContent, content, contentAgrees, contentRule, trailersAgree, trailerRule, trailers, padding, afterContent, afterHeaders, afterHead, afterControl, requestMessage, afterIndicator, message, readBinary}
-use Rattle.http1_writer.specs.Write.{fieldText, sectionText, requestLine, hostField, lengthField, lengthLine, headLines, headText, bodyText, http1Of, http1Fits, toHttp1}
+use Rattle.http1_writer.specs.Write.{fieldText, sectionText, requestLine, hostField, lengthLine, headLines, headText, bodyText, http1Of, http1Fits, toHttp1}
 use Rattle.output.specs.Reply.{writtenOf, lentAfter}
 use Rattle.output.specs.declared.Written.the-variants.{Done, Refused}
 use Rattle.turn.specs.Turn.{binaryToHttp1}
-use Rattle.demands.specs.Demand3.{Space, answerIn, call, entryIn, calls, entriesIn, entriesOf, NoResponse}
+use Rattle.demands.specs.Demand3.{Call, Space, answerIn, call, entryIn, calls, entriesIn, entriesOf, NoResponse}
 
 unfoldable computing : Unit {0}
 unfolding isToken isValue isPath isAuthority classOf hasClass isBlank spanLen all lowerOf isLower sameText isEmpty push extraOf readMore readInt charOf moreOf countOf digits isUnsupported methodVerdict pathVerdict authorityVerdict isHost isLowerName isTrimmedValue isHopByHop kindOf lineKind sameKind linesOf kept areTrailers keptTrailers authorityFrom authorityIn framingFrom binaryFramingOf mayState fieldMeans contentOf meaning isScheme _>>=_ integer string part partWithin ruledPart schemeOf schemePart afterScheme requestControl knownLine knownLines bodyLines knownSection section knownContent content contentAgrees contentRule trailersAgree trailerRule trailers padding afterContent afterHeaders afterHead afterControl requestMessage afterIndicator message readBinary fieldText sectionText requestLine hostField lengthField lengthLine headLines headText bodyText http1Of http1Fits toHttp1 writtenOf lentAfter binaryToHttp1 answerIn call entryIn calls entriesIn
@@ -40,11 +41,15 @@ abbrev post : List ℕ
 post = postOf (4 ∷ ascii "http")
 
 abbrev postMeaning : Meaning
-postMeaning = record { control = request (ascii "POST") 0 (ascii "a") (ascii "/s"); headers = []; content = ascii "abc"; trailers = [] }
+postMeaning = record { control = request (ascii "POST") 0 (ascii "a") (ascii "/s"); headers = []; content = ascii "abc"; trailers = []; stated = Missing }
+
+abbrev on : ℕ → List ℕ → Call
+on head input = record { head = head; input = input }
 
 -- in a space of 110 octets: accepted, 9 (nothing comes), 10 (framing 4), 14 (https), accepted, 13 (8 octets are left)
-abbrev inputs : List (List ℕ)
-inputs = post ∷ [] ∷ (4 ∷ []) ∷ postOf (5 ∷ ascii "https") ∷ post ∷ post ∷ []
+-- The fifth is told that its message answers a HEAD, which means nothing of a request
+abbrev inputs : List Call
+inputs = on 0 post ∷ on 0 [] ∷ on 0 (4 ∷ []) ∷ on 0 (postOf (5 ∷ ascii "https")) ∷ on 1 post ∷ on 0 post ∷ []
 
 abbrev lent : List ℕ
 lent = replicate 110 7
@@ -61,7 +66,7 @@ no-response = (refl, (refl, tt))
 abbrev after : ℕ → Space
 after n = record { whole = lent; written = n }
 
-pub answered : (answerIn http (after 0) post ≡ Done 51) × (answerIn http (after 51) [] ≡ Refused cutOff 0) × (answerIn http (after 51) (4 ∷ []) ≡ Refused badIndicator 0)
-    × (answerIn http (after 51) (postOf (5 ∷ ascii "https")) ≡ Refused otherScheme 0) × (answerIn http (after 102) post ≡ Refused noRoom 0)
+pub answered : (answerIn http (after 0) (on 0 post) ≡ Done 51) × (answerIn http (after 51) (on 0 []) ≡ Refused cutOff 0) × (answerIn http (after 51) (on 0 (4 ∷ [])) ≡ Refused badIndicator 0)
+    × (answerIn http (after 51) (on 0 (postOf (5 ∷ ascii "https"))) ≡ Refused otherScheme 0) × (answerIn http (after 102) (on 0 post) ≡ Refused noRoom 0)
 unfolding computing
 answered = (refl, refl, refl, refl, refl)

@@ -95,7 +95,7 @@ entriesIn t z (c ∷ cs) = entryIn t z c ++ entriesIn t (call t z c) cs
 
 -- of the calls cs in the lent space o: what they leave
 abbrev pub spaceOf : Told → List ℕ → List Call → Space
-spaceOf t o cs = calls t (fresh o) ss
+spaceOf t o cs = calls t (fresh o) cs
 
 -- the octets that they wrote
 abbrev pub streamOf : Told → List ℕ → List Call → List ℕ
@@ -103,7 +103,7 @@ streamOf t o cs = take (spaceOf t o cs .written) (spaceOf t o cs .whole)
 
 -- what they accepted: lengths and meanings
 abbrev pub entriesOf : Told → List ℕ → List Call → List (ℕ × Meaning)
-entriesOf t o cs = entriesIn t (fresh o) ss
+entriesOf t o cs = entriesIn t (fresh o) cs
 
 -- the meanings alone
 abbrev pub meaningsOf : Told → List ℕ → List Call → List Meaning

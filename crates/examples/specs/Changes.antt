@@ -35,17 +35,17 @@ wideText = ascii "HTTP/1.1 304 \r\ncontent-length: 1000000000000000\r\n\r\n"
 unfoldable pub replies : List Example
 replies =
     -- a HEAD is accepted
-    http1 headText 0 31
+    http1 headText 0 29
     -- its reply ends behind its head, whatever stands behind; told no, the content is too large at its line
-    ∷ http1Reply 1 (statedText ++ ascii "x") 0 46
+    ∷ http1Reply 1 (statedText ++ ascii "x") 0 47
     ∷ states 1 statedText (Of 123456789012)
     ∷ http1Reply 0 statedText 8 15
     -- it becomes Binary and comes back
     ∷ replyBecomes 1 statedText statedBinary
-    ∷ binaryReply 1 statedBinary 0 35
+    ∷ binaryReply 1 statedBinary 0 34
     ∷ goesAs 1 statedBinary statedText
     -- read without the remark the content is not as long
-    ∷ binaryReply 0 statedBinary 7 34
+    ∷ binaryReply 0 statedBinary 7 33
     -- 304 states more than 15 digits
     ∷ http1Reply 0 wideText 8 15
     -- a HEAD's reply may announce chunked, 304 may not
