@@ -6,7 +6,7 @@ use Rattle.numbers.specs.Integer.{intLen, tagOf, intBytes}
 use Rattle.numbers.specs.Digits.{charOf, moreOf, countOf, digits}
 use Rattle.octets.specs.Text.{isEmpty}
 use Rattle.messages.specs.Control.{isBodyless, endsAtHead}
-use Rattle.messages.specs.Told.{isYes, plain, withHead}
+use Rattle.messages.specs.Told.{isYes, plain, answering}
 use Rattle.messages.specs.declared.Told.{Told}
 use Rattle.messages.specs.Meaning.{Meaning, lengthField}
 use Rattle.messages.specs.Valid.{validBody, valid, suits}
@@ -29,7 +29,7 @@ unfolding computing
 reply-fits = (reply-valid, refl, refl)
 
 -- a HEAD's reply, to a reader that is told so
-pub head-fits : SpokenOf (withHead 1 (plain 0)) headReply
+pub head-fits : SpokenOf (answering 1 (plain 0)) headReply
 unfolding computing
 head-fits = (head-valid, refl, refl)
 

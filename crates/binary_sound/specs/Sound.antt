@@ -17,7 +17,7 @@ use Rattle.messages.specs.Names.{linesOf}
 use Rattle.messages.specs.Rules.{binaryFramingOf}
 use Rattle.messages.specs.Meaning.{meaning}
 use Rattle.messages.specs.Valid.{suits}
-use Rattle.messages.specs.Told.{withHead}
+use Rattle.messages.specs.Told.{answering}
 use Rattle.messages.specs.declared.Told.{Told}
 use Rattle.messages.specs.declared.Framing.the-variants.{Unstated}
 use Rattle.messages.specs.declared.Kind.the-variants as kind
@@ -93,4 +93,4 @@ BinarySettled = (t : Told) (s : List ℕ) → Settled (readBinary t s)
 abbrev pub BinaryHeadUnused : Type 0
 BinaryHeadUnused =
     (t : Told) (h : ℕ) (s : List ℕ) (f e : ℕ) (r : List ℕ) → integer cutOff 0 0 s ≡ got f e r → eqb f 1 ≡ false → eqb f 3 ≡ false
-    → readBinary (withHead h t) s ≡ readBinary t s
+    → readBinary (answering h t) s ≡ readBinary t s

@@ -18,7 +18,8 @@ use Rattle.messages.specs.Message.{Message}
 use Rattle.messages.specs.Meaning.{Control, request, response, Meaning, meaning}
 use Rattle.messages.specs.Valid.{ofResponse}
 use Rattle.binary.specs.Read.{readBinary}
-use Rattle.messages.specs.Told.{plain}
+use Rattle.messages.specs.Told.{plain as toldPlain}
+use Rattle.messages.specs.declared.Told.{Told}
 use Rattle.binary_writer.specs.Write.{controlBytes, binaryOf, binaryFits, toBinary}
 use Rattle.output.specs.Splice.{splice}
 use Rattle.output.specs.Reply.{Reply, writes, refuses, writtenOf, lentAfterAt, ServedAt}
@@ -88,9 +89,14 @@ pair-entry f x = go (leb (length (binaryOf x)) 65535) refl
         }
     go false e = refl
 
-pub paired : (f : ℕ) (m : List ℕ) → Paired f (binaryToBinary (plain 0) m) (messageEntry f m)
+-- the loan, where what is told of the message is nothing
+pub lent-plain : {t : Told} (m : List ℕ) {k : ℕ} {o o′ : List ℕ} {r : Written} → t ≡ toldPlain 0 → ServedAt (binaryToBinary t m) k o o′ r
+    → ServedAt (binaryToBinary (toldPlain 0) m) k o o′ r
+lent-plain m {k} {o} {o′} {r} e h = subst (λ (t : Told). ServedAt (binaryToBinary t m) k o o′ r) e h
+
+pub paired : (f : ℕ) (m : List ℕ) → Paired f (binaryToBinary (toldPlain 0) m) (messageEntry f m)
 unfolding binaryToBinary
-paired f m = go (readBinary (plain 0) m)
+paired f m = go (readBinary (toldPlain 0) m)
   where
     go : (x : Answer Message) → Paired f (replyFrom (length m) x toBinary) (replyFrom (length m) x (entryFor f))
     go (accepted n a) = pair-entry f (meaning a)
@@ -311,7 +317,7 @@ fair-behind b used f m =
     either (FairReply f) (eqb (w .stop) 0) _ _
     (λ _.
     either (FairReply f) (ltb (length (w .entries)) 256) _ _
-    (λ _. either (FairReply f) (isFlock f) _ _ (λ g. fair-pair f (binaryToBinary (plain 0) m) (messageEntry f m) (flock-least f g .0) (paired f m)) (λ _. tt)) (λ _. tt))
+    (λ _. either (FairReply f) (isFlock f) _ _ (λ g. fair-pair f (binaryToBinary (toldPlain 0) m) (messageEntry f m) (flock-least f g .0) (paired f m)) (λ _. tt)) (λ _. tt))
     (λ _. tt)
 
 fair-of : (y : Reply) (f used : ℕ) (b : List ℕ) (w : Written) → used ≤ length b → FairReply f y → w ≡ writtenOf y (length b - used) → Fair (length b) used f w

@@ -17,7 +17,7 @@ ghost use Rattle.octets.specs.Limits.{linesMost, informationalMost};
 ghost use Rattle.ranges.specs.Ranges.{placesEnd};
 ghost use Rattle.binary.specs.Read.{readBinary};
 ghost use Rattle.http1.specs.Read.{readRequest, readResponse};
-ghost use Rattle.messages.specs.Told.{plain, withHead};
+ghost use Rattle.messages.specs.Told.{plain, answering};
 ghost use Rattle.messages.specs.Room.{sectionRoom, headsRoom, informationalRoom, chunksRoom};
 ghost use Rattle.output.specs.Reply.{writes};
 ghost use Rattle.listing.specs.Listing.{listingOf};
@@ -153,7 +153,7 @@ pub extern "C" fn ospirnar_read_response(
     ranges: &mut [u32],
     place: &mut usize,
 ) -> u32
-    ensures { λ r. ⌜ Entered (readResponse (withHead head (plain 0)) (now (input .entry))) (length (now (input .entry)))
+    ensures { λ r. ⌜ Entered (readResponse (answering head (plain 0)) (now (input .entry))) (length (now (input .entry)))
         (now (ranges .entry)) (now (ranges .exit)) (now (place .exit)) r ⌝ }
 {
     let t = class_table();
@@ -217,7 +217,7 @@ pub extern "C" fn ospirnar_read_binary(
     ranges: &mut [u32],
     place: &mut usize,
 ) -> u32
-    ensures { λ r. ⌜ Entered (readBinary (withHead head (plain 0)) (now (input .entry))) (length (now (input .entry)))
+    ensures { λ r. ⌜ Entered (readBinary (answering head (plain 0)) (now (input .entry))) (length (now (input .entry)))
         (now (ranges .entry)) (now (ranges .exit)) (now (place .exit)) r ⌝ }
 {
     let t = class_table();

@@ -6,7 +6,7 @@ use question::binary_found;
 use question::request_found;
 use question::response_found;
 ghost use mathlib.Core.Path.{_≡_};
-ghost use Rattle.messages.specs.Told.{plain, withHead};
+ghost use Rattle.messages.specs.Told.{plain, answering};
 ghost use Rattle.turn.specs.Question.{requestQuestion, responseQuestion, binaryQuestion};
 ghost use Rattle.question.specs.Asking.{askedOf};
 ghost use Rattle.capi.specs.Entries.{FieldEntered};
@@ -67,7 +67,7 @@ pub extern "C" fn ospirnar_response_field(
     start: &mut usize,
     len: &mut usize,
 ) -> u32
-    ensures { λ r. ⌜ FieldEntered (askedOf (responseQuestion (withHead head (plain 0)) (now (name .entry)) (now (input .entry))))
+    ensures { λ r. ⌜ FieldEntered (askedOf (responseQuestion (answering head (plain 0)) (now (name .entry)) (now (input .entry))))
         (now (number .exit)) (now (place .exit)) (now (start .exit)) (now (len .exit)) r ⌝ }
 {
     let a = response_found(input, Told { scheme: 0, head }, name);
@@ -85,7 +85,7 @@ pub extern "C" fn ospirnar_binary_field(
     start: &mut usize,
     len: &mut usize,
 ) -> u32
-    ensures { λ r. ⌜ FieldEntered (askedOf (binaryQuestion (withHead head (plain 0)) (now (name .entry)) (now (input .entry))))
+    ensures { λ r. ⌜ FieldEntered (askedOf (binaryQuestion (answering head (plain 0)) (now (name .entry)) (now (input .entry))))
         (now (number .exit)) (now (place .exit)) (now (start .exit)) (now (len .exit)) r ⌝ }
 {
     let a = binary_found(input, Told { scheme: 0, head }, name);

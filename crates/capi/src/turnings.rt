@@ -6,7 +6,7 @@ use turning::from_binary::binary_to_http1;
 use turning::to_binary::request_to_binary;
 use turning::to_binary::response_to_binary;
 ghost use mathlib.Core.Path.{_≡_};
-ghost use Rattle.messages.specs.Told.{plain, withHead};
+ghost use Rattle.messages.specs.Told.{plain, answering};
 ghost use Rattle.http1.specs.Read.{readRequest, readResponse};
 ghost use Rattle.turn.specs.Turn.{requestToBinary, responseToBinary, binaryToBinary, binaryToHttp1};
 ghost use Rattle.capi.specs.Entries.{EntryServed, EntryTaken};
@@ -36,7 +36,7 @@ pub extern "C" fn ospirnar_response_to_binary(
     place: &mut usize,
     taken: &mut usize,
 ) -> u32
-    ensures { λ r. ⌜ EntryTaken (readResponse (withHead head (plain 0)) (now (input .entry))) (responseToBinary (withHead head (plain 0)) (now (input .entry)))
+    ensures { λ r. ⌜ EntryTaken (readResponse (answering head (plain 0)) (now (input .entry))) (responseToBinary (answering head (plain 0)) (now (input .entry)))
         (now (output .entry)) (now (output .exit)) (now (taken .exit)) (now (place .exit)) r ⌝ }
 {
     let w = response_to_binary(input, Told { scheme: 0, head }, output, taken);
@@ -51,7 +51,7 @@ pub extern "C" fn ospirnar_binary_to_binary(
     output: &mut [u8],
     place: &mut usize,
 ) -> u32
-    ensures { λ r. ⌜ EntryServed (binaryToBinary (withHead head (plain 0)) (now (input .entry)))
+    ensures { λ r. ⌜ EntryServed (binaryToBinary (answering head (plain 0)) (now (input .entry)))
         (now (output .entry)) (now (output .exit)) (now (place .exit)) r ⌝ }
 {
     let w = binary_to_binary(input, Told { scheme: 0, head }, output);
@@ -67,7 +67,7 @@ pub extern "C" fn ospirnar_binary_to_http1(
     output: &mut [u8],
     place: &mut usize,
 ) -> u32
-    ensures { λ r. ⌜ EntryServed (binaryToHttp1 (withHead head (plain scheme)) (now (input .entry)))
+    ensures { λ r. ⌜ EntryServed (binaryToHttp1 (answering head (plain scheme)) (now (input .entry)))
         (now (output .entry)) (now (output .exit)) (now (place .exit)) r ⌝ }
 {
     let w = binary_to_http1(input, Told { scheme, head }, output);

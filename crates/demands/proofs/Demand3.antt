@@ -15,7 +15,7 @@ use Rattle.script.specs.Script.{Answer, accepted, refused, more, Settled, means
 use Rattle.stream.specs.Taking.{message, waits, takeF, takeOff, onto, addOctets, addEntry, addCall, stream, entries, sent}
 use Rattle.stream.proofs.Taking as taking
 use Rattle.stream.proofs.Taking.{Within, Stable}
-use Rattle.messages.specs.Told.{withHead}
+use Rattle.messages.specs.Told.{answering}
 use Rattle.messages.specs.declared.Told.{Told}
 use Rattle.messages.specs.Message.{Message}
 use Rattle.messages.specs.Meaning.{Control, request, response, Meaning, meaning}
@@ -119,7 +119,7 @@ abbrev Wrote : Type 0
 Wrote = ℕ × Meaning
 
 abbrev textOf : Told → Wrote → List ℕ
-textOf t w = http1Of (withHead (w .0) t) (w .1)
+textOf t w = http1Of (answering (w .0) t) (w .1)
 
 -- what is written of meanings, and the entry of each
 abbrev texts : Told → List Wrote → List ℕ
@@ -199,7 +199,7 @@ module _ (t : Told) where
       (ap₂ space (sym (append-assoc front b (drop (length b) lent))) (ap (λ (i : ℕ). length front + i) l ∙ sym (length-append front b)))
 
   -- of the connection a call is told the scheme alone
-  on-connection : (h : ℕ) (c : Control) → onConnection (withHead h t) c ≡ onConnection t c
+  on-connection : (h : ℕ) (c : Control) → onConnection (answering h t) c ≡ onConnection t c
   on-connection h (request m s a p) = refl
   on-connection h (response hs s) = refl
 
@@ -224,7 +224,7 @@ module _ (t : Told) where
 
   -- what the writer turns
   abbrev Writable : Wrote → Type 0
-  Writable w = (valid (w .1) ≡ true) × (http1Fits (withHead (w .0) t) (w .1) ≡ true) × (onConnection t (w .1 .control) ≡ true)
+  Writable w = (valid (w .1) ≡ true) × (http1Fits (answering (w .0) t) (w .1) ≡ true) × (onConnection t (w .1 .control) ≡ true)
 
   -- from the octets `front` on: what is then there are the meanings ws, written
   record Left (z : Space) (cs : List Call) (front rest : List ℕ) : Type 0 where

@@ -8,7 +8,7 @@ use mathlib.Core.List.{List, [], _∷_, _++_, map}
 use lib.ListN.{length, take, drop}
 use Rattle.script.specs.Script.{Answer, accepted, refused, more, means}
 use Rattle.stream.specs.Taking.{waits, takeF, takeOff, resume, onto}
-use Rattle.messages.specs.Told.{withHead}
+use Rattle.messages.specs.Told.{answering}
 use Rattle.messages.specs.declared.Told.{Told}
 use Rattle.messages.specs.Message.{Message}
 use Rattle.messages.specs.Meaning.{Meaning, meaning}
@@ -33,7 +33,7 @@ pub record Call : Type 0 where
 
 -- what it is told
 abbrev pub toldOf : Told → Call → Told
-toldOf t c = withHead (c .head) t
+toldOf t c = answering (c .head) t
 
 -- what it is to write
 abbrev pub replyOf : Told → Call → Reply

@@ -12,7 +12,7 @@ use Rattle.numbers.specs.Digits.{digitOf}
 use Rattle.numbers.specs.Integer.{readInt}
 use Rattle.numbers.specs.declared.Integer.the-variants.{Value, Cut}
 use Rattle.script.specs.Script.{Answer}
-use Rattle.messages.specs.Told.{plain, withHead}
+use Rattle.messages.specs.Told.{plain, answering}
 use Rattle.messages.specs.declared.Told.{Told}
 use Rattle.messages.specs.Message.{Message}
 use Rattle.messages.specs.Answers.{readingOf, numberOf, placeOf}
@@ -95,11 +95,11 @@ States outcome.More x = ⊥
 abbrev pub Holds : Example → Type 0
 Holds (integer s v) = readInt 0 s ≡ Value v (length s)
 Holds (http1 s k p) = Answers s (readRequest http s) k p
-Holds (http1Reply h s k p) = Answers s (readResponse (withHead h http) s) k p
-Holds (binaryReply h s k p) = Answers s (readBinary (withHead h http) s) k p
-Holds (states h s x) = States (readingOf (readResponse (withHead h http) s) .outcome) x
-Holds (replyBecomes h s b) = responseToBinary (withHead h http) s ≡ writes b
-Holds (goesAs h s b) = binaryToHttp1 (withHead h http) s ≡ writes b
+Holds (http1Reply h s k p) = Answers s (readResponse (answering h http) s) k p
+Holds (binaryReply h s k p) = Answers s (readBinary (answering h http) s) k p
+Holds (states h s x) = States (readingOf (readResponse (answering h http) s) .outcome) x
+Holds (replyBecomes h s b) = responseToBinary (answering h http) s ≡ writes b
+Holds (goesAs h s b) = binaryToHttp1 (answering h http) s ≡ writes b
 Holds (binary s k p) = Answers s (readBinary http s) k p
 Holds (binaryHas s c t) = Counts (readingOf (readBinary http s) .outcome) c t
 Holds (becomes s b) = requestToBinary http s ≡ writes b

@@ -13,7 +13,7 @@ use Rattle.octets.proofs.Kit.{and-split}
 use Rattle.script.specs.Script.{Answer, accepted, refused, more, means}
 use Rattle.script.specs.Do.{piece, Reads}
 use Rattle.script.proofs.Do.{reads}
-use Rattle.messages.specs.Told.{withHead}
+use Rattle.messages.specs.Told.{answering}
 use Rattle.messages.specs.declared.StatedLength.{StatedLength}
 use Rattle.messages.specs.declared.StatedLength.the-variants.{Missing, Of}
 use Rattle.messages.specs.declared.Told.{Told}
@@ -204,20 +204,20 @@ responses-apart = λ t l m ol om r q e. apart (responses-back t l ol) (responses
 
 -- ---- what is told of a request
 
-line-unused : (t : Told) (h : ℕ) (m : Meaning) → ofResponse (m .control) ≡ false → lengthLine (withHead h t) m ≡ lengthLine t m
+line-unused : (t : Told) (h : ℕ) (m : Meaning) → ofResponse (m .control) ≡ false → lengthLine (answering h t) m ≡ lengthLine t m
 unfolding lengthLine
 line-unused t h m e = ap (λ (x : Bool). lineFor (noFields (m .trailers)) x (m .stated) (length (m .content))) (go (m .control) e)
   where
-    go : (c : Control) → ofResponse c ≡ false → unmeasured (withHead h t) c (m .content) ≡ unmeasured t c (m .content)
+    go : (c : Control) → ofResponse c ≡ false → unmeasured (answering h t) c (m .content) ≡ unmeasured t c (m .content)
     go (request q s a p) o = refl
     go (response hs s) o = let z : _≡_ {A = ℕ} 0 1 = cc in absurd (omega arith)
 
 module _ (t : Told) (h : ℕ) (m : Meaning) (e : ofResponse (m .control) ≡ false) where
-  pub text-unused : http1Of (withHead h t) m ≡ http1Of t m
+  pub text-unused : http1Of (answering h t) m ≡ http1Of t m
   unfolding http1Of headText headLines
   text-unused = rw (line-unused t h m e)
 
-  pub fits-unused : http1Fits (withHead h t) m ≡ http1Fits t m
+  pub fits-unused : http1Fits (answering h t) m ≡ http1Fits t m
   unfolding http1Fits headText headLines
   fits-unused = rw (line-unused t h m e)
 
@@ -225,6 +225,6 @@ pub requests-head-unused : RequestsHeadUnused
 unfolding toHttp1
 requests-head-unused = λ t h m e. rw (text-unused t h m e, fits-unused t h m e, on t h (m .control))
   where
-    on : (t : Told) (h : ℕ) (c : Control) → onConnection (withHead h t) c ≡ onConnection t c
+    on : (t : Told) (h : ℕ) (c : Control) → onConnection (answering h t) c ≡ onConnection t c
     on t h (request q s a p) = refl
     on t h (response hs s) = refl

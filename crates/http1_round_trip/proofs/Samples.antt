@@ -4,7 +4,7 @@ use Rattle.octets.specs.Text.{isEmpty}
 use Rattle.numbers.specs.Places.{push}
 use Rattle.numbers.specs.Digits.{charOf, moreOf, countOf, digits}
 use Rattle.messages.specs.Control.{isBodyless, endsAtHead}
-use Rattle.messages.specs.Told.{isYes, plain, withHead}
+use Rattle.messages.specs.Told.{isYes, plain, answering}
 use Rattle.messages.specs.Meaning.{lengthField}
 use Rattle.messages.specs.Valid.{validBody, suits}
 use Rattle.messages.proofs.Samples.{post, reply, headReply, unchanged, post-valid, reply-valid, head-valid, unchanged-valid}
@@ -24,7 +24,7 @@ unfolding computing
 reply-fits = (reply-valid, refl, refl, refl)
 
 -- a HEAD's reply, told so
-pub head-fits : ResponseOf (withHead 1 (plain 0)) headReply
+pub head-fits : ResponseOf (answering 1 (plain 0)) headReply
 unfolding computing
 head-fits = (head-valid, refl, refl, refl)
 

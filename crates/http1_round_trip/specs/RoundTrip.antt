@@ -9,7 +9,7 @@ use Prim.Native.Nat.{ℕ}
 use lib.Dec.{eqb}
 use lib.ListN.{length}
 use Rattle.script.specs.Script.{Answer, accepted, means}
-use Rattle.messages.specs.Told.{withHead}
+use Rattle.messages.specs.Told.{answering}
 use Rattle.messages.specs.declared.Told.{Told}
 use Rattle.messages.specs.Message.{Message}
 use Rattle.messages.specs.Meaning.{Control, request, response, Meaning, meaning}
@@ -74,4 +74,4 @@ ResponsesApart = (t : Told) (l m : Meaning) → ResponseOf t l → ResponseOf t 
 
 -- that a message answers a HEAD means nothing of a request: it is written alike (02, item 5)
 abbrev pub RequestsHeadUnused : Type 0
-RequestsHeadUnused = (t : Told) (h : ℕ) (m : Meaning) → ofResponse (m .control) ≡ false → toHttp1 (withHead h t) m ≡ toHttp1 t m
+RequestsHeadUnused = (t : Told) (h : ℕ) (m : Meaning) → ofResponse (m .control) ≡ false → toHttp1 (answering h t) m ≡ toHttp1 t m

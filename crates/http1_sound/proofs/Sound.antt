@@ -13,7 +13,7 @@ use Rattle.script.specs.Script.{accepted, refused, Script, stop, run, Every}
 use Rattle.script.specs.Do.{_>>=_, Piece, piece, word, tell, good}
 use Rattle.script.proofs.Do.{every-bind, every-tell, every-then}
 use Rattle.script.proofs.Sound.{says, sound-all}
-use Rattle.messages.specs.Told.{withHead}
+use Rattle.messages.specs.Told.{answering}
 use Rattle.messages.specs.declared.Told.{Told}
 use Rattle.messages.specs.Message.{InformationalRead, requestStart, responseStart, Message, plainMessage, statingMessage}
 use Rattle.messages.specs.Control.{statusVerdict, isInformational, isBodyless, endsAtHead}
@@ -190,7 +190,7 @@ response-sound t s n m e =
     record { sound = h .0 .sound; response = h .0 .response; suits = h .0 .suits; stated = h .0 .stated; some = w .0; within = w .1 }
 
 -- a request does not look at whether a message answers a HEAD
-pub request-head-unused : (t : Told) (h : ℕ) (s : List ℕ) → readRequest (withHead h t) s ≡ readRequest t s
+pub request-head-unused : (t : Told) (h : ℕ) (s : List ℕ) → readRequest (answering h t) s ≡ readRequest t s
 unfolding readRequest request afterHead
 request-head-unused t h s = refl
 

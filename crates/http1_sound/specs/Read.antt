@@ -6,7 +6,7 @@ use mathlib.Core.Bool.{true}
 use mathlib.Core.List.{List, [], _∷_}
 use lib.ListN.{length}
 use Rattle.script.specs.Script.{accepted, refused}
-use Rattle.messages.specs.Told.{withHead}
+use Rattle.messages.specs.Told.{answering}
 use Rattle.messages.specs.declared.Told.{Told}
 use Rattle.messages.specs.Message.{FieldRead, Start, requestStart, responseStart, Message}
 use Rattle.messages.specs.Names.{linesOf}
@@ -73,4 +73,4 @@ pub record Http1Reads : Type 0 where
   pub responses : (t : Told) → Front (readResponse t)
   pub requestsSound : RequestsSound
   pub responsesSound : ResponsesSound
-  pub headUnused : (t : Told) (h : ℕ) (s : List ℕ) → readRequest (withHead h t) s ≡ readRequest t s
+  pub headUnused : (t : Told) (h : ℕ) (s : List ℕ) → readRequest (answering h t) s ≡ readRequest t s
