@@ -68,16 +68,7 @@ fn kind_number(response: bool) -> u32
     0
 }
 
-fn put_six(
-    out: &mut [u32],
-    at: usize,
-    a: u32,
-    b: u32,
-    c: u32,
-    d: u32,
-    e: u32,
-    f: u32,
-) -> usize
+fn put_six(out: &mut [u32], at: usize, a: u32, b: u32, c: u32, d: u32, e: u32, f: u32) -> usize
     requires { ⌜ at + 6 ≤ length (now out) ⌝ }
     ensures { λ z. ⌜ Put (now (out .entry)) at ((a ∷ b ∷ []) ++ (c ∷ d ∷ []) ++ (e ∷ f ∷ [])) 6 (now (out .exit)) z ⌝ }
 {

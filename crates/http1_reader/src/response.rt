@@ -288,7 +288,18 @@ pub fn response_in(
             heads,
             kept,
             notes,
-        } => return after_final(t, s, told, status, end, heads, kept, notes, chunks, trailers),
+        } => return after_final(
+            t,
+            s,
+            told,
+            status,
+            end,
+            heads,
+            kept,
+            notes,
+            chunks,
+            trailers,
+        ),
     }
 }
 

@@ -118,7 +118,15 @@ pub fn response_found(s: &[u8], told: Told, name: &[u8]) -> Asked
     let mut heads = [0u32; 8];
     let mut chunks = [0u32; 512];
     let mut trailers = [0u32; 256];
-    let o = response_in(&t, s, told, &mut headers, &mut heads, &mut chunks, &mut trailers);
+    let o = response_in(
+        &t,
+        s,
+        told,
+        &mut headers,
+        &mut heads,
+        &mut chunks,
+        &mut trailers,
+    );
     asked_from(s, o, &headers, &heads, name)
 }
 
@@ -131,7 +139,15 @@ pub fn binary_found(s: &[u8], told: Told, name: &[u8]) -> Asked
     let mut heads = [0u32; 8];
     let mut chunks = [0u32; 512];
     let mut trailers = [0u32; 256];
-    let o = binary_in(&t, s, told, &mut headers, &mut heads, &mut chunks, &mut trailers);
+    let o = binary_in(
+        &t,
+        s,
+        told,
+        &mut headers,
+        &mut heads,
+        &mut chunks,
+        &mut trailers,
+    );
     asked_from(s, o, &headers, &heads, name)
 }
 

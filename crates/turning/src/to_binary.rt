@@ -22,7 +22,10 @@ fn taken_by(w: Written, length: usize) -> usize
 {
     match w {
         Written::Done(_) => length,
-        Written::Refused { number: _, place: _ } => 0,
+        Written::Refused {
+            number: _,
+            place: _,
+        } => 0,
     }
 }
 
