@@ -1,7 +1,8 @@
 // What a call is told beside its input.
+use crate::Ending;
 use crate::Told;
 ghost use mathlib.Core.Path.{_≡_};
-ghost use Rattle.messages.specs.Told.{isYes, plain as toldPlain};
+ghost use Rattle.messages.specs.Told.{isYes, endingOf, plain as toldPlain};
 
 // What a yes or no says that a call is told.
 pub fn is_yes(n: u32) -> bool
@@ -14,5 +15,19 @@ pub fn is_yes(n: u32) -> bool
 pub fn plain(scheme: u32) -> Told
     ensures { λ r. ⌜ r ≡ toldPlain scheme ⌝ }
 {
-    Told { scheme, head: 0 }
+    Told {
+        scheme,
+        head: 0,
+        closed: 0,
+    }
+}
+
+// Where a stream of n octets ends, as told.
+pub fn ending_of(told: Told, n: usize) -> Ending
+    ensures { λ r. ⌜ r ≡ endingOf told n ⌝ }
+{
+    if is_yes(told.closed) {
+        return Ending::Closed(n);
+    }
+    Ending::Open
 }

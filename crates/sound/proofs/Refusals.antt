@@ -1,5 +1,5 @@
 -- What the rules of both forms refuse with.
-use Prim.Native.Nat.{ℕ, _≤_}
+use Prim.Native.Nat.{ℕ, _-_, _≤_}
 use mathlib.Core.Path.{_≡_, refl}
 use mathlib.Core.Bool.{Bool, cond}
 use mathlib.Core.Logic.{_⊎_, inl, inr}
@@ -23,10 +23,12 @@ use Rattle.messages.specs.Message.{FieldRead}
 use Rattle.messages.specs.Control.{isUnsupported, methodVerdict, pathVerdict, authorityVerdict, statusVerdict, endsAtHead}
 use Rattle.messages.specs.Names.{linesOf}
 use Rattle.messages.specs.Rules.{authorityFrom, orBadHost, authorityIn, lengthStated, framingFrom, framingOf, binaryFramingOf, requestBody, nothingStated, lengthAlone}
-use Rattle.messages.specs.Rules.{bodylessRule, contentBody, responseBody, mayState}
+use Rattle.messages.specs.Rules.{bodylessRule, unmeasuredBody, contentBody, responseBody, mayState}
 use Rattle.messages.specs.Told.{isYes}
 use Rattle.messages.specs.declared.Told.{Told}
 use Rattle.messages.specs.declared.Body.the-variants.{Sized}
+use Rattle.messages.specs.declared.Ending.{Ending}
+use Rattle.messages.specs.declared.Ending.the-variants.{Open, Closed}
 use Rattle.messages.specs.declared.Framing.{Framing}
 use Rattle.messages.specs.declared.Framing.the-variants.{Unstated, Stated, Chunked, Clashing}
 use Rattle.messages.specs.declared.Kind.the-variants as kind
@@ -160,12 +162,18 @@ module _ (last : ℕ) (s : List ℕ) (wide : 8 ≤ last) (end : ℕ) (inside : e
   request-judged Chunked h = tt
   request-judged Clashing h = bad-length
 
-  content-judged : (f : Framing) → StatedIn (length s) f → Refuses last s (contentBody end f)
+  unmeasured-judged : (e : Ending) → Refuses last s (unmeasuredBody e end)
+  unfolding unmeasuredBody
+  unmeasured-judged Open = tt
+  unmeasured-judged (Closed n) =
+      either (Refuses last s) (leb (n - end) contentMost) (good (Sized (n - end))) (wrong tooLarge end) (λ a. tt) (λ a. refusal wide (lit≤ tt, lit≤ tt) inside)
+
+  content-judged : (e : Ending) (f : Framing) → StatedIn (length s) f → Refuses last s (contentBody e end f)
   unfolding contentBody
-  content-judged Unstated h = bad-length
-  content-judged (Stated n p) h = request-judged (Stated n p) h
-  content-judged Chunked h = request-judged Chunked h
-  content-judged Clashing h = request-judged Clashing h
+  content-judged e Unstated h = unmeasured-judged e
+  content-judged e (Stated n p) h = request-judged (Stated n p) h
+  content-judged e Chunked h = request-judged Chunked h
+  content-judged e Clashing h = request-judged Clashing h
 
   alone-judged : (t : Told) (f : Framing) → StatedIn (length s) f → Refuses last s (lengthAlone t end f)
   unfolding lengthAlone
@@ -180,7 +188,7 @@ module _ (last : ℕ) (s : List ℕ) (wide : 8 ≤ last) (end : ℕ) (inside : e
   bodyless-judged t n f h =
       either (Refuses last s) (eqb n 204) (nothingStated end f) (lengthAlone t end f) (λ a. nothing-judged f) (λ a. alone-judged t f h)
 
-  pub response-judged : (t : Told) (n : ℕ) (f : Framing) → StatedIn (length s) f → Refuses last s (responseBody t n end f)
+  pub response-judged : (t : Told) (e : Ending) (n : ℕ) (f : Framing) → StatedIn (length s) f → Refuses last s (responseBody t e n end f)
   unfolding responseBody
-  response-judged t n f h =
-      either (Refuses last s) (endsAtHead t n) (bodylessRule t n end f) (contentBody end f) (λ a. bodyless-judged t n f h) (λ a. content-judged f h)
+  response-judged t e n f h =
+      either (Refuses last s) (endsAtHead t n) (bodylessRule t n end f) (contentBody e end f) (λ a. bodyless-judged t n f h) (λ a. content-judged e f h)
