@@ -9,7 +9,7 @@ use lib.ListN.{length, take, drop, length-append, length-drop}
 use lib.Seq.{length-take-le}
 use Rattle.octets.specs.Text.{isEmpty}
 use Rattle.octets.specs.Limits.{trailerMost, chunkLineMost, chunksMost, contentMost}
-use Rattle.octets.specs.Refusals.{badLength}
+use Rattle.octets.specs.Refusals.{badLength, tooLarge}
 use Rattle.script.specs.Script.{Answer, accepted, refused, more, Script, done, stop, need, run}
 use Rattle.script.specs.Do.{_>>=_, andThen, Piece, piece}
 use Rattle.script.proofs.Laws.{run-done, run-stop}
@@ -22,12 +22,12 @@ use Rattle.messages.specs.Meaning.{contentOf}
 use Rattle.messages.specs.Answers.{fieldsNumbers, chunksNumbers}
 use Rattle.messages.specs.declared.Notes.{Notes}
 use Rattle.messages.specs.declared.Body.{Body}
-use Rattle.messages.specs.declared.Body.the-variants.{Sized}
+use Rattle.messages.specs.declared.Body.the-variants.{Sized, UntilClosed}
 use Rattle.messages.proofs.Noting.{trailers-noted}
 use Rattle.http1.specs.Read.{Lines, section, Content, trailerSection, chunksFrom, content}
 use Rattle.http1_parts.specs.Section.{Sectioned}
 use Rattle.http1_parts.specs.Content.{SizedWithin, ContentSays, Contented}
-use Rattle.http1_parts.specs.Chunk.{ChunkSays, ChunkLies, Chunked, Trailed, SizedRead}
+use Rattle.http1_parts.specs.Chunk.{ChunkSays, ChunkLies, Chunked, Trailed, SizedRead, UnmeasuredRead}
 use Rattle.http1_parts.specs.declared.Section.{Section}
 use Rattle.http1_parts.specs.declared.Section.the-variants as section-is
 use Rattle.http1_parts.specs.declared.ChunkRead.{ChunkRead}
@@ -164,6 +164,19 @@ module _ (s : List ℕ) (at n : ℕ) (within : at ≤ length s) where
         let a : run (content (Sized n)) at (drop at s) ≡ accepted (at + n) (record { chunks = piece at (take n (drop at s)) ∷ []; trailers = [] }) =
         octets-in _ _ s at within h ∙ rw (size, ne-eqb n 0 z, run-done) in
         record { says = λ ts. contented-as a (record { says = (rw (append-nil (take n (drop at s)), size), rw size e, refl) }) }
+
+-- ---- content up to an end that has not come
+
+module _ (s : List ℕ) (at : ℕ) (within : at ≤ length s) where
+  pub unmeasured-more : length s - at ≤ contentMost → UnmeasuredRead s at More
+  unfolding content _>>=_
+  unmeasured-more h = record { says = λ cs ts. contented-more (octets-more _ _ s at within (omega (arith, h))) }
+
+  pub unmeasured-over : contentMost < length s - at → UnmeasuredRead s at (Refused tooLarge at)
+  unfolding content _>>=_
+  unmeasured-over h =
+      let a : run (content UntilClosed) at (drop at s) ≡ refused tooLarge at = octets-in _ _ s at within (omega (arith, h)) ∙ rw run-stop in
+      record { says = λ cs ts. contented-refused a }
 
 -- ---- by what the head says
 

@@ -10,7 +10,7 @@ use Rattle.script.specs.Do.{Piece, piece}
 use Rattle.output.specs.Splice.{splice}
 use Rattle.messages.specs.Meaning.{contentOf}
 use Rattle.messages.specs.Answers.{chunksNumbers}
-use Rattle.messages.specs.declared.Body.the-variants.{Sized}
+use Rattle.messages.specs.declared.Body.the-variants.{Sized, UntilClosed}
 use Rattle.http1.specs.Read.{Content, trailerSection, afterChunkLine, chunksFrom, content}
 use Rattle.http1_parts.specs.Content.{Contented}
 use Rattle.http1_parts.specs.declared.ChunkRead.{ChunkRead}
@@ -58,3 +58,7 @@ pub record Trailed (s : List ℕ) (at count total : ℕ) (ts ts′ : List ℕ) (
 -- content of n octets that was read from the place `at` on: there are no trailers
 pub record SizedRead (s : List ℕ) (at n : ℕ) (cs cs′ : List ℕ) (r : ContentRead) : Type 0 where
   pub says : (ts : List ℕ) → Contented (run (content (Sized n)) at (drop at s)) cs cs′ ts ts r
+
+-- content up to an end that has not come, from the place `at` on: nothing is stored
+pub record UnmeasuredRead (s : List ℕ) (at : ℕ) (r : ContentRead) : Type 0 where
+  pub says : (cs ts : List ℕ) → Contented (run (content UntilClosed) at (drop at s)) cs cs ts ts r

@@ -10,7 +10,7 @@ use Rattle.messages.specs.Names.{keptTrailers}
 use Rattle.messages.specs.Meaning.{contentOf}
 use Rattle.messages.specs.Answers.{fieldsNumbers, chunksNumbers}
 use Rattle.messages.specs.declared.Body.{Body}
-use Rattle.messages.specs.declared.Body.the-variants.{Sized, InChunks}
+use Rattle.messages.specs.declared.Body.the-variants.{Sized, InChunks, UntilClosed}
 use Rattle.http1.specs.Read.{Content}
 use Rattle.http1_parts.specs.declared.ContentRead.{ContentRead}
 use Rattle.http1_parts.specs.declared.ContentRead.the-variants.{Done, Refused, More}
@@ -19,6 +19,7 @@ use Rattle.http1_parts.specs.declared.ContentRead.the-variants.{Done, Re
 abbrev pub SizedWithin : Body → Type 0
 SizedWithin (Sized n) = n ≤ contentMost
 SizedWithin InChunks = Unit {0}
+SizedWithin UntilClosed = Unit {0}
 
 -- content that was read into the lent ranges cs of chunks and ts of trailers
 abbrev pub ContentSays : Answer Content → List ℕ → List ℕ → List ℕ → List ℕ → ContentRead → Type 0

@@ -23,7 +23,7 @@ ghost use Rattle.messages.specs.Room.{sectionRoom, chunksRoom};
 ghost use Rattle.http1.specs.Read.{content};
 ghost use Rattle.ranges.specs.Ranges.{placesEnd};
 ghost use Rattle.http1_parts.specs.Content.{SizedWithin, Contented};
-ghost use Rattle.http1_parts.specs.Chunk.{DataRead, Chunked, Trailed, SizedRead};
+ghost use Rattle.http1_parts.specs.Chunk.{DataRead, Chunked, Trailed, SizedRead, UnmeasuredRead};
 
 // The trailer section from `from` on, behind `count` chunks of `total` octets.
 fn read_trailers(
@@ -190,6 +190,20 @@ fn read_sized(s: &[u8], from: usize, n: usize, chunks: &mut [u32]) -> ContentRea
     }
 }
 
+// Content from `from` on, up to an end of the stream that has not come: more octets are needed, until they are too many.
+fn read_unmeasured(s: &[u8], from: usize) -> ContentRead
+    requires { ⌜ from ≤ length (now s) ⌝ }
+    ensures { λ r. ⌜ UnmeasuredRead (now (s .entry)) from r ⌝ }
+{
+    if s.len() - from <= Limits::CONTENT {
+        return ContentRead::More;
+    }
+    ContentRead::Refused {
+        number: Refusals::TOO_LARGE,
+        place: from,
+    }
+}
+
 // The content from `from` on, as the head says it is to be read.
 pub fn read_content(
     t: &[u8; 256],
@@ -207,5 +221,6 @@ pub fn read_content(
     match body {
         Body::Sized(n) => return read_sized(s, from, n, chunks),
         Body::InChunks => return read_chunks(t, s, from, chunks, trailers),
+        Body::UntilClosed => return read_unmeasured(s, from),
     }
 }
