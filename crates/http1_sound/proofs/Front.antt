@@ -18,7 +18,9 @@ use Rattle.messages.specs.Message.{Message}
 use Rattle.messages.specs.Answers.{readingOf}
 use Rattle.messages.specs.Valid.{isScheme}
 use Rattle.messages.specs.declared.Outcome.the-variants as outcome
-use Rattle.http1.specs.Read.{request, readRequest, heads, readResponse}
+use Rattle.messages.specs.Told.{isYes}
+use Rattle.messages.specs.declared.Ending.the-variants.{Open}
+use Rattle.http1.specs.Read.{request, readRequest, ResponseCall, responseCall, heads, readResponse}
 use Rattle.http1_sound.specs.Front.{answers, First, Front}
 
 -- ---- any reader
@@ -71,18 +73,19 @@ module _ (t : Told) where
 
 -- ---- responses
 
-module _ (t : Told) where
+heads-within : (q : ResponseCall) (f : ℕ) (s : List ℕ) (n : ℕ) (m : Message) → run (heads q (suc f) [] headMost) 0 s ≡ accepted n m → (0 < n) × (n ≤ length s)
+unfolding heads _>>=_
+heads-within q f s n m e = let h = line-accepted _ _ _ _ 0 s n m e in (omega arith, omega arith)
+
+pub response-within : (t : Told) → Within (readResponse t)
+unfolding readResponse
+response-within t s n m e = heads-within (responseCall t (length s)) informationalMost s n m e
+
+-- while the connection is open the script is the same, however long the stream is
+module _ (t : Told) (o : isYes (t .closed) ≡ false) where
   pub response-stays : Stable (readResponse t)
   unfolding readResponse
-  response-stays s u h = stable (heads t (suc informationalMost) [] headMost) 0 s u h
-
-  heads-within : (f : ℕ) (s : List ℕ) (n : ℕ) (m : Message) → run (heads t (suc f) [] headMost) 0 s ≡ accepted n m → (0 < n) × (n ≤ length s)
-  unfolding heads _>>=_
-  heads-within f s n m e = let h = line-accepted _ _ _ _ 0 s n m e in (omega arith, omega arith)
-
-  pub response-within : Within (readResponse t)
-  unfolding readResponse
-  response-within s n m e = heads-within informationalMost s n m e
+  response-stays s u h = rw o (stable (heads (record { told = t; ending = Open }) (suc informationalMost) [] headMost) 0 s u (rw o at h))
 
   pub response-front : Front (readResponse t)
-  response-front = front (readResponse t) response-within response-stays
+  response-front = front (readResponse t) (response-within t) response-stays

@@ -21,10 +21,10 @@ use Rattle.messages.specs.Names.{areTrailers}
 use Rattle.messages.specs.Rules.{authorityIn, framingOf, requestBody, nothingStated, responseBody}
 use Rattle.messages.specs.Valid.{isScheme}
 use Rattle.messages.specs.declared.Body.{Body}
-use Rattle.messages.specs.declared.Body.the-variants.{Sized, InChunks}
+use Rattle.messages.specs.declared.Body.the-variants.{Sized, InChunks, UntilClosed}
 use Rattle.http1.specs.Lines.{isOther, version, requestParts, requestVersion, requestTarget, requestLens, onRequest, requestOf, statusAt, statusVersion, isStatusShape, statusLens, onStatus, statusOf}
 use Rattle.http1.specs.Lines.{fieldLens, onField, fieldOf, chunkLens, onChunk, chunkOf}
-use Rattle.http1.specs.Read.{lineWithin, less, Lines, fieldLines, section, trailerSection, chunkData, chunksFrom, content, afterHead, request, readRequest, afterFinal, heads, readResponse}
+use Rattle.http1.specs.Read.{lineWithin, less, Lines, fieldLines, section, trailerSection, chunkData, chunksFrom, content, afterHead, request, readRequest, ResponseCall, responseCall, afterFinal, heads, readResponse}
 use Rattle.http1.specs.declared.RequestLine.{RequestLine}
 use Rattle.http1.specs.declared.RequestLine.the-variants as request
 use Rattle.http1.specs.declared.StatusLine.{StatusLine}
@@ -200,6 +200,7 @@ module _ {s : List ℕ} where
   unfolding content
   stops-content (Sized n) = stops-bind _ (stops-word (someOctets n) (λ z. tt) λ w g i. stops-done tt)
   stops-content InChunks = stops-chunks (suc chunksMost) [] 0
+  stops-content UntilClosed = stops-bind _ (stops-word (someOctets (contentMost + 1)) (λ z. tt) λ w g i. stops-stop (too-large (omega arith)))
 
   -- ---- requests
 
@@ -217,18 +218,18 @@ module _ {s : List ℕ} where
 
   -- ---- responses
 
-  stops-final : {at : ℕ} (t : Told) (hs : List InformationalRead) (n : ℕ) (h : Lines) → SectionIn s h → Refusing s (λ n m. Unit {0}) at (afterFinal t hs n h)
+  stops-final : {at : ℕ} (q : ResponseCall) (hs : List InformationalRead) (n : ℕ) (h : Lines) → SectionIn s h → Refusing s (λ n m. Unit {0}) at (afterFinal q hs n h)
   unfolding afterFinal
-  stops-final t hs n h k =
-      stops-judged (λ x. Unit {0}) (responseBody t n (h .end) (framingOf (h .lines))) _
-      (response-judged http1Last s wide (h .end) (k .end) t n (framingOf (h .lines)) (framing-in (length s) (h .lines) (k .lines))) λ v c.
+  stops-final q hs n h k =
+      stops-judged (λ x. Unit {0}) (responseBody (q .told) (q .ending) n (h .end) (framingOf (h .lines))) _
+      (response-judged http1Last s wide (h .end) (k .end) (q .told) (q .ending) n (framingOf (h .lines)) (framing-in (length s) (h .lines) (k .lines))) λ v c.
       stops-then _ (stops-content v) λ j d z.
       stops-done tt
 
-  stops-heads : (t : Told) (f : ℕ) {at : ℕ} (hs : List InformationalRead) (left : ℕ) → Refusing s (λ n m. Unit {0}) at (heads t f hs left)
+  stops-heads : (q : ResponseCall) (f : ℕ) {at : ℕ} (hs : List InformationalRead) (left : ℕ) → Refusing s (λ n m. Unit {0}) at (heads q f hs left)
   unfolding heads
-  stops-heads t zero hs left = stops-stop (too-large (omega arith))
-  stops-heads t (suc f) {at} hs left =
+  stops-heads q zero hs left = stops-stop (too-large (omega arith))
+  stops-heads q (suc f) {at} hs left =
       stops-bind _ (stops-word (lineWithin left) (line-refuses left) λ w g i.
       let j : at ≤ length s = omega arith in
       stops-judged (λ x. Unit {0}) (statusOf (piece at w)) _ (status-line s (piece at w) j) λ n a.
@@ -237,8 +238,8 @@ module _ {s : List ℕ} where
       stops-if (leb informationalMost (length hs)) (λ c. stops-stop (too-large j)) λ c.
       stops-then _ (stops-section (less left (piece at w))) λ m h k.
       stops-judged (λ x. Unit {0}) (nothingStated (h .end) (framingOf (h .lines))) _ (nothing-judged http1Last s wide (h .end) (k .end) (framingOf (h .lines))) λ u d.
-      stops-heads t f _ _)
-      (λ b. stops-then _ (stops-section (less left (piece at w))) λ m h k. stops-final t hs n h k))
+      stops-heads q f _ _)
+      (λ b. stops-then _ (stops-section (less left (piece at w))) λ m h k. stops-final q hs n h k))
 
 -- ---- both readers
 
@@ -256,4 +257,5 @@ request-refused t s n p e = on (isScheme (t .scheme)) e
 pub response-refused : ResponsesRefused
 unfolding readResponse
 response-refused t s n p e =
-    stops-all (λ i m. Unit {0}) (heads t (suc informationalMost) [] headMost) n p (stops-heads t (suc informationalMost) [] headMost) e
+    let q : ResponseCall = responseCall t (length s) in
+    stops-all (λ i m. Unit {0}) (heads q (suc informationalMost) [] headMost) n p (stops-heads q (suc informationalMost) [] headMost) e

@@ -1,5 +1,5 @@
 -- What the rules on host and lengths leave through.
-use Prim.Native.Nat.{ℕ, _<_, _≤_}
+use Prim.Native.Nat.{ℕ, _+_, _-_, _<_, _≤_}
 use mathlib.Core.Path.{_≡_, refl, sym, subst}
 use mathlib.Core.Bool.{Bool, true, false, cond}
 use mathlib.Core.List.{List, [], map}
@@ -14,12 +14,15 @@ use Rattle.script.specs.Do.{Piece, piece, good, wrong}
 use Rattle.messages.specs.Message.{FieldRead}
 use Rattle.messages.specs.Control.{endsAtHead}
 use Rattle.messages.specs.Names.{kept, keptTrailers}
-use Rattle.messages.specs.Rules.{authorityIn, requestBody, bodylessRule, contentBody, responseBody, lengthIn, agrees}
+use Rattle.messages.specs.Rules.{authorityIn, requestBody, bodylessRule, unmeasuredBody, contentBody, responseBody, lengthIn, agrees}
+use Rattle.messages.specs.Told.{isYes, endingOf}
 use Rattle.messages.specs.Notes.{isClashing}
 use Rattle.messages.specs.Meaning.{Informational, response, Meaning, fieldMeans, contentOf}
 use Rattle.messages.specs.Valid.{validBody, validStated}
 use Rattle.messages.specs.declared.Body.{Body}
-use Rattle.messages.specs.declared.Body.the-variants.{Sized, InChunks}
+use Rattle.messages.specs.declared.Body.the-variants.{Sized, InChunks, UntilClosed}
+use Rattle.messages.specs.declared.Ending.{Ending}
+use Rattle.messages.specs.declared.Ending.the-variants.{Open, Closed}
 use Rattle.messages.specs.declared.Framing.{Framing}
 use Rattle.messages.specs.declared.Framing.the-variants.{Unstated, Stated, Chunked, Clashing}
 use Rattle.messages.specs.declared.Kind.the-variants as kind
@@ -41,11 +44,19 @@ host-is end fs a e = authority-is end (piece 0 []) fs a e
 abbrev pub Fits : Body → Type 0
 Fits (Sized n) = n ≤ contentMost
 Fits InChunks = Unit {0}
+Fits UntilClosed = Unit {0}
 
--- content of a stated length is that long, and has no trailers
+-- content of a stated length is that long, and has no trailers; none is accepted that goes on to an end that has not come
 abbrev pub Fills : Body → Content → Type 0
 Fills (Sized n) c = (length (contentOf (c .chunks)) ≡ n) × (c .trailers ≡ [])
 Fills InChunks c = Unit {0}
+Fills UntilClosed c = ⊥
+
+-- content of a stated length from one place on ends at another, within a stream of so many octets
+abbrev pub Reaches : ℕ → Body → ℕ → ℕ → Type 0
+Reaches long (Sized n) from to = (to ≡ from + n) × (to ≤ long)
+Reaches long InChunks from to = Unit {0}
+Reaches long UntilClosed from to = ⊥
 
 -- a body that a rule lets through fits, and content that fills it is as the head states
 pub record Framed (f : Framing) (b : Body) : Type 0 where
@@ -72,12 +83,44 @@ request-framed end Chunked b e =
     subst (Framed Chunked) z x
 request-framed end Clashing b e = let z : _≡_ {A = ℕ} 0 1 = cc in absurd (omega arith)
 
-content-framed : (end : ℕ) (f : Framing) (b : Body) → contentBody end f ≡ good b → Framed f b
+unmeasured-framed : (e : Ending) (end : ℕ) (b : Body) → unmeasuredBody e end ≡ good b → Framed Unstated b
+unfolding unmeasuredBody
+unmeasured-framed Open end b g =
+    let z : UntilClosed ≡ b = cc in
+    let x : Framed Unstated UntilClosed = record { fits = tt; stated = λ c h. refl } in
+    subst (Framed Unstated) z x
+unmeasured-framed (Closed n) end b g = go (leb (n - end) contentMost) refl g
+  where
+    go : (t : Bool) → leb (n - end) contentMost ≡ t → cond t (good (Sized (n - end))) (wrong tooLarge end) ≡ good b → Framed Unstated b
+    go true q h =
+        let z : Sized (n - end) ≡ b = cc in
+        let x : Framed Unstated (Sized (n - end)) = record { fits = leb-true (n - end) contentMost q; stated = λ c h. refl } in
+        subst (Framed Unstated) z x
+    go false q h = let z : _≡_ {A = ℕ} 0 1 = cc in absurd (omega arith)
+
+-- content without a length that is accepted: the stream is closed, and ends where the content does
+module _ (t : Told) (long end to : ℕ) (b : Body) (c : Content) (fills : Fills b c) (reaches : Reaches long b end to) where
+  pub ends-with-stream : unmeasuredBody (endingOf t long) end ≡ good b → (isYes (t .closed) ≡ true) × (to ≡ long)
+  unfolding unmeasuredBody
+  ends-with-stream e = on (isYes (t .closed)) e
+    where
+      sized : (x : Bool) → cond x (good (Sized (long - end))) (wrong tooLarge end) ≡ good b → to ≡ long
+      sized true g =
+          let z : b ≡ Sized (long - end) = cc in
+          let r : (to ≡ end + (long - end)) × (to ≤ long) = subst (λ (y : Body). Reaches long y end to) z reaches in
+          omega (arith, r)
+      sized false g = let z : _≡_ {A = ℕ} 0 1 = cc in absurd (omega arith)
+
+      on : (x : Bool) → unmeasuredBody (cond x (Closed long) Open) end ≡ good b → (x ≡ true) × (to ≡ long)
+      on true g = (refl, sized (leb (long - end) contentMost) g)
+      on false g = let z : b ≡ UntilClosed = cc in absurd (subst (λ (y : Body). Fills y c) z fills)
+
+content-framed : (x : Ending) (end : ℕ) (f : Framing) (b : Body) → contentBody x end f ≡ good b → Framed f b
 unfolding contentBody
-content-framed end Unstated b e = let z : _≡_ {A = ℕ} 0 1 = cc in absurd (omega arith)
-content-framed end (Stated n p) b e = request-framed end (Stated n p) b e
-content-framed end Chunked b e = request-framed end Chunked b e
-content-framed end Clashing b e = request-framed end Clashing b e
+content-framed x end Unstated b e = unmeasured-framed x end b e
+content-framed x end (Stated n p) b e = request-framed end (Stated n p) b e
+content-framed x end Chunked b e = request-framed end Chunked b e
+content-framed x end Clashing b e = request-framed end Clashing b e
 
 -- content without octets and trailers is valid of any head
 empty-body : (t : Bool) (c : Content) → Fills (Sized 0) c → validBody t (contentOf (c .chunks)) (map fieldMeans (keptTrailers (c .trailers))) ≡ true
@@ -85,8 +128,8 @@ unfolding validBody isEmpty keptTrailers kept
 empty-body true c h = refl
 empty-body false c h = rw (eq-eqb (length (contentOf (c .chunks))) 0 (h .0), h .1)
 
--- a body that the rule of responses lets through, told t, behind the head of a status n
-pub record ResponseFramed (t : Told) (n : ℕ) (f : Framing) (b : Body) : Type 0 where
+-- a body that the rule of responses lets through, told t, where the stream ends at x, behind the head of a status n that ends at `end`
+pub record ResponseFramed (t : Told) (x : Ending) (n end : ℕ) (f : Framing) (b : Body) : Type 0 where
   pub fits : Fits b
   pub once : isClashing f ≡ false
   pub none : eqb n 204 ≡ true → f ≡ Unstated
@@ -97,39 +140,47 @@ pub record ResponseFramed (t : Told) (n : ℕ) (f : Framing) (b : Body) : Type 0
       → ((k p : ℕ) → f ≡ Stated k p → length (w .headers) < linesMost) → validStated (lengthIn f) w ≡ true
   -- elsewhere the content is as long as the head states
   pub stated : endsAtHead t n ≡ false → (c : Content) → Fills b c → agrees f (length (contentOf (c .chunks))) ≡ true
+  -- and where it states nothing, the content ends with the stream
+  pub unmeasured : endsAtHead t n ≡ false → f ≡ Unstated → unmeasuredBody x end ≡ good b
 
-content-once : (end : ℕ) (f : Framing) (b : Body) → contentBody end f ≡ good b → isClashing f ≡ false
+content-once : (x : Ending) (end : ℕ) (f : Framing) (b : Body) → contentBody x end f ≡ good b → isClashing f ≡ false
 unfolding contentBody requestBody
-content-once end Unstated b e = refl
-content-once end (Stated n p) b e = refl
-content-once end Chunked b e = refl
-content-once end Clashing b e = let z : _≡_ {A = ℕ} 0 1 = cc in absurd (omega arith)
+content-once x end Unstated b e = refl
+content-once x end (Stated n p) b e = refl
+content-once x end Chunked b e = refl
+content-once x end Clashing b e = let z : _≡_ {A = ℕ} 0 1 = cc in absurd (omega arith)
 
 no-both : {A : Type 0} {x : Bool} → x ≡ true → x ≡ false → A
 no-both p q = let z : _≡_ {A = ℕ} 0 1 = cc in absurd (omega arith)
 
-pub response-framed : (t : Told) (n end : ℕ) (f : Framing) (b : Body) → responseBody t n end f ≡ good b → ResponseFramed t n f b
+content-unmeasured : (x : Ending) (end : ℕ) (f : Framing) (b : Body) → contentBody x end f ≡ good b → f ≡ Unstated → unmeasuredBody x end ≡ good b
+unfolding contentBody
+content-unmeasured x end f b e q = rw q at e
+
+pub response-framed : (t : Told) (x : Ending) (n end : ℕ) (f : Framing) (b : Body) → responseBody t x n end f ≡ good b → ResponseFramed t x n end f b
 unfolding responseBody
-response-framed t n end f b e = go (endsAtHead t n) refl e
+response-framed t x n end f b e = go (endsAtHead t n) refl e
   where
-    go : (x : Bool) → endsAtHead t n ≡ x → cond x (bodylessRule t n end f) (contentBody end f) ≡ good b → ResponseFramed t n f b
+    go : (y : Bool) → endsAtHead t n ≡ y → cond y (bodylessRule t n end f) (contentBody x end f) ≡ good b → ResponseFramed t x n end f b
     go true q g =
         let h = bodyless t n end f b g in
         record {
           fits = rw (h .empty) (omega arith);
           once = h .once;
           none = h .none;
-          empty = λ o body c x. empty-body body c (rw (h .empty) at x);
+          empty = λ o body c y. empty-body body c (rw (h .empty) at y);
           valid = λ o. h .valid;
           stated = λ o. no-both q o;
+          unmeasured = λ o. no-both q o;
         }
     go false q g =
-        let h = content-framed end f b g in
+        let h = content-framed x end f b g in
         record {
           fits = h .fits;
-          once = content-once end f b g;
+          once = content-once x end f b g;
           none = content-not-204 t n q f;
           empty = λ o. no-both o q;
           valid = λ o. no-both o q;
           stated = λ o. h .stated;
+          unmeasured = λ o. content-unmeasured x end f b g;
         }

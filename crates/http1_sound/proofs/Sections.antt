@@ -4,9 +4,9 @@ use mathlib.Core.Path.{_≡_, refl, subst}
 use mathlib.Core.Bool.{Bool, true, false, cond}
 use mathlib.Core.List.{List, [], _∷_, _++_}
 use native.Mathlib.Omega.{arith}
-use borrow.Author.Tests.{leb-false, ltb-false, eqb-false}
+use borrow.Author.Tests.{leb-false, ltb-false, eqb-true, eqb-false}
 use lib.Dec.{eqb, leb, ltb}
-use lib.ListN.{length, take, drop}
+use lib.ListN.{length, take, drop, length-append}
 use lib.Seq.{length-take-le}
 use Rattle.octets.specs.Limits.{trailerMost, chunkLineMost, linesMost, chunksMost, contentMost}
 use Rattle.octets.specs.Refusals.{badLength, tooLarge, badSyntax}
@@ -14,43 +14,52 @@ use Rattle.octets.specs.Text.{isEmpty, sameText}
 use Rattle.script.specs.Script.{done, stop, someOctets, Lies, Every}
 use Rattle.script.specs.Do.{_>>=_, Piece, piece, word, tell, good, wrong}
 use Rattle.script.proofs.Do.{every-bind, every-map, every-tell, every-then}
-use Rattle.script.proofs.Places.{lies-front}
+use Rattle.script.proofs.Places.{lies-front, lies-in}
 use Rattle.messages.specs.Message.{FieldRead}
 use Rattle.messages.specs.Names.{areTrailers}
 use Rattle.messages.specs.Meaning.{contentOf}
 use Rattle.messages.specs.declared.Body.{Body}
-use Rattle.messages.specs.declared.Body.the-variants.{Sized, InChunks}
+use Rattle.messages.specs.declared.Body.the-variants.{Sized, InChunks, UntilClosed}
 use Rattle.http1.specs.Lines.{fieldOf, chunkOf}
 use Rattle.http1.specs.Read.{lineWithin, less, Lines, fieldLines, section, Content, trailerSection, chunkData, chunksFrom, content}
 use Rattle.sound.specs.Placed.{Lying}
 use Rattle.sound.proofs.Each.{content-snoc}
 use Rattle.sound.proofs.Parts.{SectionAt, section-none, section-snoc, ChunksAt, chunks-none, chunks-snoc, chunks-one}
-use Rattle.http1_sound.proofs.Rules.{Fits, Fills}
+use Rattle.http1_sound.proofs.Rules.{Fits, Fills, Reaches}
 use Rattle.http1_sound.proofs.Lines.{line-at}
 
 -- ---- sections
 
-pub every-lines : (s : List ℕ) (f left at : ℕ) (fs : List FieldRead) → SectionAt s fs → Every s (λ n h. SectionAt s (h .lines)) at (fieldLines f left fs)
+-- a section that was read up to the place n: what its lines are, and that it says that it ends there
+pub record SectionRead (s : List ℕ) (n : ℕ) (h : Lines) : Type 0 where
+  pub lines : SectionAt s (h .lines)
+  pub end : h .end ≡ n
+
+empty-line : (at : ℕ) (w : List ℕ) → isEmpty w ≡ true → at + 2 ≡ at + length (w ++ 13 ∷ 10 ∷ [])
+unfolding isEmpty
+empty-line at w e = omega (arith, eqb-true (length w) 0 e, length-append w (13 ∷ 10 ∷ []))
+
+every-lines : (s : List ℕ) (f left at : ℕ) (fs : List FieldRead) → SectionAt s fs → Every s (λ n h. SectionRead s n h) at (fieldLines f left fs)
 unfolding fieldLines
 every-lines s zero left at fs h = tt
 every-lines s (suc f) left at fs h =
     every-bind s _ at (word (lineWithin left)) _ λ w g y.
-    pick w (isEmpty w) (leb linesMost (length fs)) refl y (λ x q. every-lines s f (less left (piece at w)) _ (fs ++ x ∷ []) q)
+    pick w (isEmpty w) refl (leb linesMost (length fs)) refl y (λ x q. every-lines s f (less left (piece at w)) _ (fs ++ x ∷ []) q)
   where
-    pick : (w : List ℕ) (a b : Bool) → leb linesMost (length fs) ≡ b → Lies s at w
+    pick : (w : List ℕ) (a : Bool) → isEmpty w ≡ a → (b : Bool) → leb linesMost (length fs) ≡ b → Lies s at w
         → ((x : FieldRead) → SectionAt s (fs ++ x ∷ [])
-        → Every s (λ n h. SectionAt s (h .lines)) (at + length (w ++ 13 ∷ 10 ∷ [])) (fieldLines f (less left (piece at w)) (fs ++ x ∷ [])))
-        → Every s (λ n h. SectionAt s (h .lines)) (at + length (w ++ 13 ∷ 10 ∷ []))
+        → Every s (λ n h. SectionRead s n h) (at + length (w ++ 13 ∷ 10 ∷ [])) (fieldLines f (less left (piece at w)) (fs ++ x ∷ [])))
+        → Every s (λ n h. SectionRead s n h) (at + length (w ++ 13 ∷ 10 ∷ []))
         (cond a (done (record { lines = fs; end = at + 2; left = left - 2 }))
         (cond b (stop tooLarge at) (tell (fieldOf (piece at w)) >>= λ x. fieldLines f (less left (piece at w)) (fs ++ x ∷ []))))
-    pick w true b e y ih = h
-    pick w false true e y ih = tt
-    pick w false false e y ih =
+    pick w true q b e y ih = record { lines = h; end = empty-line at w q }
+    pick w false q true e y ih = tt
+    pick w false q false e y ih =
         every-bind s _ _ (tell (fieldOf (piece at w))) _ (every-tell s _ _ (fieldOf (piece at w)) λ x q.
         ih x
         (section-snoc s fs x h (line-at s (piece at w) x q y) (leb-false linesMost (length fs) e)))
 
-pub every-section : (s : List ℕ) (left at : ℕ) → Every s (λ n h. SectionAt s (h .lines)) at (section left)
+pub every-section : (s : List ℕ) (left at : ℕ) → Every s (λ n h. SectionRead s n h) at (section left)
 unfolding section
 every-section s left at = every-lines s (suc linesMost) left at [] (section-none s)
 
@@ -64,8 +73,8 @@ pub record ContentAt (s : List ℕ) (c : Content) : Type 0 where
 every-trailers : (s : List ℕ) (at : ℕ) (cs : List Piece) → ChunksAt s cs → Every s (λ n c. ContentAt s c) at (trailerSection cs)
 unfolding trailerSection
 every-trailers s at cs h =
-    every-then s (λ n l. SectionAt s (l .lines)) _ at (section trailerMost) _ (every-section s trailerMost at) λ n l g.
-    pick n l g (areTrailers (l .lines)) refl
+    every-then s (λ n l. SectionRead s n l) _ at (section trailerMost) _ (every-section s trailerMost at) λ n l g.
+    pick n l (g .lines) (areTrailers (l .lines)) refl
   where
     pick : (n : ℕ) (l : Lines) → SectionAt s (l .lines) → (b : Bool) → areTrailers (l .lines) ≡ b
         → Every s (λ i c. ContentAt s c) n (cond b (done (record { chunks = cs; trailers = l .lines })) (stop badLength (l .end)))
@@ -115,13 +124,14 @@ every-chunks s (suc f) at cs total h t =
         (chunks-snoc s cs c n h (d .0) (d .1) (eqb-false n 0 p) (leb-false chunksMost (length cs) q) (omega (arith, ltb-false contentMost (total + n) r)))
         (omega (arith, content-snoc cs c, d .1)))
 
-pub every-content : (s : List ℕ) (b : Body) (at : ℕ) → Fits b → Every s (λ n c. ContentAt s c × Fills b c) at (content b)
+pub every-content : (s : List ℕ) (b : Body) (at : ℕ) → Fits b → Every s (λ n c. ContentAt s c × Fills b c × Reaches (length s) b at n) at (content b)
 unfolding content contentOf areTrailers
 every-content s (Sized n) at h =
     every-bind s _ at (word (someOctets n)) _ λ w l y.
     let k : length w ≡ n = l in
     let o = chunks-one s at w y (omega arith) in
-    (record { chunks = o .0; trailers = section-none s; names = refl }, (omega (arith, o .1), refl))
+    (record { chunks = o .0; trailers = section-none s; names = refl }, (omega (arith, o .1), refl), (omega arith, omega (arith, lies-in y)))
 every-content s InChunks at h =
-    every-map s (λ n c. ContentAt s c) (λ n c. ContentAt s c × Unit {0}) at (chunksFrom (suc chunksMost) [] 0) (λ n c g. (g, tt))
+    every-map s (λ n c. ContentAt s c) (λ n c. ContentAt s c × Unit {0} × Unit {0}) at (chunksFrom (suc chunksMost) [] 0) (λ n c g. (g, tt, tt))
     (every-chunks s (suc chunksMost) at [] 0 (chunks-none s) refl)
+every-content s UntilClosed at h = every-bind s _ at (word (someOctets (contentMost + 1))) _ λ w l y. tt

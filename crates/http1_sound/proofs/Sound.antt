@@ -13,7 +13,7 @@ use Rattle.script.specs.Script.{accepted, refused, Script, stop, run, Every}
 use Rattle.script.specs.Do.{_>>=_, Piece, piece, word, tell, good}
 use Rattle.script.proofs.Do.{every-bind, every-tell, every-then}
 use Rattle.script.proofs.Sound.{says, sound-all}
-use Rattle.messages.specs.Told.{answering}
+use Rattle.messages.specs.Told.{isYes, answering, closing}
 use Rattle.messages.specs.declared.Told.{Told}
 use Rattle.messages.specs.Message.{InformationalRead, requestStart, responseStart, Message, plainMessage, statingMessage}
 use Rattle.messages.specs.Control.{statusVerdict, isInformational, isBodyless, endsAtHead}
@@ -22,18 +22,19 @@ use Rattle.messages.specs.Rules.{authorityIn, framingOf, requestBody, nothingSt
 use Rattle.messages.specs.Meaning.{fieldMeans, contentOf, meaning}
 use Rattle.messages.specs.Valid.{isScheme, validBody, validStated, suits}
 use Rattle.messages.specs.declared.Body.{Body}
+use Rattle.messages.specs.declared.Ending.{Ending}
 use Rattle.messages.specs.declared.StatedLength.{StatedLength}
 use Rattle.messages.specs.declared.Kind.the-variants as kind
 use Rattle.http1.specs.Lines.{RequestRead, requestOf, statusOf}
-use Rattle.http1.specs.Read.{lineWithin, less, Lines, section, Content, content, afterHead, request, readRequest, afterFinal, heads, readResponse}
+use Rattle.http1.specs.Read.{lineWithin, less, Lines, section, Content, content, afterHead, request, readRequest, ResponseCall, responseCall, afterFinal, heads, readResponse}
 use Rattle.sound.specs.Sound.{Sound, StatesLength}
-use Rattle.http1_sound.specs.Read.{IsRequest, IsResponse, SoundRequest, RequestsSound, ResponsesSound, Http1Reads}
+use Rattle.http1_sound.specs.Read.{IsRequest, IsResponse, Unmeasured, SoundRequest, RequestsSound, ResponsesSound, Http1Reads}
 use Rattle.sound.proofs.Parts.{SectionAt, request-valid, HeadsAt, head-at, heads-none, heads-snoc, heads-lie, heads-good, response-valid, PartsAt, parts-sound}
 use Rattle.sound.proofs.Rules.{HostIs, host-lies}
 use Rattle.sound.proofs.Stated.{stated-few, content-status, none-stated}
-use Rattle.http1_sound.proofs.Rules.{host-is, Fills, request-framed, ResponseFramed, response-framed}
+use Rattle.http1_sound.proofs.Rules.{host-is, Fills, Reaches, ends-with-stream, request-framed, ResponseFramed, response-framed}
 use Rattle.http1_sound.proofs.Lines.{RequestAt, request-at, status-good}
-use Rattle.http1_sound.proofs.Sections.{every-section, ContentAt, every-content}
+use Rattle.http1_sound.proofs.Sections.{SectionRead, every-section, ContentAt, every-content}
 use Rattle.http1_sound.proofs.Front.{request-within, response-within, request-front, response-front}
 
 -- ---- requests
@@ -68,14 +69,14 @@ unfolding request afterHead suits meaning
 every-request s t at sc =
     every-bind s _ at (word (lineWithin headMost)) _ λ w g y.
     every-bind s _ _ (tell (requestOf (piece at w))) _ (every-tell s _ _ (requestOf (piece at w)) λ q e.
-    every-then s (λ n h. SectionAt s (h .lines)) _ _ (section (less headMost (piece at w))) _ (every-section s (less headMost (piece at w)) _) λ i h k.
+    every-then s (λ n h. SectionRead s n h) _ _ (section (less headMost (piece at w))) _ (every-section s (less headMost (piece at w)) _) λ i h k.
     every-bind s _ _ (tell (authorityIn (h .end) (piece 0 []) (h .lines))) _ (every-tell s _ _ (authorityIn (h .end) (piece 0 []) (h .lines)) λ a p.
     every-bind s _ _ (tell (requestBody (h .end) (framingOf (h .lines)))) _ (every-tell s _ _ (requestBody (h .end) (framingOf (h .lines))) λ b r.
     let f = request-framed (h .end) (framingOf (h .lines)) b r in
     let o = host-is (h .end) (h .lines) a p in
-    every-then s (λ n c. ContentAt s c × Fills b c) _ _ (content b) _ (every-content s b _ (f .fits)) λ j c x.
+    every-then s (λ n c. ContentAt s c × Fills b c × Reaches (length s) b i n) _ _ (content b) _ (every-content s b _ (f .fits)) λ j c x.
     record {
-      sound = parts-sound s (requestMessage t q a h c) (request-parts s t q a h c sc (request-at s (piece at w) q e y) k o (x .0));
+      sound = parts-sound s (requestMessage t q a h c) (request-parts s t q a h c sc (request-at s (piece at w) q e y) (k .lines) o (x .0));
       request = (refl, o .line, o .one, o .same);
       suits = refl;
       stated = (f .stated c (x .1), refl);
@@ -104,7 +105,7 @@ record ResponseTail (t : Told) (hs : List InformationalRead) (n : ℕ) (h : Line
   valid : validStated (statedIn t n (framingOf (h .lines))) (meaning (responseMessage t hs n h c)) ≡ true
 
 response-tail : (t : Told) (hs : List InformationalRead) (n : ℕ) (h : Lines) (b : Body) (c : Content) → length (h .lines) ≤ linesMost
-    → ResponseFramed t n (framingOf (h .lines)) b → Fills b c → ResponseTail t hs n h c
+    → {e : Ending} → ResponseFramed t e n (h .end) (framingOf (h .lines)) b → Fills b c → ResponseTail t hs n h c
 unfolding suits meaning statedIn validBody
 response-tail t hs n h b c few f y = go (endsAtHead t n) refl
   where
@@ -134,65 +135,91 @@ response-parts s t hs n h c a v i k x y = record {
   names = x .names;
 }
 
--- what is known of each response at its end
-record ResponseEnd (t : Told) (s : List ℕ) (m : Message) : Type 0 where
+-- what is known of each response at its end, which is the place i
+record ResponseEnd (t : Told) (s : List ℕ) (i : ℕ) (m : Message) : Type 0 where
   sound : Sound s m
   response : IsResponse (m .start)
   suits : suits t (meaning m) ≡ true
   stated : StatesLength t (m .start) (framingOf (m .lines)) m
+  whole : Unmeasured t (m .lines) (m .start) → i ≡ length s
+  closed : Unmeasured t (m .lines) (m .start) → isYes (t .closed) ≡ true
 
-every-final : (s : List ℕ) (t : Told) (at : ℕ) (hs : List InformationalRead) (n : ℕ) (h : Lines) → HeadsAt s hs → statusVerdict n ≡ 0 → isInformational n ≡ false
-    → SectionAt s (h .lines) → Every s (λ i m. ResponseEnd t s m) at (afterFinal t hs n h)
-unfolding afterFinal
-every-final s t at hs n h a v i k =
-    every-bind s _ at (tell (responseBody t n (h .end) (framingOf (h .lines)))) _ (every-tell s _ _ (responseBody t n (h .end) (framingOf (h .lines))) λ b r.
-    let f = response-framed t n (h .end) (framingOf (h .lines)) b r in
-    every-then s (λ j c. ContentAt s c × Fills b c) _ _ (content b) _ (every-content s b _ (f .fits)) λ j c x.
-    let y = response-tail t hs n h b c (k .few) f (x .1) in
-    record {
-      sound = parts-sound s (responseMessage t hs n h c) (response-parts s t hs n h c a v i k (x .0) y);
-      response = tt;
-      suits = y .suits;
-      stated = record { once = f .once; none = f .none; stated = refl; agrees = λ o. f .stated o c (x .1) };
-    })
+module _ (s : List ℕ) (t : Told) where
+  -- the call on this stream
+  abbrev call : ResponseCall
+  call = responseCall t (length s)
 
-every-heads : (s : List ℕ) (t : Told) (f at : ℕ) (hs : List InformationalRead) (left : ℕ) → HeadsAt s hs → Every s (λ i m. ResponseEnd t s m) at (heads t f hs left)
-unfolding heads
-every-heads s t zero at hs left a = tt
-every-heads s t (suc f) at hs left a =
-    every-bind s _ at (word (lineWithin left)) _ λ w g y.
-    every-bind s _ _ (tell (statusOf (piece at w))) _ (every-tell s _ _ (statusOf (piece at w)) λ n e.
-    pick (less left (piece at w)) _ n (status-good (piece at w) n e) (isInformational n) refl (leb informationalMost (length hs)) refl
-    (λ i h l b. every-heads s t f i (hs ++ h ∷ []) l b))
-  where
-    pick : (l i n : ℕ) → statusVerdict n ≡ 0 → (b : Bool) → isInformational n ≡ b → (c : Bool) → leb informationalMost (length hs) ≡ c
-        → ((j : ℕ) (h : InformationalRead) (k : ℕ) → HeadsAt s (hs ++ h ∷ []) → Every s (λ z m. ResponseEnd t s m) j (heads t f (hs ++ h ∷ []) k))
-        → Every s (λ z m. ResponseEnd t s m) i
-        (cond b
-        (cond c (stop tooLarge at)
-        (section l >>= λ h. tell (nothingStated (h .end) (framingOf (h .lines))) >>= λ u. heads t f (hs ++ record { status = n; lines = h .lines } ∷ []) (h .left)))
-        (section l >>= λ h. afterFinal t hs n h))
-    pick l i n v true p true q ih = tt
-    pick l i n v true p false q ih =
-        every-then s (λ j h. SectionAt s (h .lines)) _ i (section l) _ (every-section s l i) λ j h k.
-        every-bind s _ _ (tell (nothingStated (h .end) (framingOf (h .lines)))) _ (every-tell s _ _ (nothingStated (h .end) (framingOf (h .lines))) λ u r.
-        ih _ _ _ (heads-snoc s hs _ a (head-at s n (h .lines) v p k) (leb-false informationalMost (length hs) q)))
-    pick l i n v false p c q ih =
-        every-then s (λ j h. SectionAt s (h .lines)) _ i (section l) _ (every-section s l i) λ j h k.
-        every-final s t j hs n h a v p k
+  every-final : (at : ℕ) (hs : List InformationalRead) (n : ℕ) (h : Lines) → HeadsAt s hs → statusVerdict n ≡ 0 → isInformational n ≡ false
+      → SectionRead s at h → Every s (ResponseEnd t s) at (afterFinal call hs n h)
+  unfolding afterFinal
+  every-final at hs n h a v i k =
+      every-bind s _ at (tell (responseBody t (call .ending) n (h .end) (framingOf (h .lines)))) _
+      (every-tell s _ _ (responseBody t (call .ending) n (h .end) (framingOf (h .lines))) λ b r.
+      let f = response-framed t (call .ending) n (h .end) (framingOf (h .lines)) b r in
+      every-then s (λ j c. ContentAt s c × Fills b c × Reaches (length s) b at j) _ _ (content b) _ (every-content s b _ (f .fits)) λ j c x.
+      let y = response-tail t hs n h b c (k .lines .few) f (x .1) in
+      let z : Reaches (length s) b (h .end) j = rw (k .end) (x .2) in
+      let o : Unmeasured t (h .lines) (responseStart hs n) → (isYes (t .closed) ≡ true) × (j ≡ length s) =
+      λ u. ends-with-stream t (length s) (h .end) j b c (x .1) z (f .unmeasured (u .0) (u .1)) in
+      record {
+        sound = parts-sound s (responseMessage t hs n h c) (response-parts s t hs n h c a v i (k .lines) (x .0) y);
+        response = tt;
+        suits = y .suits;
+        stated = record { once = f .once; none = f .none; stated = refl; agrees = λ o. f .stated o c (x .1) };
+        whole = λ u. o u .1;
+        closed = λ u. o u .0;
+      })
+
+  every-heads : (f at : ℕ) (hs : List InformationalRead) (left : ℕ) → HeadsAt s hs → Every s (ResponseEnd t s) at (heads call f hs left)
+  unfolding heads
+  every-heads zero at hs left a = tt
+  every-heads (suc f) at hs left a =
+      every-bind s _ at (word (lineWithin left)) _ λ w g y.
+      every-bind s _ _ (tell (statusOf (piece at w))) _ (every-tell s _ _ (statusOf (piece at w)) λ n e.
+      pick (less left (piece at w)) _ n (status-good (piece at w) n e) (isInformational n) refl (leb informationalMost (length hs)) refl
+      (λ i h l b. every-heads f i (hs ++ h ∷ []) l b))
+    where
+      pick : (l i n : ℕ) → statusVerdict n ≡ 0 → (b : Bool) → isInformational n ≡ b → (c : Bool) → leb informationalMost (length hs) ≡ c
+          → ((j : ℕ) (h : InformationalRead) (k : ℕ) → HeadsAt s (hs ++ h ∷ []) → Every s (ResponseEnd t s) j (heads call f (hs ++ h ∷ []) k))
+          → Every s (ResponseEnd t s) i
+          (cond b
+          (cond c (stop tooLarge at)
+          (section l >>= λ h. tell (nothingStated (h .end) (framingOf (h .lines))) >>= λ u. heads call f (hs ++ record { status = n; lines = h .lines } ∷ []) (h .left)))
+          (section l >>= λ h. afterFinal call hs n h))
+      pick l i n v true p true q ih = tt
+      pick l i n v true p false q ih =
+          every-then s (λ j h. SectionRead s j h) _ i (section l) _ (every-section s l i) λ j h k.
+          every-bind s _ _ (tell (nothingStated (h .end) (framingOf (h .lines)))) _ (every-tell s _ _ (nothingStated (h .end) (framingOf (h .lines))) λ u r.
+          ih _ _ _ (heads-snoc s hs _ a (head-at s n (h .lines) v p (k .lines)) (leb-false informationalMost (length hs) q)))
+      pick l i n v false p c q ih =
+          every-then s (λ j h. SectionRead s j h) _ i (section l) _ (every-section s l i) λ j h k.
+          every-final j hs n h a v p k
 
 pub response-sound : ResponsesSound
 unfolding readResponse
 response-sound t s n m e =
-    let sc : Script Message = heads t (suc informationalMost) [] headMost in
-    let h = says (λ i x. ResponseEnd t s x × (i ≤ length s)) (sound-all (λ i x. ResponseEnd t s x) sc s (every-heads s t (suc informationalMost) 0 [] headMost (heads-none s))) e in
+    let sc : Script Message = heads (responseCall t (length s)) (suc informationalMost) [] headMost in
+    let h = says (λ i x. ResponseEnd t s i x × (i ≤ length s)) (sound-all (ResponseEnd t s) sc s (every-heads s t (suc informationalMost) 0 [] headMost (heads-none s))) e in
     let w = response-within t s n m e in
-    record { sound = h .0 .sound; response = h .0 .response; suits = h .0 .suits; stated = h .0 .stated; some = w .0; within = w .1 }
+    record {
+      sound = h .0 .sound;
+      response = h .0 .response;
+      suits = h .0 .suits;
+      stated = h .0 .stated;
+      some = w .0;
+      within = w .1;
+      whole = h .0 .whole;
+      closed = h .0 .closed;
+    }
 
--- a request does not look at whether a message answers a HEAD
+-- a request does not look at whether a message answers a HEAD, nor at whether the connection has closed
 pub request-head-unused : (t : Told) (h : ℕ) (s : List ℕ) → readRequest (answering h t) s ≡ readRequest t s
 unfolding readRequest request afterHead
 request-head-unused t h s = refl
+
+pub request-closed-unused : (t : Told) (c : ℕ) (s : List ℕ) → readRequest (closing c t) s ≡ readRequest t s
+unfolding readRequest request afterHead
+request-closed-unused t c s = refl
 
 pub http1-reads : Http1Reads
 http1-reads = record {
@@ -201,4 +228,5 @@ http1-reads = record {
   requestsSound = request-sound;
   responsesSound = response-sound;
   headUnused = request-head-unused;
+  closedUnused = request-closed-unused;
 }

@@ -1,18 +1,20 @@
 -- What holds of every message that is accepted from HTTP/1.1 (00, demand 2, and the case it begins with: two statements of a length;
--- 01, "HTTP/1.1 as we take it"; 02, item 5).
+-- 01, "HTTP/1.1 as we take it"; 02, items 5 and 10).
 use Prim.Native.Nat.{ℕ, _<_, _≤_}
 use mathlib.Core.Path.{_≡_}
-use mathlib.Core.Bool.{true}
+use mathlib.Core.Bool.{true, false}
 use mathlib.Core.List.{List, [], _∷_}
 use lib.ListN.{length}
 use Rattle.script.specs.Script.{accepted, refused}
-use Rattle.messages.specs.Told.{answering}
+use Rattle.messages.specs.Told.{isYes, answering, closing}
 use Rattle.messages.specs.declared.Told.{Told}
 use Rattle.messages.specs.Message.{FieldRead, Start, requestStart, responseStart, Message}
+use Rattle.messages.specs.Control.{endsAtHead}
 use Rattle.messages.specs.Names.{linesOf}
 use Rattle.messages.specs.Rules.{framingOf}
 use Rattle.messages.specs.Meaning.{meaning}
 use Rattle.messages.specs.Valid.{suits}
+use Rattle.messages.specs.declared.Framing.the-variants.{Unstated}
 use Rattle.messages.specs.declared.Kind.the-variants as kind
 use Rattle.http1.specs.Read.{readRequest, readResponse}
 use Rattle.http1_sound.specs.Front.{Front}
@@ -28,6 +30,11 @@ IsRequest t lines (responseStart hs s) = ⊥
 abbrev pub IsResponse : Start → Type 0
 IsResponse (requestStart method s authority path) = ⊥
 IsResponse (responseStart hs s) = Unit {0}
+
+-- a response that may have content, and whose head has neither length line
+abbrev pub Unmeasured : Told → List FieldRead → Start → Type 0
+Unmeasured t lines (requestStart method s authority path) = ⊥
+Unmeasured t lines (responseStart hs n) = (endsAtHead t n ≡ false) × (framingOf lines ≡ Unstated)
 
 -- a request m of length n that is accepted from the stream s
 pub record SoundRequest (t : Told) (s : List ℕ) (n : ℕ) (m : Message) : Type 0 where
@@ -46,6 +53,10 @@ pub record SoundResponse (t : Told) (s : List ℕ) (n : ℕ) (m : Message) : Typ
   pub stated : StatesLength t (m .start) (framingOf (m .lines)) m
   pub some : 0 < n
   pub within : n ≤ length s
+  -- such a response is as long as the stream (02, item 10: "the message is as long as the input")
+  pub whole : Unmeasured t (m .lines) (m .start) → n ≡ length s
+  -- and it is accepted only of a connection that has closed (02, item 10: "open it is 1, or 8")
+  pub closed : Unmeasured t (m .lines) (m .start) → isYes (t .closed) ≡ true
 
 -- so is every accepted request, under whatever scheme is told
 abbrev pub RequestsSound : Type 0
@@ -67,10 +78,12 @@ RequestsRefused = (t : Told) (s : List ℕ) (n p : ℕ) → readRequest t s ≡ 
 abbrev pub ResponsesRefused : Type 0
 ResponsesRefused = (t : Told) (s : List ℕ) (n p : ℕ) → readResponse t s ≡ refused n p → Refusal http1Last s n p
 
--- the claims on both readers of HTTP/1.1, whatever a call is told; that a message answers a HEAD means nothing of a request
+-- the claims on both readers of HTTP/1.1, whatever a call is told; that a message answers a HEAD, or that the connection has closed, means nothing of a request. A
+-- stream of responses goes on only while the connection is open: what is read when it has closed may be as long as the input
 pub record Http1Reads : Type 0 where
   pub requests : (t : Told) → Front (readRequest t)
-  pub responses : (t : Told) → Front (readResponse t)
+  pub responses : (t : Told) → isYes (t .closed) ≡ false → Front (readResponse t)
   pub requestsSound : RequestsSound
   pub responsesSound : ResponsesSound
   pub headUnused : (t : Told) (h : ℕ) (s : List ℕ) → readRequest (answering h t) s ≡ readRequest t s
+  pub closedUnused : (t : Told) (c : ℕ) (s : List ℕ) → readRequest (closing c t) s ≡ readRequest t s
