@@ -11,12 +11,12 @@ use Rattle.script.proofs.Sound.{says, sound}
 use Rattle.messages.specs.Message.{FieldRead}
 use Rattle.messages.specs.Notes.{AllLie}
 use Rattle.messages.specs.declared.Body.{Body}
-use Rattle.messages.specs.declared.Body.the-variants.{Sized, InChunks}
+use Rattle.messages.specs.declared.Body.the-variants.{Sized, InChunks, UntilClosed}
 use Rattle.http1.specs.Read.{Lines, section}
 use Rattle.sound.specs.Placed.{Each}
-use Rattle.sound.proofs.Parts.{LineAt, SectionAt}
+use Rattle.sound.proofs.Parts.{LineAt}
 use Rattle.http1_sound.proofs.Rules.{Fits}
-use Rattle.http1_sound.proofs.Sections.{every-section}
+use Rattle.http1_sound.proofs.Sections.{SectionRead, every-section}
 use Rattle.http1_parts.specs.Content.{SizedWithin}
 use Rattle.http1_parts.proofs.Outcomes.{Ended, section-end}
 
@@ -38,17 +38,18 @@ section-facts s from left n h g e =
     let l : length (take from s) ≡ from = length-take-le from s g in
     let d : length (drop from s) ≡ length s - from = length-drop from s in
     let t : take from s ++ drop from s ≡ s = take-append-drop from s in
-    let b = says _ (sound (λ n h. SectionAt s (h .lines)) (section left) (take from s) (drop from s) from l
-    (subst (λ (x : List ℕ). Every x (λ n h. SectionAt s (h .lines)) from (section left)) (sym t) (every-section s left from))) e in
+    let b = says _ (sound (λ n h. SectionRead s n h) (section left) (take from s) (drop from s) from l
+    (subst (λ (x : List ℕ). Every x (λ n h. SectionRead s n h) from (section left)) (sym t) (every-section s left from))) e in
     record {
       ended = section-end left from (drop from s) e;
       within = omega (arith, b .2, d);
       behind = b .1;
-      few = b .0 .few;
-      lie = all-lie s (h .lines) (b .0 .lines);
+      few = b .0 .lines .few;
+      lie = all-lie s (h .lines) (b .0 .lines .lines);
     }
 
 -- a body that is within its size
 pub fits-within : (b : Body) → Fits b → SizedWithin b
 fits-within (Sized n) h = h
 fits-within InChunks h = tt
+fits-within UntilClosed h = tt

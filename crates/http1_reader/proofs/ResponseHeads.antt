@@ -23,12 +23,11 @@ use Rattle.messages.specs.declared.Body.{Body}
 use Rattle.messages.specs.declared.BodyAnswer.the-variants as body
 use Rattle.messages.specs.declared.Framing.{Framing}
 use Rattle.messages.specs.declared.Notes.{Notes}
-use Rattle.messages.specs.declared.Told.{Told}
 use Rattle.messages.proofs.Noting.{notes-framing}
 use Rattle.messages.proofs.Lengths.{body-read, body-refused}
 use Rattle.http1.specs.Lines.{statusLens, statusOf}
 use Rattle.http1.specs.declared.StatusLine.the-variants as status-line
-use Rattle.http1.specs.Read.{Lines, section, afterInformational, afterInformationalLine, afterFinal, afterFinalLine, heads}
+use Rattle.http1.specs.Read.{Lines, section, afterInformational, afterInformationalLine, ResponseCall, afterFinal, afterFinalLine, heads}
 use Rattle.http1_parts.specs.Section.{Sectioned}
 use Rattle.http1_parts.specs.declared.Section.{Section}
 use Rattle.http1_parts.specs.declared.Section.the-variants as section-read
@@ -52,7 +51,7 @@ record SectionEnds (s : List ℕ) (next left base : ℕ) (hs hs′ : List ℕ) (
   pub noted : n ≡ notesOf true (lines .lines)
 
 module _ (s : List ℕ) (next left base : ℕ) (hs hs′ : List ℕ) (r : Section) (w : Sectioned (run (section left) next (drop next s)) true base hs hs′ r) where
-  module _ (P : List InformationalRead → Type 0) (k : ℕ → List InformationalRead → Told → Lines → Script Message) where
+  module _ (P : List InformationalRead → Type 0) (k : ℕ → List InformationalRead → ResponseCall → Lines → Script Message) where
     pub headed-more : r ≡ section-read.More → Headed P (λ f is t. run (section left >>= k f is t) next (drop next s)) s base hs hs′ head.More
     headed-more e = record { by = λ f is z t. behind-more left (k f is t) s next (section-more w e) }
 
@@ -115,7 +114,7 @@ module _ (s : List ℕ) (next left base : ℕ) (hs hs′ : List ℕ) (r : Sectio
 
 -- ---- the status line
 
-module _ (s : List ℕ) (i left f : ℕ) (is : List InformationalRead) (t : Told) where
+module _ (s : List ℕ) (i left f : ℕ) (is : List InformationalRead) (t : ResponseCall) where
   heads-more : lineOf (drop i s) left i 0 ≡ More → run (heads t (suc f) is left) i (drop i s) ≡ more
   unfolding heads _>>=_
   heads-more e = line-more _ _ _ _ s i e
@@ -153,7 +152,7 @@ module _ (s : List ℕ) (i left f : ℕ) (is : List InformationalRead) (t : Told
       heads-final b = line-ends _ _ _ _ s i next e ∙ rw (q, b, less-is) refl
 
 -- two scripts that answer alike say the same
-says-same : {x y : Told → Answer Message} (f : ℕ) (is : List InformationalRead) (s : List ℕ) (base : ℕ) (hs hs′ : List ℕ) (r : HeadRead) → ((t : Told) → x t ≡ y t)
+says-same : {x y : ResponseCall → Answer Message} (f : ℕ) (is : List InformationalRead) (s : List ℕ) (base : ℕ) (hs hs′ : List ℕ) (r : HeadRead) → ((t : ResponseCall) → x t ≡ y t)
     → HeadSays y f is s base hs hs′ r → HeadSays x f is s base hs hs′ r
 says-same f is s base hs hs′ (head.Informational n e l k) a d = (d .0, d .1, d .2, d .3, λ t. a t ∙ d .4 t)
 says-same f is s base hs hs′ (head.Final n e k notes) a d = (d .0, d .1, d .2, λ t. a t ∙ d .3 t)

@@ -13,11 +13,10 @@ use Rattle.messages.specs.Message.{InformationalRead}
 use Rattle.messages.specs.Names.{kept}
 use Rattle.messages.specs.Answers.{fieldsNumbers, informationalNumbers, informationalLines}
 use Rattle.messages.specs.declared.Notes.{Notes}
-use Rattle.messages.specs.declared.Told.{Told}
 use Rattle.messages.proofs.Noting.{kept-few}
-use Rattle.http1.specs.Read.{Lines, informationalRead, heads, readResponse}
+use Rattle.http1.specs.Read.{Lines, informationalRead, ResponseCall, heads}
 use Rattle.ranges.proofs.HeadsStored.{lines-snoc, fields-more, numbers-more}
-use Rattle.http1_reader.specs.Responses.{HeadStored, HeadSays, Headed, HeadsFacts, HeadsSays, HeadsTaken}
+use Rattle.http1_reader.specs.Responses.{HeadStored, HeadSays, Headed, HeadsFacts, responseRun, HeadsSays, HeadsTaken}
 use Rattle.http1_reader.specs.declared.HeadRead.{HeadRead}
 use Rattle.http1_reader.specs.declared.HeadRead.the-variants as head
 use Rattle.http1_reader.specs.declared.HeadsRead.{HeadsRead}
@@ -34,10 +33,10 @@ pub record HeadsTo (s hs₀ hs ns₀ ns : List ℕ) (i left count base : ℕ) : 
   pub few : base ≤ count * linesMost
   pub stored : hs ≡ splice hs₀ 0 (fieldsNumbers (informationalLines read))
   pub numbers : ns ≡ splice ns₀ 0 (informationalNumbers read)
-  pub turn : (t : Told) → readResponse t s ≡ run (heads t (suc (informationalMost - count)) read left) i (drop i s)
+  pub turn : (t : ResponseCall) → responseRun s t ≡ run (heads t (suc (informationalMost - count)) read left) i (drop i s)
 
 pub heads-start : (s hs ns : List ℕ) → HeadsTo s hs hs ns ns 0 headMost 0 0
-unfolding readResponse informationalLines informationalNumbers fieldsNumbers
+unfolding informationalLines informationalNumbers fieldsNumbers
 heads-start s hs ns =
     record {
       read = [];
@@ -60,10 +59,10 @@ module _ {s hs₀ hs hs′ ns₀ ns : List ℕ} {i left count base : ℕ} (to : 
       subst (λ (z : HeadRead). HeadSays (λ t. run (heads t (suc (informationalMost - count)) (to .read) left) i (drop i s)) (informationalMost - count) (to .read) s base hs hs′ z) e
       (w .by (informationalMost - count) (to .read) (to .counted))
 
-  pub heads-more : (ns′ : List ℕ) → r ≡ head.More → HeadsTaken (λ t. readResponse t s) s hs₀ hs′ ns₀ ns′ heads-read.More
+  pub heads-more : (ns′ : List ℕ) → r ≡ head.More → HeadsTaken (responseRun s) s hs₀ hs′ ns₀ ns′ heads-read.More
   heads-more ns′ e = record { says = λ t. to .turn t ∙ says head.More e t }
 
-  pub heads-refused : (ns′ : List ℕ) (k p : ℕ) → r ≡ head.Refused k p → HeadsTaken (λ t. readResponse t s) s hs₀ hs′ ns₀ ns′ (heads-read.Refused k p)
+  pub heads-refused : (ns′ : List ℕ) (k p : ℕ) → r ≡ head.Refused k p → HeadsTaken (responseRun s) s hs₀ hs′ ns₀ ns′ (heads-read.Refused k p)
   heads-refused ns′ k p e = record { says = λ t. to .turn t ∙ says (head.Refused k p) e t }
 
   -- the fields of one head more
@@ -71,7 +70,7 @@ module _ {s hs₀ hs hs′ ns₀ ns : List ℕ} {i left count base : ℕ} (to : 
   stored-more {h = h} q = fields-more hs₀ (informationalLines (to .read)) (kept true (h .lines)) (to .fields) (to .stored) (q .stored)
 
   module _ (n e k : ℕ) where
-    pub heads-final : (notes : Notes) → r ≡ head.Final n e k notes → HeadsTaken (λ t. readResponse t s) s hs₀ hs′ ns₀ ns (heads-read.Done n e count (k - base) notes)
+    pub heads-final : (notes : Notes) → r ≡ head.Final n e k notes → HeadsTaken (responseRun s) s hs₀ hs′ ns₀ ns (heads-read.Done n e count (k - base) notes)
     heads-final notes q =
         let d = says (head.Final n e k notes) q in
         record {

@@ -15,6 +15,7 @@ use messages::Reading;
 use messages::StatedLength;
 use messages::Told;
 use messages::answers::response_record;
+use messages::call::ending_of;
 use messages::parts::is_informational;
 use messages::sections::nothing_stated;
 use messages::sections::response_body;
@@ -33,11 +34,11 @@ ghost use Rattle.octets.specs.Table.{classes};
 ghost use Rattle.octets.specs.Limits.{headMost};
 ghost use Rattle.messages.specs.Answers.{readingOf};
 ghost use Rattle.messages.specs.Room.{sectionRoom, headsRoom, informationalRoom, chunksRoom};
-ghost use Rattle.http1.specs.Read.{readResponse};
+ghost use Rattle.http1.specs.Read.{responseCall, readResponse};
 ghost use Rattle.ranges.specs.Ranges.{Responded};
 ghost use Rattle.http1_parts.specs.Section.{SectionRoom};
 ghost use Rattle.http1_reader.specs.Responses.{InformationalHeaded, FinalHeaded, NextHeaded};
-ghost use Rattle.http1_reader.specs.Responses.{HeadsTaken, responseOutcome, FinalRead};
+ghost use Rattle.http1_reader.specs.Responses.{responseRun, HeadsTaken, responseOutcome, FinalRead};
 
 // The section of an informational head, behind its status line that ends at `next`.
 fn informational_head(
@@ -160,7 +161,7 @@ fn next_head(
 // number of kept fields of each informational head in `informational`.
 fn read_heads(t: &[u8; 256], s: &[u8], headers: &mut [u32], informational: &mut [u32]) -> HeadsRead
     requires { ⌜ (now t ≡ classes) × (headsRoom ≤ length (now headers)) × (informationalRoom ≤ length (now informational)) ⌝ }
-    ensures { λ r. ⌜ HeadsTaken (λ told. readResponse told (now (s .entry))) (now (s .entry))
+    ensures { λ r. ⌜ HeadsTaken (responseRun (now (s .entry))) (now (s .entry))
         (now (headers .entry)) (now (headers .exit)) (now (informational .entry)) (now (informational .exit)) r ⌝ }
 {
     let mut i: usize = 0;
@@ -247,11 +248,12 @@ fn after_final(
 ) -> Outcome
     requires { ⌜ (now t ≡ classes) × (end ≤ length (now s)) × (end ≤ headMost)
         × (chunksRoom ≤ length (now chunks)) × (sectionRoom ≤ length (now trailers)) ⌝ }
-    ensures { λ r. ⌜ FinalRead told (now (s .entry)) status end heads fields notes
+    ensures { λ r. ⌜ FinalRead (responseCall told (length (now (s .entry)))) (now (s .entry)) status end heads fields notes
         (now (chunks .entry)) (now (chunks .exit)) (now (trailers .entry)) (now (trailers .exit)) r ⌝ }
 {
     let f = notes.framing;
-    let b = response_body(told, status as usize, f, end);
+    let ending = ending_of(told, s.len());
+    let b = response_body(told, ending, status as usize, f, end);
     match b {
         BodyAnswer::Refused { number, place } => return Outcome::Refusal { number, place },
         BodyAnswer::Read(body) => {
