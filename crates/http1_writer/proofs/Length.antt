@@ -15,31 +15,36 @@ use Rattle.messages.specs.declared.Record.{Record}
 use Rattle.messages.specs.Control.{endsAtHead}
 use Rattle.messages.specs.Meaning.{lengthField}
 use Rattle.messages.specs.declared.Told.{Told}
-use Rattle.http1_writer.specs.Write.{crlf, fieldText, codingField, statedLine}
+use Rattle.http1_writer.specs.Write.{crlf, fieldText, codingField, isSilent, statedLine}
+use Rattle.ranges.specs.Entries.{partIn}
 use Rattle.http1_writer.specs.Numbered.{unmeasuredIn, lengthLineIn, linesText, lengthText, lengthSize, lengthCount}
 use Rattle.http1_writer.specs.declared.LengthLine.{LengthLine}
 use Rattle.http1_writer.specs.declared.LengthLine.the-variants.{Nothing, Length, Chunked}
 
-module _ (t : Told) (r : Record) where
+module _ (t : Told) (s : List ℕ) (r : Record) where
   -- whether it says how long the content is
-  pub unmeasured-response : r .response ≡ true → endsAtHead t (r .status) ≡ unmeasuredIn t r
+  pub unmeasured-response : r .response ≡ true → endsAtHead t (r .status) ≡ unmeasuredIn t s r
   unfolding unmeasuredIn
   unmeasured-response e = rw e
 
-  pub unmeasured-request : r .response ≡ false → eqb (r .content) 0 ≡ unmeasuredIn t r
+  pub unmeasured-empty : r .response ≡ false → r .content ≡ 0 → isSilent t (partIn s (r .method)) ≡ unmeasuredIn t s r
   unfolding unmeasuredIn
-  unmeasured-request e = rw e
+  unmeasured-empty e z = rw (e, z)
+
+  pub unmeasured-full : r .response ≡ false → (r .content ≡ 0 → ⊥) → false ≡ unmeasuredIn t s r
+  unfolding unmeasuredIn
+  unmeasured-full e z = rw (e, ne-eqb (r .content) 0 z)
 
   -- which it is
-  pub line-stated : r .trailers ≡ 0 → unmeasuredIn t r ≡ true → statedLine (r .stated) ≡ lengthLineIn t r
+  pub line-stated : r .trailers ≡ 0 → unmeasuredIn t s r ≡ true → statedLine (r .stated) ≡ lengthLineIn t s r
   unfolding lengthLineIn unmeasuredIn
   line-stated z u = rw (z, u)
 
-  pub line-length : r .trailers ≡ 0 → unmeasuredIn t r ≡ false → Length (r .content) ≡ lengthLineIn t r
+  pub line-length : r .trailers ≡ 0 → unmeasuredIn t s r ≡ false → Length (r .content) ≡ lengthLineIn t s r
   unfolding lengthLineIn unmeasuredIn
   line-length z u = rw (z, u)
 
-  pub line-chunked : (r .trailers ≡ 0 → ⊥) → Chunked ≡ lengthLineIn t r
+  pub line-chunked : (r .trailers ≡ 0 → ⊥) → Chunked ≡ lengthLineIn t s r
   unfolding lengthLineIn
   line-chunked z = rw (ne-eqb (r .trailers) 0 z)
 

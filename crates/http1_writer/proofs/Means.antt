@@ -107,13 +107,13 @@ to-same w p q = cc
 
 module _ (t : Told) (s : List ℕ) (r : Record) (hs ns cs ts : List ℕ) (e : length (contentOf (chunksIn s cs 0 (r .chunks))) ≡ r .content) where
   -- the one decision: what the code decides by numbers is the length line of the meaning
-  length-means : lengthLine t (meaningIn s r hs ns cs ts) ≡ lengthLineIn t r
+  length-means : lengthLine t (meaningIn s r hs ns cs ts) ≡ lengthLineIn t s r
   unfolding meaningIn lengthLine lengthLineIn unmeasuredIn
   length-means =
       lines-same (r .stated) (no-fields s ts (r .trailers)) (unmeasured-means s r hs ns t (r .response) (contentOf (chunksIn s cs 0 (r .chunks))) e) e
 
   -- for the length line l that was decided
-  module _ {l : LengthLine} (d : l ≡ lengthLineIn t r) where
+  module _ {l : LengthLine} (d : l ≡ lengthLineIn t s r) where
     pub head-means : headText t (meaningIn s r hs ns cs ts) ≡ headTextIn s r l hs ns
     unfolding meaningIn headText headLines headTextIn leadTextIn lengthText
     head-means =
@@ -149,7 +149,7 @@ module _ (t : Told) (s : List ℕ) (r : Record) (hs ns cs ts : List ℕ) (e : le
   connected-with false = refl
 
   -- what is to be written, by the tests on numbers
-  pub to-means : {l : LengthLine} → l ≡ lengthLineIn t r
+  pub to-means : {l : LengthLine} → l ≡ lengthLineIn t s r
       → toHttp1 t (meaningIn s r hs ns cs ts)
       ≡ cond (connectedIn t r)
       (cond (fitsIn (headSize r l hs ns) r l ts) (writes (http1Of t (meaningIn s r hs ns cs ts))) (refuses tooLarge 0))

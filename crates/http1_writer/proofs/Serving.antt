@@ -43,7 +43,7 @@ module _ {s : List ℕ} {r : Record} {hs ns cs ts : List ℕ} (w : MessageWithin
   message-done h p q = serve-done h (put-then p q)
 
   -- the tests
-  module _ (t : Told) (d : l ≡ lengthLineIn t r) where
+  module _ (t : Told) (d : l ≡ lengthLineIn t s r) where
     pub served-large : (o : List ℕ) → connectedIn t r ≡ true → fitsIn (headSize r l hs ns) r l ts ≡ false
         → Served (toHttp1 t (meaningIn s r hs ns cs ts)) o o (Refused tooLarge 0)
     served-large o c f = rw (to-means t s r hs ns cs ts (w .content) d, c, f) (serve-wrong o tooLarge 0)
@@ -55,4 +55,4 @@ module _ {s : List ℕ} {r : Record} {hs ns cs ts : List ℕ} (w : MessageWithin
 
 pub served-other : {s : List ℕ} {r : Record} {hs ns cs ts : List ℕ} → MessageWithin s r hs ns cs ts → (t : Told) (o : List ℕ) → connectedIn t r ≡ false
     → Served (toHttp1 t (meaningIn s r hs ns cs ts)) o o (Refused otherScheme 0)
-served-other {s} {r} {hs} {ns} {cs} {ts} w t o c = rw (to-means t s r hs ns cs ts (w .content) {l = lengthLineIn t r} refl, c) (serve-wrong o otherScheme 0)
+served-other {s} {r} {hs} {ns} {cs} {ts} w t o c = rw (to-means t s r hs ns cs ts (w .content) {l = lengthLineIn t s r} refl, c) (serve-wrong o otherScheme 0)

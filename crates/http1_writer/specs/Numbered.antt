@@ -1,7 +1,7 @@
 -- How long the parts of a message are that is written as HTTP/1.1, by the numbers of its record and its ranges alone: what the code of the writer adds up.
 -- They are the lengths and tests of Write (`headText`, `bodyText`, `http1Fits`, `onConnection`; 01, "How we write", "Sizes").
 use Prim.Native.Nat.{ℕ, zero, suc, _+_, _*_}
-use mathlib.Core.Bool.{Bool, true, cond, _&&_}
+use mathlib.Core.Bool.{Bool, true, false, cond, _&&_}
 use mathlib.Core.List.{List, [], _∷_, _++_}
 use lib.Dec.{eqb, leb}
 use lib.ListN.{length, getD}
@@ -14,7 +14,7 @@ use Rattle.messages.specs.declared.Record.{Record}
 use Rattle.messages.specs.Meaning.{Field}
 use Rattle.ranges.specs.Entries.{fieldsNamed, fieldsBefore, headsIn, partIn, contentIn}
 use Rattle.http1_writer.specs.declared.LengthLine.{LengthLine}
-use Rattle.http1_writer.specs.Write.{fieldText, sectionText, requestLine, statusLine, informationalText, hostField, lineFor, lengthFields, bodyText}
+use Rattle.http1_writer.specs.Write.{fieldText, sectionText, requestLine, statusLine, informationalText, hostField, lineFor, lengthFields, bodyText, isSilent}
 
 -- the field line of the entry k
 abbrev pub lineSize : List ℕ → ℕ → ℕ
@@ -53,12 +53,12 @@ bodySize n ts count = cond (eqb count 0) n (chunkSize n + 1 + 2 + sectionSize ts
 -- ---- the length line
 
 -- whether no length line says how long the content of a message without trailers is
-unfoldable pub unmeasuredIn : Told → Record → Bool
-unmeasuredIn t r = cond (r .response) (endsAtHead t (r .status)) (eqb (r .content) 0)
+unfoldable pub unmeasuredIn : Told → List ℕ → Record → Bool
+unmeasuredIn t s r = cond (r .response) (endsAtHead t (r .status)) (cond (eqb (r .content) 0) (isSilent t (partIn s (r .method))) false)
 
 -- the length line of a message
-unfoldable pub lengthLineIn : Told → Record → LengthLine
-lengthLineIn t r = lineFor (eqb (r .trailers) 0) (unmeasuredIn t r) (r .stated) (r .content)
+unfoldable pub lengthLineIn : Told → List ℕ → Record → LengthLine
+lengthLineIn t s r = lineFor (eqb (r .trailers) 0) (unmeasuredIn t s r) (r .stated) (r .content)
 
 -- lines one behind the other
 unfoldable pub linesText : List Field → List ℕ

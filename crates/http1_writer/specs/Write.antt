@@ -1,18 +1,19 @@
 -- A meaning as HTTP/1.1 (01, "How we write"), and whether it may be written ("Sizes"; 14, then 8 at 0: "Numbers a call answers with";
--- 02, item 5).
+-- 02, items 5 and 9).
 use Prim.Native.Nat.{ℕ}
 use mathlib.Core.Bool.{Bool, true, false, cond, _&&_}
 use mathlib.Core.List.{List, [], _∷_, _++_}
 use lib.Dec.{leb, eqb}
 use lib.ListN.{length}
 use Rattle.octets.specs.Ascii.{ascii}
-use Rattle.octets.specs.Text.{isEmpty}
+use Rattle.octets.specs.Text.{sameText, isEmpty}
 use Rattle.octets.specs.Limits.{headMost, trailerMost, linesMost}
 use Rattle.octets.specs.Refusals.{tooLarge, otherScheme}
 use Rattle.numbers.specs.Digits.{digits}
 use Rattle.messages.specs.declared.StatedLength.{StatedLength}
 use Rattle.messages.specs.declared.StatedLength.the-variants.{Missing, Of}
 use Rattle.messages.specs.declared.Told.{Told}
+use Rattle.messages.specs.Told.{isYes}
 use Rattle.messages.specs.Control.{endsAtHead}
 use Rattle.messages.specs.Meaning.{Field, Informational, Control, request, response, Meaning, lengthField}
 use Rattle.messages.specs.Valid.{noFields}
@@ -53,9 +54,18 @@ hostField a = record { name = ascii "host"; value = a }
 unfoldable pub codingField : Field
 codingField = record { name = ascii "transfer-encoding"; value = ascii "chunked" }
 
--- whether no length line says how long the content of a message without kept trailers is: requests with empty content, responses that end at their head
+-- methods that expect no content, in this case of letters (02, item 9; RFC 9110, section 8.6)
+unfoldable pub isGetOrHead : List ℕ → Bool
+isGetOrHead m = cond (sameText m (ascii "GET")) true (sameText m (ascii "HEAD"))
+
+-- whether a request with empty content goes without a length line: by the former rule each does, else those that expect no content
+unfoldable pub isSilent : Told → List ℕ → Bool
+isSilent t m = cond (isYes (t .former)) true (isGetOrHead m)
+
+-- whether no length line says how long the content of a message without kept trailers is: requests with empty content that go without, responses that end at
+-- their head
 abbrev pub unmeasured : Told → Control → List ℕ → Bool
-unmeasured t (request m s a p) content = isEmpty content
+unmeasured t (request m s a p) content = cond (isEmpty content) (isSilent t m) false
 unmeasured t (response hs s) content = endsAtHead t s
 
 -- the length line of a stated length: none where it is missing

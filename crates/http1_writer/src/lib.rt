@@ -79,7 +79,7 @@ fn write_named(
         (now (out .entry)) (now (out .exit)) w ⌝ }
 {
     if is_connected(told, r) {
-        let line = length_line(told, r);
+        let line = length_line(told, s, r);
         let head = measure_head(r, line, headers, heads);
         if sizes_fit(head, r, line, trailers) {
             return put_message(s, r, line, headers, heads, chunks, trailers, head, out);

@@ -19,6 +19,7 @@ pub fn plain(scheme: u32) -> Told
         scheme,
         head: 0,
         closed: 0,
+        former: 0,
     }
 }
 
