@@ -13,11 +13,13 @@ use Rattle.octets.proofs.Kit.{and-split}
 use Rattle.script.specs.Script.{Answer, accepted, refused, more, means}
 use Rattle.script.specs.Do.{piece, Reads}
 use Rattle.script.proofs.Do.{reads}
-use Rattle.messages.specs.Told.{answering}
+use Rattle.messages.specs.Told.{answering, closing, endingOf}
+use Rattle.messages.specs.declared.Ending.{Ending}
 use Rattle.messages.specs.declared.StatedLength.{StatedLength}
 use Rattle.messages.specs.declared.StatedLength.the-variants.{Missing, Of}
 use Rattle.messages.specs.declared.Told.{Told}
 use Rattle.messages.specs.Message.{requestStart, Message}
+use Rattle.messages.specs.Control.{endsAtHead}
 use Rattle.messages.specs.Names.{keptTrailers}
 use Rattle.messages.specs.Meaning.{Field, Control, request, response, Meaning, meaning}
 use Rattle.messages.specs.Valid.{isScheme, validControl, ofResponse, noFields, valid, suits}
@@ -29,7 +31,7 @@ use Rattle.http1.specs.Read.{readRequest, readResponse}
 use Rattle.http1_writer.specs.Write.{sectionText, requestLine, statusLine, informationalText, unmeasured, lineFor, lengthLine, headLines, headText, bodyText, http1Of}
 use Rattle.http1_writer.specs.Write.{http1Fits, onConnection, toHttp1}
 use Rattle.http1_round_trip.specs.RoundTrip.{isRequestOf, RequestOf, ResponseOf, ReadsBack, RequestsBack, ResponsesBack}
-use Rattle.http1_round_trip.specs.RoundTrip.{RequestMeanings, ResponseMeanings, RequestsApart, ResponsesApart, RequestsHeadUnused}
+use Rattle.http1_round_trip.specs.RoundTrip.{RequestMeanings, ResponseMeanings, RequestsApart, ResponsesApart, RequestsHeadUnused, ClosedUnused}
 use Rattle.http1_round_trip.proofs.Placed.{placedFrom, placedAt}
 use Rattle.http1_round_trip.proofs.Sections.{reads-from, reads-as}
 use Rattle.http1_round_trip.proofs.Keeping.{fields-back, heads-back, requestLines, request-kept, response-kept}
@@ -94,12 +96,12 @@ request-back t (request m s a p) fs b ts Missing v f e =
     (reads-from (append-assoc l (sectionText h) (bodyText b ts))
     (reads-request t m a p fs b ts 0 (o .method) (o .named) (o .path) (section-fields false fs (ok .headers)) (ok .content) (trailers-ok t w v f) (fit .lines) (fit .head)))
 
-response-back : (t : Told) (c : Control) (fs : List Field) (b : List ℕ) (ts : List Field) (x : StatedLength)
+response-back : (t : Told) (y : Ending) (c : Control) (fs : List Field) (b : List ℕ) (ts : List Field) (x : StatedLength)
     → valid (made c fs b ts x) ≡ true → http1Fits t (made c fs b ts x) ≡ true → ofResponse c ≡ true → suits t (made c fs b ts x) ≡ true
-    → Reads (http1.heads t (suc informationalMost) [] headMost) 0 (http1Of t (made c fs b ts x)) (placedAt t 0 (made c fs b ts x))
+    → Reads (http1.heads (record { told = t; ending = y }) (suc informationalMost) [] headMost) 0 (http1Of t (made c fs b ts x)) (placedAt t 0 (made c fs b ts x))
 unfolding http1Of headText headLines lengthLine
-response-back t (request m s a p) fs b ts x v f e u = other e
-response-back t (response hs s) fs b ts x v f e u =
+response-back t y (request m s a p) fs b ts x v f e u = other e
+response-back t y (response hs s) fs b ts x v f e u =
     let w : Meaning = made (response hs s) fs b ts x in
     let ok = meaning-ok w v in
     let fit = fit-of t w f in
@@ -111,7 +113,7 @@ response-back t (response hs s) fs b ts x v f e u =
     let e1 : ((i ++ l) ++ h) ++ bodyText b ts ≡ i ++ (l ++ (h ++ bodyText b ts)) = append-assoc (i ++ l) h (bodyText b ts) ∙ append-assoc i l (h ++ bodyText b ts) in
     let k : length (i ++ (l ++ h)) ≤ headMost = rw (append-assoc i l h) at (fit .head) in
     reads-from e1
-    (reads-response t s w hs refl (o .status) (o .late) (section-fields true fs (ok .headers)) (ok .content) (trailers-ok t w v f) (ok .stated)
+    (reads-response (record { told = t; ending = y }) s w hs refl (o .status) (o .late) (section-fields true fs (ok .headers)) (ok .content) (trailers-ok t w v f) (ok .stated)
     (suited t w hs s refl u) (fit .lines)
     hs (suc informationalMost) headMost 0 [] (o .heads) (omega arith) (omega arith) k)
 
@@ -163,7 +165,7 @@ pub response-taken : (t : Told) (m : Meaning) → ResponseOf t m → (rest : Lis
     → readResponse t (http1Of t m ++ rest) ≡ accepted (length (http1Of t m)) (placedAt t 0 m)
 unfolding readResponse
 response-taken t m o rest =
-    reads (response-back t (m .control) (m .headers) (m .content) (m .trailers) (m .stated) (o .0) (o .1) (o .2) (o .3)) rest
+    reads (response-back t (endingOf t (length (http1Of t m ++ rest))) (m .control) (m .headers) (m .content) (m .trailers) (m .stated) (o .0) (o .1) (o .2) (o .3)) rest
     ∙ from-start (length (http1Of t m)) (placedAt t 0 m)
 
 pub requests-back : RequestsBack
@@ -202,29 +204,53 @@ requests-apart = λ t l m ol om r q e. apart (requests-back t l ol) (requests-ba
 pub responses-apart : ResponsesApart
 responses-apart = λ t l m ol om r q e. apart (responses-back t l ol) (responses-back t m om) r q e
 
--- ---- what is told of a request
+-- ---- what a writer does not look at
 
-line-unused : (t : Told) (h : ℕ) (m : Meaning) → ofResponse (m .control) ≡ false → lengthLine (answering h t) m ≡ lengthLine t m
-unfolding lengthLine
-line-unused t h m e = ap (λ (x : Bool). lineFor (noFields (m .trailers)) x (m .stated) (length (m .content))) (go (m .control) e)
-  where
-    go : (c : Control) → ofResponse c ≡ false → unmeasured (answering h t) c (m .content) ≡ unmeasured t c (m .content)
-    go (request q s a p) o = refl
-    go (response hs s) o = let z : _≡_ {A = ℕ} 0 1 = cc in absurd (omega arith)
+-- told t or u, where they have one scheme, and the meaning needs a length line under both or under neither
+module _ (t u : Told) (m : Meaning) (e : unmeasured u (m .control) (m .content) ≡ unmeasured t (m .control) (m .content)) where
+  line-alike : lengthLine u m ≡ lengthLine t m
+  unfolding lengthLine
+  line-alike = ap (λ (x : Bool). lineFor (noFields (m .trailers)) x (m .stated) (length (m .content))) e
 
-module _ (t : Told) (h : ℕ) (m : Meaning) (e : ofResponse (m .control) ≡ false) where
-  pub text-unused : http1Of (answering h t) m ≡ http1Of t m
+  text-alike : http1Of u m ≡ http1Of t m
   unfolding http1Of headText headLines
-  text-unused = rw (line-unused t h m e)
+  text-alike = rw line-alike
+
+  fits-alike : http1Fits u m ≡ http1Fits t m
+  unfolding http1Fits headText headLines
+  fits-alike = rw line-alike
+
+  written-alike : u .scheme ≡ t .scheme → toHttp1 u m ≡ toHttp1 t m
+  unfolding toHttp1
+  written-alike q = rw (text-alike, fits-alike, on (m .control))
+    where
+      on : (c : Control) → onConnection u c ≡ onConnection t c
+      on (request k s a p) = rw q
+      on (response hs s) = refl
+
+-- that a message answers a HEAD, of a request
+module _ (t : Told) (h : ℕ) (m : Meaning) (e : ofResponse (m .control) ≡ false) where
+  head-alike : unmeasured (answering h t) (m .control) (m .content) ≡ unmeasured t (m .control) (m .content)
+  head-alike = go (m .control) e
+    where
+      go : (c : Control) → ofResponse c ≡ false → unmeasured (answering h t) c (m .content) ≡ unmeasured t c (m .content)
+      go (request q s a p) o = refl
+      go (response hs s) o = let z : _≡_ {A = ℕ} 0 1 = cc in absurd (omega arith)
+
+  pub text-unused : http1Of (answering h t) m ≡ http1Of t m
+  text-unused = text-alike t (answering h t) m head-alike
 
   pub fits-unused : http1Fits (answering h t) m ≡ http1Fits t m
-  unfolding http1Fits headText headLines
-  fits-unused = rw (line-unused t h m e)
+  fits-unused = fits-alike t (answering h t) m head-alike
 
 pub requests-head-unused : RequestsHeadUnused
-unfolding toHttp1
-requests-head-unused = λ t h m e. rw (text-unused t h m e, fits-unused t h m e, on t h (m .control))
+requests-head-unused t h m e = written-alike t (answering h t) m (head-alike t h m e) refl
+
+-- that the connection has closed
+pub closed-unused : ClosedUnused
+unfolding endsAtHead
+closed-unused t c m = written-alike t (closing c t) m (go (m .control)) refl
   where
-    on : (t : Told) (h : ℕ) (c : Control) → onConnection (answering h t) c ≡ onConnection t c
-    on t h (request q s a p) = refl
-    on t h (response hs s) = refl
+    go : (k : Control) → unmeasured (closing c t) k (m .content) ≡ unmeasured t k (m .content)
+    go (request q s a p) = refl
+    go (response hs s) = refl

@@ -14,6 +14,7 @@ use Rattle.messages.specs.Message.{FieldRead}
 use Rattle.messages.specs.Control.{isHost, endsAtHead}
 use Rattle.messages.specs.Names.{kindOf, lineKind, sameKind, linesOf, kept, areTrailers}
 use Rattle.messages.specs.Rules.{authorityFrom, authorityIn, framingFrom, framingOf, requestBody, contentBody, responseBody, lengthIn, statedIn}
+use Rattle.messages.specs.declared.Ending.{Ending}
 use Rattle.messages.specs.declared.Body.{Body}
 use Rattle.messages.specs.declared.Body.the-variants.{Sized, InChunks}
 use Rattle.messages.specs.declared.Framing.{Framing}
@@ -218,19 +219,20 @@ module _ (t : Told) (s : ℕ) (w : Meaning) (hs : List Informational) (control :
       lead-framing true (w .headers) v (responseLength t s w)
       (small-line (noFields (w .trailers)) (endsAtHead t s) (w .stated) (length (w .content)) few w stated) at
 
-  body-with : (end p : ℕ) (b u : Bool) → noFields (w .trailers) ≡ b → endsAtHead t s ≡ u
-      → responseBody t s end (framingFor (lineFor b u (w .stated) (length (w .content))) p) ≡ good (cond b (Sized (length (w .content))) InChunks)
+  body-with : (x : Ending) (end p : ℕ) (b u : Bool) → noFields (w .trailers) ≡ b → endsAtHead t s ≡ u
+      → responseBody t x s end (framingFor (lineFor b u (w .stated) (length (w .content))) p) ≡ good (cond b (Sized (length (w .content))) InChunks)
   unfolding responseBody contentBody requestBody validBody
-  body-with end p true true n e =
+  body-with x end p true true n e =
       let z = and-split (isEmpty (w .content)) (noFields (w .trailers)) (rw e at (fits .body)) in
       let q = bodyless-good t s end (w .stated) p hs w control stated in
       rw (e, stated-told (w .stated) p) (q ∙ ap (λ (k : ℕ). good (Sized k)) (no-octets (w .content) (z .0)))
-  body-with end p true false n e = rw (e, le-leb (length (w .content)) contentMost few)
-  body-with end p false true n e = let z = and-split (isEmpty (w .content)) (noFields (w .trailers)) (rw e at (fits .body)) .1 in cc
-  body-with end p false false n e = rw e
+  body-with x end p true false n e = rw (e, le-leb (length (w .content)) contentMost few)
+  body-with x end p false true n e = let z = and-split (isEmpty (w .content)) (noFields (w .trailers)) (rw e at (fits .body)) .1 in cc
+  body-with x end p false false n e = rw e
 
-  pub response-told : (end at : ℕ) → responseBody t s end (framingOf (linesAt at (responseLines t s w))) ≡ good (bodyFor (w .content) (w .trailers))
-  response-told end at = rw (response-states at) (body-with end at (noFields (w .trailers)) (endsAtHead t s) refl refl)
+  -- it states a length, or is chunked, or ends at its head: where the stream ends does not matter
+  pub response-told : (x : Ending) (end at : ℕ) → responseBody t x s end (framingOf (linesAt at (responseLines t s w))) ≡ good (bodyFor (w .content) (w .trailers))
+  response-told x end at = rw (response-states at) (body-with x end at (noFields (w .trailers)) (endsAtHead t s) refl refl)
 
   stated-with : (p : ℕ) (b u : Bool) → noFields (w .trailers) ≡ b → endsAtHead t s ≡ u
       → cond u (lengthIn (framingFor (lineFor b u (w .stated) (length (w .content))) p)) Missing ≡ w .stated

@@ -21,7 +21,7 @@ use Rattle.messages.specs.Meaning.{Field, Informational, response, Meaning}
 use Rattle.messages.specs.Valid.{validFields, validHeads, validStated}
 use Rattle.messages.proofs.Valid.{section-fields, section-few, HeadOk, head-ok}
 use Rattle.messages.proofs.Stating.{fields-ok, Suited}
-use Rattle.http1.specs.Read.{lineWithin, afterHead, request, afterFinal, heads}
+use Rattle.http1.specs.Read.{lineWithin, afterHead, request, ResponseCall, afterFinal, heads}
 use Rattle.http1_writer.specs.Write.{crlf, sectionText, requestLine, statusLine, informationalText, bodyText}
 use Rattle.http1_round_trip.proofs.Placed.{linesAt, headAt, headsAt, placedFrom}
 use Rattle.http1_round_trip.proofs.Lines.{host-line, request-clean, request-good, statusWord, status-clean, status-good}
@@ -57,13 +57,13 @@ unfolding nothingStated
 none-stated fs at end v = rw (unstated true fs at v)
 
 -- an informational head, and what is behind it
-reads-head : (t : Told) (x : Informational) (f left at : ℕ) (is : List InformationalRead) {y : List ℕ} {b : Message} → HeadOk x → length is < informationalMost
+reads-head : (q : ResponseCall) (x : Informational) (f left at : ℕ) (is : List InformationalRead) {y : List ℕ} {b : Message} → HeadOk x → length is < informationalMost
     → length (statusLine (x .status)) + length (sectionText (x .fields)) ≤ left
-    → Reads (heads t f (is ++ headAt at x ∷ []) (left - length (statusLine (x .status)) - length (sectionText (x .fields))))
+    → Reads (heads q f (is ++ headAt at x ∷ []) (left - length (statusLine (x .status)) - length (sectionText (x .fields))))
     (at + length (statusLine (x .status)) + length (sectionText (x .fields))) y b
-    → Reads (heads t (suc f) is left) at (statusLine (x .status) ++ (sectionText (x .fields) ++ y)) b
+    → Reads (heads q (suc f) is left) at (statusLine (x .status) ++ (sectionText (x .fields) ++ y)) b
 unfolding heads statusLine
-reads-head t x f left at is {y} {b} o g fit ih =
+reads-head q x f left at is {y} {b} o g fit ih =
     let w : List ℕ = statusWord (x .status) in
     let l : length (w ++ crlf) ≡ length w + 2 = length-append w crlf in
     let n : ℕ = length (sectionText (x .fields)) in
@@ -76,20 +76,20 @@ reads-head t x f left at is {y} {b} o g fit ih =
     (before _ (reads-tell _ _ _ (status-good (x .status) at (o .status)))
     (rw (o .early, lt-leb informationalMost (length is) g)
     (reads-bind _ (reads-section (x .fields) (left - (length w + 2)) _ (fields-ok true (x .fields) v) (section-few true (x .fields) (o .fields)) (omega arith))
-    (before _ (reads-tell _ _ _ u) (subst (λ (z : ℕ). Reads (heads t f (is ++ headAt at x ∷ []) z) (at + length (w ++ crlf) + n) y b) e ih)))))
+    (before _ (reads-tell _ _ _ u) (subst (λ (z : ℕ). Reads (heads q f (is ++ headAt at x ∷ []) z) (at + length (w ++ crlf) + n) y b) e ih)))))
 
 -- a final head and what is behind it
-module _ (t : Told) (s : ℕ) (w : Meaning) (all : List Informational) (control : w .control ≡ response all s)
+module _ (q : ResponseCall) (s : ℕ) (w : Meaning) (all : List Informational) (control : w .control ≡ response all s)
     (verdict : statusVerdict s ≡ 0) (late : isInformational s ≡ false) (v : validFields true (w .headers) ≡ true) (few : length (w .content) ≤ contentMost)
-    (ok : TrailersOk (w .trailers)) (stated : validStated (w .stated) w ≡ true) (fits : Suited t s w) (lines : length (responseLines t s w) ≤ linesMost) where
+    (ok : TrailersOk (w .trailers)) (stated : validStated (w .stated) w ≡ true) (fits : Suited (q .told) s w) (lines : length (responseLines (q .told) s w) ≤ linesMost) where
   abbrev final : List Field
-  final = responseLines t s w
+  final = responseLines (q .told) s w
 
   abbrev finalTo : List InformationalRead → ℕ → Message
   finalTo is at = placedFrom (responseStart is s) at final (w .content) (w .trailers) (w .stated)
 
   reads-final : (f left at : ℕ) (is : List InformationalRead) → 0 < f → length (statusLine s ++ sectionText final) ≤ left
-      → Reads (heads t f is left) at (statusLine s ++ (sectionText final ++ bodyText (w .content) (w .trailers))) (finalTo is (at + length (statusLine s)))
+      → Reads (heads q f is left) at (statusLine s ++ (sectionText final ++ bodyText (w .content) (w .trailers))) (finalTo is (at + length (statusLine s)))
   unfolding heads afterFinal statusLine
   reads-final zero left at is h fit = absurd (omega arith)
   reads-final (suc f) left at is h fit =
@@ -97,19 +97,19 @@ module _ (t : Told) (s : ℕ) (w : Meaning) (all : List Informational) (control 
       let l1 : length ((i ++ crlf) ++ sectionText final) ≡ length (i ++ crlf) + length (sectionText final) = length-append (i ++ crlf) (sectionText final) in
       let l2 : length (i ++ crlf) ≡ length i + 2 = length-append i crlf in
       let k = status-clean s in
-      let q : ℕ = at + length (i ++ crlf) in
-      let e = response-stated t s w all control v few stated fits q in
-      reads-as (ap (λ (x : StatedLength). placedFrom (responseStart is s) q final (w .content) (w .trailers) x) e)
+      let p : ℕ = at + length (i ++ crlf) in
+      let e = response-stated (q .told) s w all control v few stated fits p in
+      reads-as (ap (λ (x : StatedLength). placedFrom (responseStart is s) p final (w .content) (w .trailers) x) e)
       (reads-bind _ (reads-word (lineWithin left) at i (k .lf, k .cr, omega arith))
       (before _ (reads-tell _ _ _ (status-good s at verdict))
       (rw late
-      (reads-bind _ (reads-section final (left - (length i + 2)) _ (lead-ok true (w .headers) v (responseLength t s w)) lines (omega arith))
-      (before _ (reads-tell _ _ _ (response-told t s w all control v few stated fits _ _))
+      (reads-bind _ (reads-section final (left - (length i + 2)) _ (lead-ok true (w .headers) v (responseLength (q .told) s w)) lines (omega arith))
+      (before _ (reads-tell _ _ _ (response-told (q .told) s w all control v few stated fits (q .ending) _ _))
       (behind _ (reads-body (w .content) (w .trailers) _ few ok) (reads-done _ _)))))))
 
   pub reads-response : (hs : List Informational) (f left at : ℕ) (is : List InformationalRead) → validHeads hs ≡ true → length hs < f
       → length is + length hs ≤ informationalMost → length (informationalText hs ++ (statusLine s ++ sectionText final)) ≤ left
-      → Reads (heads t f is left) at (informationalText hs ++ (statusLine s ++ (sectionText final ++ bodyText (w .content) (w .trailers))))
+      → Reads (heads q f is left) at (informationalText hs ++ (statusLine s ++ (sectionText final ++ bodyText (w .content) (w .trailers))))
       (finalTo (is ++ headsAt at hs) (at + length (informationalText hs ++ statusLine s)))
   unfolding informationalText headsAt
   reads-response [] f left at is o h g fit =
@@ -127,12 +127,12 @@ module _ (t : Told) (s : ℕ) (w : Meaning) (all : List Informational) (control 
       let l6 : length (r ++ statusLine s) ≡ length r + length (statusLine s) = length-append r (statusLine s) in
       let l7 : length (is ++ headAt at x ∷ []) ≡ length is + 1 = length-append is (headAt at x ∷ []) in
       let y : List ℕ = statusLine s ++ (sectionText final ++ bodyText (w .content) (w .trailers)) in
-      let q : ℕ = at + length i + length d in
-      let e1 : q ≡ at + length (i ++ d) = omega arith in
-      let e2 : q + length (r ++ statusLine s) ≡ at + length (((i ++ d) ++ r) ++ statusLine s) = omega arith in
-      let e3 : (is ++ headAt at x ∷ []) ++ headsAt q hs ≡ is ++ headAt at x ∷ headsAt (at + length (i ++ d)) hs =
-      append-assoc is (headAt at x ∷ []) (headsAt q hs) ∙ ap (λ (z : ℕ). is ++ headAt at x ∷ headsAt z hs) e1 in
+      let z : ℕ = at + length i + length d in
+      let e1 : z ≡ at + length (i ++ d) = omega arith in
+      let e2 : z + length (r ++ statusLine s) ≡ at + length (((i ++ d) ++ r) ++ statusLine s) = omega arith in
+      let e3 : (is ++ headAt at x ∷ []) ++ headsAt z hs ≡ is ++ headAt at x ∷ headsAt (at + length (i ++ d)) hs =
+      append-assoc is (headAt at x ∷ []) (headsAt z hs) ∙ ap (λ (y : ℕ). is ++ headAt at x ∷ headsAt y hs) e1 in
       let e4 : ((i ++ d) ++ r) ++ y ≡ i ++ (d ++ (r ++ y)) = append-assoc (i ++ d) r y ∙ append-assoc i d (r ++ y) in
       let p = head-ok x hs o in
-      let ih = reads-response hs f (left - length i - length d) q (is ++ headAt at x ∷ []) (p .1) (omega arith) (omega arith) (omega arith) in
-      reads-as (ap₂ (λ (l : List InformationalRead) (z : ℕ). finalTo l z) e3 e2) (reads-from e4 (reads-head t x f left at is (p .0) (omega arith) (omega arith) ih))
+      let ih = reads-response hs f (left - length i - length d) z (is ++ headAt at x ∷ []) (p .1) (omega arith) (omega arith) (omega arith) in
+      reads-as (ap₂ (λ (l : List InformationalRead) (z : ℕ). finalTo l z) e3 e2) (reads-from e4 (reads-head q x f left at is (p .0) (omega arith) (omega arith) ih))

@@ -4,7 +4,7 @@ use Rattle.octets.specs.Text.{isEmpty}
 use Rattle.numbers.specs.Places.{push}
 use Rattle.numbers.specs.Digits.{charOf, moreOf, countOf, digits}
 use Rattle.messages.specs.Control.{isBodyless, endsAtHead}
-use Rattle.messages.specs.Told.{isYes, plain, answering}
+use Rattle.messages.specs.Told.{isYes, plain, answering, closing}
 use Rattle.messages.specs.Meaning.{lengthField}
 use Rattle.messages.specs.Valid.{validBody, suits}
 use Rattle.messages.proofs.Samples.{post, reply, headReply, unchanged, post-valid, reply-valid, head-valid, unchanged-valid}
@@ -22,6 +22,11 @@ post-fits = (post-valid, refl, refl)
 pub reply-fits : ResponseOf (plain 0) reply
 unfolding computing
 reply-fits = (reply-valid, refl, refl, refl)
+
+-- the same where the connection has closed
+pub closed-fits : ResponseOf (closing 1 (plain 0)) reply
+unfolding computing
+closed-fits = (reply-valid, refl, refl, refl)
 
 -- a HEAD's reply, told so
 pub head-fits : ResponseOf (answering 1 (plain 0)) headReply

@@ -9,7 +9,7 @@ use Prim.Native.Nat.{ℕ}
 use lib.Dec.{eqb}
 use lib.ListN.{length}
 use Rattle.script.specs.Script.{Answer, accepted, means}
-use Rattle.messages.specs.Told.{answering}
+use Rattle.messages.specs.Told.{answering, closing}
 use Rattle.messages.specs.declared.Told.{Told}
 use Rattle.messages.specs.Message.{Message}
 use Rattle.messages.specs.Meaning.{Control, request, response, Meaning, meaning}
@@ -45,7 +45,8 @@ pub record ReadsBack (t : Told) (read : Told → List ℕ → Answer Message) (m
 abbrev pub RequestsBack : Type 0
 RequestsBack = (t : Told) (m : Meaning) → RequestOf t m → ReadsBack t readRequest m
 
--- every response is read back, a HEAD's by the reader that is told so
+-- every response is read back, a HEAD's by the reader that is told so; it says itself where it ends, so whether the connection has closed does not matter (02,
+-- item 10: "Written back, it has a length")
 abbrev pub ResponsesBack : Type 0
 ResponsesBack = (t : Told) (m : Meaning) → ResponseOf t m → ReadsBack t readResponse m
 
@@ -70,8 +71,12 @@ RequestsApart = (t : Told) (l m : Meaning) → RequestOf t l → RequestOf t m �
 abbrev pub ResponsesApart : Type 0
 ResponsesApart = (t : Told) (l m : Meaning) → ResponseOf t l → ResponseOf t m → (r q : List ℕ) → http1Of t l ++ r ≡ http1Of t m ++ q → (l ≡ m) × (r ≡ q)
 
--- ---- what is told of a request
+-- ---- what a writer does not look at
 
 -- that a message answers a HEAD means nothing of a request: it is written alike (02, item 5)
 abbrev pub RequestsHeadUnused : Type 0
 RequestsHeadUnused = (t : Told) (h : ℕ) (m : Meaning) → ofResponse (m .control) ≡ false → toHttp1 (answering h t) m ≡ toHttp1 t m
+
+-- whether the connection has closed means nothing to the writer (02, item 10)
+abbrev pub ClosedUnused : Type 0
+ClosedUnused = (t : Told) (c : ℕ) (m : Meaning) → toHttp1 (closing c t) m ≡ toHttp1 t m
