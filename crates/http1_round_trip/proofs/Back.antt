@@ -90,7 +90,7 @@ request-back t (request m s a p) fs b ts Missing v f e =
     let fit = fit-of t w f in
     let o = request-ok m a p s (ok .control) in
     let l : List ℕ = requestLine m p in
-    let h : List Field = requestLines a fs b ts in
+    let h : List Field = requestLines t m a fs b ts in
     let x : s ≡ t .scheme = eqb-true s (t .scheme) e in
     reads-as (ap (λ (z : ℕ). placedFrom (requestStart (piece 0 m) z (piece (0 + length l + 6) a) (piece (0 + (length m + 1)) p)) (0 + length l) h b ts Missing) (sym x))
     (reads-from (append-assoc l (sectionText h) (bodyText b ts))
@@ -126,7 +126,7 @@ meaning-of t (request m s a p) fs b ts (Of n) v = absurd (unstated-request m s a
 meaning-of t (request m s a p) fs b ts Missing v =
     let ok = meaning-ok (made (request m s a p) fs b ts Missing) v in
     rw (
-      request-kept a fs b ts (0 + length (requestLine m p)) (section-fields false fs (ok .headers)),
+      request-kept t m a fs b ts (0 + length (requestLine m p)) (section-fields false fs (ok .headers)),
       content-back _ b,
       fields-back false ts _ (section-fields false ts (ok .trailers)),
     )

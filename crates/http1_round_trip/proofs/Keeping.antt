@@ -32,7 +32,7 @@ use Rattle.messages.proofs.Stating.{LinesOk, fields-ok, length-line, length-kin
 use Rattle.messages.proofs.Stating.{framingFor as statedFraming}
 use Rattle.http1_writer.specs.declared.LengthLine.{LengthLine}
 use Rattle.http1_writer.specs.declared.LengthLine.the-variants as line
-use Rattle.http1_writer.specs.Write.{fieldText, sectionText, statusLine, hostField, codingField, statedLine, lineFor, lengthFields}
+use Rattle.http1_writer.specs.Write.{fieldText, sectionText, statusLine, hostField, codingField, statedLine, lineFor, lengthFields, isSilent}
 use Rattle.http1_round_trip.proofs.Placed.{lineAt, linesAt, headsAt}
 use Rattle.http1_round_trip.proofs.Lines.{coding-line}
 
@@ -139,11 +139,13 @@ unfolding isEmpty
 no-octets c e = sym (eqb-true (length c) 0 e)
 
 module _ (c : List ℕ) (h : length c ≤ contentMost) (end p : ℕ) where
-  request-body : (b u : Bool) → isEmpty c ≡ u → requestBody end (framingFor (lineFor b u Missing (length c)) p) ≡ good (cond b (Sized (length c)) InChunks)
+  request-body : (b x u : Bool) → isEmpty c ≡ x
+      → requestBody end (framingFor (lineFor b (cond x u false) Missing (length c)) p) ≡ good (cond b (Sized (length c)) InChunks)
   unfolding requestBody
-  request-body true true e = ap (λ (z : ℕ). good (Sized z)) (no-octets c e)
-  request-body true false e = rw (le-leb (length c) contentMost h)
-  request-body false u e = refl
+  request-body true true true e = ap (λ (z : ℕ). good (Sized z)) (no-octets c e)
+  request-body true true false e = rw (le-leb (length c) contentMost h)
+  request-body true false u e = rw (le-leb (length c) contentMost h)
+  request-body false x u e = refl
 
 -- ---- heads of requests: the host line stands first
 
@@ -170,33 +172,33 @@ lead-hosts fs v line.Nothing at = no-hosts fs at v
 lead-hosts fs v (line.Length n) at = rw (length-kind (lineAt at (lengthField n)) n refl) (no-hosts fs (at + length (fieldText (lengthField n))) v)
 lead-hosts fs v line.Chunked at = rw (coding-kind at) (no-hosts fs (at + length (fieldText codingField)) v)
 
--- the length line of a request
-abbrev pub requestLength : List ℕ → List Field → LengthLine
-requestLength c ts = lineFor (noFields ts) (isEmpty c) Missing (length c)
+-- the length line of a request with the method m
+abbrev pub requestLength : Told → List ℕ → List ℕ → List Field → LengthLine
+requestLength t m c ts = lineFor (noFields ts) (cond (isEmpty c) (isSilent t m) false) Missing (length c)
 
 -- a request's head: the authority is found, the content is told, the fields are kept
-abbrev pub requestLines : List ℕ → List Field → List ℕ → List Field → List Field
-requestLines a fs c ts = hostField a ∷ (lengthFields (requestLength c ts) ++ fs)
+abbrev pub requestLines : Told → List ℕ → List ℕ → List Field → List ℕ → List Field → List Field
+requestLines t m a fs c ts = hostField a ∷ (lengthFields (requestLength t m c ts) ++ fs)
 
-module _ (a : List ℕ) (fs : List Field) (c : List ℕ) (ts : List Field) (at : ℕ) (v : validFields false fs ≡ true) where
-  pub request-host : (end : ℕ) → isHost a ≡ true → authorityIn end (piece 0 []) (linesAt at (requestLines a fs c ts)) ≡ good (piece (at + 6) a)
+module _ (t : Told) (m a : List ℕ) (fs : List Field) (c : List ℕ) (ts : List Field) (at : ℕ) (v : validFields false fs ≡ true) where
+  pub request-host : (end : ℕ) → isHost a ≡ true → authorityIn end (piece 0 []) (linesAt at (requestLines t m a fs c ts)) ≡ good (piece (at + 6) a)
   unfolding linesAt
-  request-host end h = host-found a at _ end (lead-hosts fs v (requestLength c ts) _) h
+  request-host end h = host-found a at _ end (lead-hosts fs v (requestLength t m c ts) _) h
 
-  pub request-told : (end : ℕ) → length c ≤ contentMost → requestBody end (framingOf (linesAt at (requestLines a fs c ts))) ≡ good (bodyFor c ts)
+  pub request-told : (end : ℕ) → length c ≤ contentMost → requestBody end (framingOf (linesAt at (requestLines t m a fs c ts))) ≡ good (bodyFor c ts)
   unfolding linesAt
   request-told end h =
-      ap (requestBody end) (host-framing a at _ ∙ lead-framing false fs v (requestLength c ts) (small-request (noFields ts) (isEmpty c)) _)
-      ∙ request-body c h end _ (noFields ts) (isEmpty c) refl
+      ap (requestBody end) (host-framing a at _ ∙ lead-framing false fs v (requestLength t m c ts) (small-request (noFields ts) (cond (isEmpty c) (isSilent t m) false)) _)
+      ∙ request-body c h end _ (noFields ts) (isEmpty c) (isSilent t m) refl
     where
       small-request : (b u : Bool) → Small (lineFor b u Missing (length c))
       small-request true true = tt
       small-request true false = omega arith
       small-request false u = tt
 
-  pub request-kept : map fieldMeans (kept false (linesAt at (requestLines a fs c ts))) ≡ fs
+  pub request-kept : map fieldMeans (kept false (linesAt at (requestLines t m a fs c ts))) ≡ fs
   unfolding linesAt
-  request-kept = ap (map fieldMeans) (host-kept a at _) ∙ lead-kept false fs v (requestLength c ts) _
+  request-kept = ap (map fieldMeans) (host-kept a at _) ∙ lead-kept false fs v (requestLength t m c ts) _
 
 -- ---- heads of final responses
 

@@ -33,21 +33,21 @@ use Rattle.http1_round_trip.proofs.Body.{TrailersOk, reads-body}
 
 pub reads-request : (t : Told) (m a p : List ℕ) (fs : List Field) (c : List ℕ) (ts : List Field) (at : ℕ)
     → methodVerdict m ≡ 0 → isHost a ≡ true → pathVerdict p ≡ 0 → validFields false fs ≡ true → length c ≤ contentMost → TrailersOk ts
-    → length (requestLines a fs c ts) ≤ linesMost → length (requestLine m p ++ sectionText (requestLines a fs c ts)) ≤ headMost
-    → Reads (request t) at (requestLine m p ++ (sectionText (requestLines a fs c ts) ++ bodyText c ts))
-    (placedFrom (requestStart (piece at m) (t .scheme) (piece (at + length (requestLine m p) + 6) a) (piece (at + (length m + 1)) p)) (at + length (requestLine m p)) (requestLines a fs c ts) c ts Missing)
+    → length (requestLines t m a fs c ts) ≤ linesMost → length (requestLine m p ++ sectionText (requestLines t m a fs c ts)) ≤ headMost
+    → Reads (request t) at (requestLine m p ++ (sectionText (requestLines t m a fs c ts) ++ bodyText c ts))
+    (placedFrom (requestStart (piece at m) (t .scheme) (piece (at + length (requestLine m p) + 6) a) (piece (at + (length m + 1)) p)) (at + length (requestLine m p)) (requestLines t m a fs c ts) c ts Missing)
 unfolding request afterHead requestLine
 reads-request t m a p fs c ts at hm ha hp v few ok lines fit =
     let w : List ℕ = m ++ 32 ∷ [] ++ p ++ ascii " HTTP/1.1" in
-    let s : List ℕ = sectionText (requestLines a fs c ts) in
+    let s : List ℕ = sectionText (requestLines t m a fs c ts) in
     let l1 : length ((w ++ crlf) ++ s) ≡ length (w ++ crlf) + length s = length-append (w ++ crlf) s in
     let l2 : length (w ++ crlf) ≡ length w + 2 = length-append w crlf in
     let k = request-clean m p hm hp in
     reads-bind _ (reads-word (lineWithin headMost) at w (k .lf, k .cr, omega arith))
     (before _ (reads-tell _ _ _ (request-good m p hm hp at))
-    (reads-bind _ (reads-section (requestLines a fs c ts) (headMost - (length w + 2)) _ (host-line a ha, lead-ok false fs v (requestLength c ts)) lines (omega arith))
-    (before _ (reads-tell _ _ _ (request-host a fs c ts _ v _ ha))
-    (before _ (reads-tell _ _ _ (request-told a fs c ts _ v _ few))
+    (reads-bind _ (reads-section (requestLines t m a fs c ts) (headMost - (length w + 2)) _ (host-line a ha, lead-ok false fs v (requestLength t m c ts)) lines (omega arith))
+    (before _ (reads-tell _ _ _ (request-host t m a fs c ts _ v _ ha))
+    (before _ (reads-tell _ _ _ (request-told t m a fs c ts _ v _ few))
     (behind _ (reads-body c ts _ few ok) (reads-done _ _))))))
 
 -- ---- responses

@@ -1,13 +1,14 @@
 -- The length line by its numbers: which it is, and its three cases.
 -- Assumes nothing.
-use Prim.Native.Nat.{ℕ, _+_}
-use mathlib.Core.Path.{_≡_, refl}
-use mathlib.Core.Bool.{true, false}
+use Prim.Native.Nat.{ℕ, _+_, _-_, _≤_}
+use mathlib.Core.Path.{_≡_, refl, sym, ap, _∙_}
+use mathlib.Core.Bool.{Bool, true, false}
 use mathlib.Core.List.{List, [], _++_, append-nil}
 use borrow.Author.Tests.{ne-eqb}
 use native.Mathlib.Omega.{arith}
+use native.Mathlib.Nat.{add-sub-cancel-left}
 use lib.Dec.{eqb}
-use lib.ListN.{length-append}
+use lib.ListN.{length, take, drop, length-append}
 use Rattle.octets.specs.Ascii.{ascii}
 use Rattle.numbers.specs.Digits.{digits, countOf}
 use Rattle.numbers.proofs.DigitLaws.{digits-length}
@@ -15,11 +16,26 @@ use Rattle.messages.specs.declared.Record.{Record}
 use Rattle.messages.specs.Control.{endsAtHead}
 use Rattle.messages.specs.Meaning.{lengthField}
 use Rattle.messages.specs.declared.Told.{Told}
-use Rattle.http1_writer.specs.Write.{crlf, fieldText, codingField, isSilent, statedLine}
+use Rattle.http1_writer.specs.Write.{crlf, fieldText, codingField, isGetOrHead, isSilent, statedLine}
 use Rattle.ranges.specs.Entries.{partIn}
+use Rattle.messages.specs.Told.{isYes}
+use Rattle.output.specs.Splice.{part}
+use Rattle.output.proofs.Laws.{elements-take}
 use Rattle.http1_writer.specs.Numbered.{unmeasuredIn, lengthLineIn, linesText, lengthText, lengthSize, lengthCount}
 use Rattle.http1_writer.specs.declared.LengthLine.{LengthLine}
 use Rattle.http1_writer.specs.declared.LengthLine.the-variants.{Nothing, Length, Chunked}
+
+-- whether a request with empty content goes without it
+pub silent-former : (t : Told) (m : List ℕ) {r : Bool} → r ≡ isYes (t .former) → r ≡ true → true ≡ isSilent t m
+unfolding isSilent
+silent-former t m e h = rw (sym e ∙ h)
+
+pub silent-method : (t : Told) (s : List ℕ) (a n : ℕ) {b r : Bool} → a + n ≤ length s → r ≡ isYes (t .former) → r ≡ false
+    → b ≡ isGetOrHead (take (a + n - a) (drop a s)) → b ≡ isSilent t (part s a n)
+unfolding isSilent
+silent-method t s a n w e h q =
+    let z : take (a + n - a) (drop a s) ≡ part s a n = rw (add-sub-cancel-left a n) (sym (elements-take 0 s a n w)) in
+    rw (sym e ∙ h) (q ∙ ap isGetOrHead z)
 
 module _ (t : Told) (s : List ℕ) (r : Record) where
   -- whether it says how long the content is

@@ -22,7 +22,7 @@ use Rattle.ranges.specs.Entries.{fieldsIn, chunksIn, headsIn, partIn, controlIn
 use Rattle.messages.specs.declared.StatedLength.{StatedLength}
 use Rattle.messages.specs.declared.Told.{Told}
 use Rattle.http1_writer.specs.declared.LengthLine.{LengthLine}
-use Rattle.http1_writer.specs.Write.{fieldText, sectionText, requestLine, statusLine, informationalText, hostField, unmeasured, lineFor, lengthLine, lengthFields, hostLine, headLines, startText, headText, bodyText, http1Of, http1Fits, onConnection, toHttp1}
+use Rattle.http1_writer.specs.Write.{fieldText, sectionText, requestLine, statusLine, informationalText, hostField, unmeasured, lineFor, lengthLine, lengthFields, hostLine, headLines, startText, headText, bodyText, http1Of, http1Fits, onConnection, toHttp1, isSilent}
 use Rattle.http1_writer.specs.Numbered.{headsSize, statusSize, requestSize, hostSize, unmeasuredIn, lengthLineIn, linesText, lengthText, lengthSize, lengthCount, leadTextIn, leadSize, headTextIn, headSize, messageTextIn, headCount, trailersFit, fitsIn, connectedIn}
 use Rattle.http1_writer.proofs.Turns.{section-length, heads-length}
 
@@ -50,7 +50,7 @@ lines-same x p q e = cc
 
 module _ (s : List ℕ) (r : Record) (hs ns : List ℕ) where
   unmeasured-means : (t : Told) (b : Bool) (content : List ℕ) → length content ≡ r .content
-      → unmeasured t (controlIn b s r hs ns) content ≡ cond b (endsAtHead t (r .status)) (eqb (r .content) 0)
+      → unmeasured t (controlIn b s r hs ns) content ≡ cond b (endsAtHead t (r .status)) (cond (eqb (r .content) 0) (isSilent t (partIn s (r .method))) false)
   unfolding isEmpty
   unmeasured-means t true content e = refl
   unmeasured-means t false content e = rw e

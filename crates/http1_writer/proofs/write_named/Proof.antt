@@ -11,7 +11,7 @@ is-connected-requires : tie.Need-is-connected-requires
 is-connected-requires c κs = search needs
 
 length-line-requires : tie.Need-length-line-requires
-length-line-requires c κs = search needs
+length-line-requires c κs = c .before .before .before .before .before .before .before .before .pre .method
 
 measure-head-requires : tie.Need-measure-head-requires
 measure-head-requires c κs = (c .before .before .before .before .before .before .before .before .before .args .s .now, c .before .before .before .before .before .before .before .before .before .args .chunks .now, c .before .before .before .before .before .before .before .before .before .args .trailers .now, c .before .before .before .before .before .before .before .before .before .pre)
