@@ -28,7 +28,7 @@ use Rattle.messages.proofs.ValidLines.{content-back}
 use Rattle.messages.proofs.Stating.{never-stated, suited}
 use Rattle.http1.specs.Read as http1
 use Rattle.http1.specs.Read.{readRequest, readResponse}
-use Rattle.http1_writer.specs.Write.{sectionText, requestLine, statusLine, informationalText, unmeasured, lineFor, lengthLine, headLines, headText, bodyText, http1Of}
+use Rattle.http1_writer.specs.Write.{sectionText, requestLine, statusLine, informationalText, unmeasured, lineFor, lengthLine, headLines, headText, bodyText, http1Of, isSilent}
 use Rattle.http1_writer.specs.Write.{http1Fits, onConnection, toHttp1}
 use Rattle.http1_round_trip.specs.RoundTrip.{isRequestOf, RequestOf, ResponseOf, ReadsBack, RequestsBack, ResponsesBack}
 use Rattle.http1_round_trip.specs.RoundTrip.{RequestMeanings, ResponseMeanings, RequestsApart, ResponsesApart, RequestsHeadUnused, ClosedUnused}
@@ -231,6 +231,7 @@ module _ (t u : Told) (m : Meaning) (e : unmeasured u (m .control) (m .content) 
 -- that a message answers a HEAD, of a request
 module _ (t : Told) (h : ℕ) (m : Meaning) (e : ofResponse (m .control) ≡ false) where
   head-alike : unmeasured (answering h t) (m .control) (m .content) ≡ unmeasured t (m .control) (m .content)
+  unfolding isSilent
   head-alike = go (m .control) e
     where
       go : (c : Control) → ofResponse c ≡ false → unmeasured (answering h t) c (m .content) ≡ unmeasured t c (m .content)
@@ -248,7 +249,7 @@ requests-head-unused t h m e = written-alike t (answering h t) m (head-alike t h
 
 -- that the connection has closed
 pub closed-unused : ClosedUnused
-unfolding endsAtHead
+unfolding endsAtHead isSilent
 closed-unused t c m = written-alike t (closing c t) m (go (m .control)) refl
   where
     go : (k : Control) → unmeasured (closing c t) k (m .content) ≡ unmeasured t k (m .content)
