@@ -22,7 +22,7 @@ void ours_read_request(const struct message *message, struct found *found)
 void ours_read_response(const struct message *message, struct found *found)
 {
     size_t place;
-    uint32_t number = ospirnar_read_response(message->octets, message->len, 0, ranges, OSPIRNAR_RANGES_MOST, &place);
+    uint32_t number = ospirnar_read_response(message->octets, message->len, 0, 0, ranges, OSPIRNAR_RANGES_MOST, &place);
     tell_read(number, place, found);
 }
 
@@ -43,7 +43,7 @@ void ours_request_to_binary(const struct message *message, struct found *found)
 void ours_response_to_binary(const struct message *message, struct found *found)
 {
     size_t place, taken;
-    uint32_t number = ospirnar_response_to_binary(message->octets, message->len, 0, output, OUTPUT_ROOM, &place, &taken);
+    uint32_t number = ospirnar_response_to_binary(message->octets, message->len, 0, 0, output, OUTPUT_ROOM, &place, &taken);
     found->written = number == 0 ? place : 0;
 }
 

@@ -23,13 +23,15 @@ mod entries {
     #[link(name = "capi", kind = "static")]
     extern "C" {
         pub fn ospirnar_read_request(input: *const u8, input_len: usize, scheme: u32, ranges: *mut u32, ranges_len: usize, place: *mut usize) -> u32;
-        pub fn ospirnar_read_response(input: *const u8, input_len: usize, head: u32, ranges: *mut u32, ranges_len: usize, place: *mut usize) -> u32;
+        pub fn ospirnar_read_response(
+            input: *const u8, input_len: usize, head: u32, closed: u32, ranges: *mut u32, ranges_len: usize, place: *mut usize,
+        ) -> u32;
         pub fn ospirnar_read_binary(input: *const u8, input_len: usize, head: u32, ranges: *mut u32, ranges_len: usize, place: *mut usize) -> u32;
         pub fn ospirnar_request_to_binary(
             input: *const u8, input_len: usize, scheme: u32, out: *mut u8, out_len: usize, place: *mut usize, taken: *mut usize,
         ) -> u32;
         pub fn ospirnar_response_to_binary(
-            input: *const u8, input_len: usize, head: u32, out: *mut u8, out_len: usize, place: *mut usize, taken: *mut usize,
+            input: *const u8, input_len: usize, head: u32, closed: u32, out: *mut u8, out_len: usize, place: *mut usize, taken: *mut usize,
         ) -> u32;
         pub fn ospirnar_binary_to_binary(input: *const u8, input_len: usize, head: u32, out: *mut u8, out_len: usize, place: *mut usize) -> u32;
         pub fn ospirnar_binary_to_http1(
@@ -39,7 +41,7 @@ mod entries {
             input: *const u8, input_len: usize, scheme: u32, name: *const u8, name_len: usize, number: *mut u32, place: *mut usize, start: *mut usize, length: *mut usize,
         ) -> u32;
         pub fn ospirnar_response_field(
-            input: *const u8, input_len: usize, head: u32, name: *const u8, name_len: usize, number: *mut u32, place: *mut usize, start: *mut usize, length: *mut usize,
+            input: *const u8, input_len: usize, head: u32, closed: u32, name: *const u8, name_len: usize, number: *mut u32, place: *mut usize, start: *mut usize, length: *mut usize,
         ) -> u32;
         pub fn ospirnar_binary_field(
             input: *const u8, input_len: usize, head: u32, name: *const u8, name_len: usize, number: *mut u32, place: *mut usize, start: *mut usize, length: *mut usize,
@@ -93,7 +95,7 @@ fn read_request(input: &[u8], scheme: u32, ranges: &mut Lent<u32>) -> Answer {
 
 fn read_response(input: &[u8], told: Told, ranges: &mut Lent<u32>) -> Answer {
     let (pointer, room) = ranges.lend();
-    ask(|place| unsafe { entries::ospirnar_read_response(input.as_ptr(), input.len(), told.head, pointer, room, place) })
+    ask(|place| unsafe { entries::ospirnar_read_response(input.as_ptr(), input.len(), told.head, told.closed, pointer, room, place) })
 }
 
 fn read_binary(input: &[u8], told: Told, ranges: &mut Lent<u32>) -> Answer {
@@ -120,7 +122,7 @@ fn request_to_binary(input: &[u8], scheme: u32, out: &mut Lent<u8>) -> Answer {
 fn response_to_binary(input: &[u8], told: Told, out: &mut Lent<u8>) -> Answer {
     let (pointer, room) = out.lend();
     turn_off(|ranges| read_response(input, told, ranges), |place, taken| unsafe {
-        entries::ospirnar_response_to_binary(input.as_ptr(), input.len(), told.head, pointer, room, place, taken)
+        entries::ospirnar_response_to_binary(input.as_ptr(), input.len(), told.head, told.closed, pointer, room, place, taken)
     })
 }
 
@@ -139,7 +141,9 @@ fn request_field(input: &[u8], scheme: u32, name: &[u8]) -> Result<Asked, &'stat
 }
 
 fn response_field(input: &[u8], told: Told, name: &[u8]) -> Result<Asked, &'static str> {
-    inquire(|n, p, s, l| unsafe { entries::ospirnar_response_field(input.as_ptr(), input.len(), told.head, name.as_ptr(), name.len(), n, p, s, l) })
+    inquire(|n, p, s, l| unsafe {
+        entries::ospirnar_response_field(input.as_ptr(), input.len(), told.head, told.closed, name.as_ptr(), name.len(), n, p, s, l)
+    })
 }
 
 fn binary_field(input: &[u8], told: Told, name: &[u8]) -> Result<Asked, &'static str> {
@@ -674,6 +678,7 @@ fn scheme(word: &[u8]) -> Option<u32> {
 #[derive(Clone, Copy, Default)]
 struct Told {
     head: u32,
+    closed: u32,
 }
 
 /// A command, its options as told, and its other words: options stand directly behind the command, and only where it takes them.
@@ -687,6 +692,7 @@ fn options<'a, 'b>(words: &'b [&'a [u8]]) -> Option<(&'a [u8], Told, &'b [&'a [u
         let value = number(&option[at + 1..], u64::MAX).filter(|&n| n <= u32::MAX as u64)? as u32;
         match (&option[..at], name) {
             (b"head", b"h1resp" | b"bin" | b"h1resp2bin" | b"bin2h1" | b"bin2bin" | b"field_h1resp" | b"field_bin") => told.head = value,
+            (b"closed", b"h1resp" | b"h1resp2bin" | b"field_h1resp") => told.closed = value,
             _ => return None,
         }
     }

@@ -48,13 +48,15 @@ extern "C" {
 #define OSPIRNAR_RANGES_MOST 2076
 
 /* What a call is told. `scheme`: 0 http, 1 https; another number is 4 at 0, first. `head`: whether the message answers a HEAD, 0 no, any other number yes; its final
- * response then ends behind its head, whatever length that states. On a request `head` means nothing. */
+ * response then ends behind its head, whatever length that states. On a request `head` means nothing. `closed`: whether the connection has closed, 0 no, any other number yes; the content of a final
+ * response that may have content and has neither length line then ends with the input. While it is open such a response is 1, or 8 at the first octet of its content once there
+ * are more than 32,768. Whatever else a closed connection has cut stays 1. */
 
 /* The first HTTP/1.1 request of a stream, under the scheme told. */
 uint32_t ospirnar_read_request(const uint8_t *input, size_t input_len, uint32_t scheme, uint32_t *ranges, size_t ranges_len, size_t *place);
 
 /* The first HTTP/1.1 response of a stream. */
-uint32_t ospirnar_read_response(const uint8_t *input, size_t input_len, uint32_t head, uint32_t *ranges, size_t ranges_len, size_t *place);
+uint32_t ospirnar_read_response(const uint8_t *input, size_t input_len, uint32_t head, uint32_t closed, uint32_t *ranges, size_t ranges_len, size_t *place);
 
 /* One Binary HTTP message: the whole input, zero padding included, so that an accepted message is as long as the input and there is no call for more. */
 uint32_t ospirnar_read_binary(const uint8_t *input, size_t input_len, uint32_t head, uint32_t *ranges, size_t ranges_len, size_t *place);
@@ -69,8 +71,8 @@ uint32_t ospirnar_request_to_binary(const uint8_t *input, size_t input_len, uint
                                     size_t *taken);
 
 /* The first HTTP/1.1 response of a stream as Binary HTTP. */
-uint32_t ospirnar_response_to_binary(const uint8_t *input, size_t input_len, uint32_t head, uint8_t *output, size_t output_len, size_t *place,
-                                     size_t *taken);
+uint32_t ospirnar_response_to_binary(const uint8_t *input, size_t input_len, uint32_t head, uint32_t closed, uint8_t *output, size_t output_len,
+                                     size_t *place, size_t *taken);
 
 /* A Binary message anew: known length, shortest integers, all sections, no padding. */
 uint32_t ospirnar_binary_to_binary(const uint8_t *input, size_t input_len, uint32_t head, uint8_t *output, size_t output_len, size_t *place);
@@ -96,8 +98,8 @@ uint32_t ospirnar_request_field(const uint8_t *input, size_t input_len, uint32_t
                                 size_t *start, size_t *length);
 
 /* To the first HTTP/1.1 response of a stream. */
-uint32_t ospirnar_response_field(const uint8_t *input, size_t input_len, uint32_t head, const uint8_t *name, size_t name_len, uint32_t *number, size_t *place,
-                                 size_t *start, size_t *length);
+uint32_t ospirnar_response_field(const uint8_t *input, size_t input_len, uint32_t head, uint32_t closed, const uint8_t *name, size_t name_len,
+                                 uint32_t *number, size_t *place, size_t *start, size_t *length);
 
 /* To a Binary HTTP message: the whole input. */
 uint32_t ospirnar_binary_field(const uint8_t *input, size_t input_len, uint32_t head, const uint8_t *name, size_t name_len, uint32_t *number, size_t *place,

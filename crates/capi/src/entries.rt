@@ -17,7 +17,7 @@ ghost use Rattle.octets.specs.Limits.{linesMost, informationalMost};
 ghost use Rattle.ranges.specs.Ranges.{placesEnd};
 ghost use Rattle.binary.specs.Read.{readBinary};
 ghost use Rattle.http1.specs.Read.{readRequest, readResponse};
-ghost use Rattle.messages.specs.Told.{plain, answering};
+ghost use Rattle.messages.specs.Told.{plain, answering, closing};
 ghost use Rattle.messages.specs.Room.{sectionRoom, headsRoom, informationalRoom, chunksRoom};
 ghost use Rattle.output.specs.Reply.{writes};
 ghost use Rattle.listing.specs.Listing.{listingOf};
@@ -75,7 +75,11 @@ pub extern "C" fn ospirnar_read_request(
     enter_request(
         &t,
         input,
-        Told { scheme, head: 0 },
+        Told {
+            scheme,
+            head: 0,
+            closed: 0,
+        },
         ranges,
         place,
         &mut headers,
@@ -145,15 +149,16 @@ fn all_fields(heads: &[u32], fields: usize) -> usize
     heads_fields(heads) + fields
 }
 
-// The first HTTP/1.1 response of a stream, told whether it answers a HEAD.
+// The first HTTP/1.1 response of a stream, told whether it answers a HEAD and whether the connection has closed.
 #[no_mangle]
 pub extern "C" fn ospirnar_read_response(
     input: &[u8],
     head: u32,
+    closed: u32,
     ranges: &mut [u32],
     place: &mut usize,
 ) -> u32
-    ensures { λ r. ⌜ Entered (readResponse (answering head (plain 0)) (now (input .entry))) (length (now (input .entry)))
+    ensures { λ r. ⌜ Entered (readResponse (closing closed (answering head (plain 0))) (now (input .entry))) (length (now (input .entry)))
         (now (ranges .entry)) (now (ranges .exit)) (now (place .exit)) r ⌝ }
 {
     let t = class_table();
@@ -164,7 +169,11 @@ pub extern "C" fn ospirnar_read_response(
     enter_response(
         &t,
         input,
-        Told { scheme: 0, head },
+        Told {
+            scheme: 0,
+            head,
+            closed,
+        },
         ranges,
         place,
         &mut headers,
@@ -228,7 +237,11 @@ pub extern "C" fn ospirnar_read_binary(
     enter_binary(
         &t,
         input,
-        Told { scheme: 0, head },
+        Told {
+            scheme: 0,
+            head,
+            closed: 0,
+        },
         ranges,
         place,
         &mut headers,

@@ -6,7 +6,7 @@ use question::binary_found;
 use question::request_found;
 use question::response_found;
 ghost use mathlib.Core.Path.{_≡_};
-ghost use Rattle.messages.specs.Told.{plain, answering};
+ghost use Rattle.messages.specs.Told.{plain, answering, closing};
 ghost use Rattle.turn.specs.Question.{requestQuestion, responseQuestion, binaryQuestion};
 ghost use Rattle.question.specs.Asking.{askedOf};
 ghost use Rattle.capi.specs.Entries.{FieldEntered};
@@ -52,25 +52,43 @@ pub extern "C" fn ospirnar_request_field(
     ensures { λ r. ⌜ FieldEntered (askedOf (requestQuestion (plain scheme) (now (name .entry)) (now (input .entry))))
         (now (number .exit)) (now (place .exit)) (now (start .exit)) (now (len .exit)) r ⌝ }
 {
-    let a = request_found(input, Told { scheme, head: 0 }, name);
+    let a = request_found(
+        input,
+        Told {
+            scheme,
+            head: 0,
+            closed: 0,
+        },
+        name,
+    );
     give_field(a, number, place, start, len)
 }
 
-// The first kept header value of the name in the final head of the first HTTP/1.1 response of a stream, told whether it answers a HEAD.
+// The first kept header value of the name in the final head of the first HTTP/1.1 response of a stream, told whether it answers a HEAD and whether the
+// connection has closed.
 #[no_mangle]
 pub extern "C" fn ospirnar_response_field(
     input: &[u8],
     head: u32,
+    closed: u32,
     name: &[u8],
     number: &mut u32,
     place: &mut usize,
     start: &mut usize,
     len: &mut usize,
 ) -> u32
-    ensures { λ r. ⌜ FieldEntered (askedOf (responseQuestion (answering head (plain 0)) (now (name .entry)) (now (input .entry))))
+    ensures { λ r. ⌜ FieldEntered (askedOf (responseQuestion (closing closed (answering head (plain 0))) (now (name .entry)) (now (input .entry))))
         (now (number .exit)) (now (place .exit)) (now (start .exit)) (now (len .exit)) r ⌝ }
 {
-    let a = response_found(input, Told { scheme: 0, head }, name);
+    let a = response_found(
+        input,
+        Told {
+            scheme: 0,
+            head,
+            closed,
+        },
+        name,
+    );
     give_field(a, number, place, start, len)
 }
 
@@ -88,6 +106,14 @@ pub extern "C" fn ospirnar_binary_field(
     ensures { λ r. ⌜ FieldEntered (askedOf (binaryQuestion (answering head (plain 0)) (now (name .entry)) (now (input .entry))))
         (now (number .exit)) (now (place .exit)) (now (start .exit)) (now (len .exit)) r ⌝ }
 {
-    let a = binary_found(input, Told { scheme: 0, head }, name);
+    let a = binary_found(
+        input,
+        Told {
+            scheme: 0,
+            head,
+            closed: 0,
+        },
+        name,
+    );
     give_field(a, number, place, start, len)
 }

@@ -6,7 +6,7 @@ use turning::from_binary::binary_to_http1;
 use turning::to_binary::request_to_binary;
 use turning::to_binary::response_to_binary;
 ghost use mathlib.Core.Path.{_≡_};
-ghost use Rattle.messages.specs.Told.{plain, answering};
+ghost use Rattle.messages.specs.Told.{plain, answering, closing};
 ghost use Rattle.http1.specs.Read.{readRequest, readResponse};
 ghost use Rattle.turn.specs.Turn.{requestToBinary, responseToBinary, binaryToBinary, binaryToHttp1};
 ghost use Rattle.capi.specs.Entries.{EntryServed, EntryTaken};
@@ -23,23 +23,43 @@ pub extern "C" fn ospirnar_request_to_binary(
     ensures { λ r. ⌜ EntryTaken (readRequest (plain scheme) (now (input .entry))) (requestToBinary (plain scheme) (now (input .entry)))
         (now (output .entry)) (now (output .exit)) (now (taken .exit)) (now (place .exit)) r ⌝ }
 {
-    let w = request_to_binary(input, Told { scheme, head: 0 }, output, taken);
+    let w = request_to_binary(
+        input,
+        Told {
+            scheme,
+            head: 0,
+            closed: 0,
+        },
+        output,
+        taken,
+    );
     give_written(w, place)
 }
 
-// The first HTTP/1.1 response of a stream, told whether it answers a HEAD, as Binary.
+// The first HTTP/1.1 response of a stream, told whether it answers a HEAD and whether the connection has closed, as Binary.
 #[no_mangle]
 pub extern "C" fn ospirnar_response_to_binary(
     input: &[u8],
     head: u32,
+    closed: u32,
     output: &mut [u8],
     place: &mut usize,
     taken: &mut usize,
 ) -> u32
-    ensures { λ r. ⌜ EntryTaken (readResponse (answering head (plain 0)) (now (input .entry))) (responseToBinary (answering head (plain 0)) (now (input .entry)))
+    ensures { λ r. ⌜ EntryTaken (readResponse (closing closed (answering head (plain 0))) (now (input .entry)))
+        (responseToBinary (closing closed (answering head (plain 0))) (now (input .entry)))
         (now (output .entry)) (now (output .exit)) (now (taken .exit)) (now (place .exit)) r ⌝ }
 {
-    let w = response_to_binary(input, Told { scheme: 0, head }, output, taken);
+    let w = response_to_binary(
+        input,
+        Told {
+            scheme: 0,
+            head,
+            closed,
+        },
+        output,
+        taken,
+    );
     give_written(w, place)
 }
 
@@ -54,7 +74,15 @@ pub extern "C" fn ospirnar_binary_to_binary(
     ensures { λ r. ⌜ EntryServed (binaryToBinary (answering head (plain 0)) (now (input .entry)))
         (now (output .entry)) (now (output .exit)) (now (place .exit)) r ⌝ }
 {
-    let w = binary_to_binary(input, Told { scheme: 0, head }, output);
+    let w = binary_to_binary(
+        input,
+        Told {
+            scheme: 0,
+            head,
+            closed: 0,
+        },
+        output,
+    );
     give_written(w, place)
 }
 
@@ -70,6 +98,14 @@ pub extern "C" fn ospirnar_binary_to_http1(
     ensures { λ r. ⌜ EntryServed (binaryToHttp1 (answering head (plain scheme)) (now (input .entry)))
         (now (output .entry)) (now (output .exit)) (now (place .exit)) r ⌝ }
 {
-    let w = binary_to_http1(input, Told { scheme, head }, output);
+    let w = binary_to_http1(
+        input,
+        Told {
+            scheme,
+            head,
+            closed: 0,
+        },
+        output,
+    );
     give_written(w, place)
 }

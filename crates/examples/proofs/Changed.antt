@@ -1,15 +1,16 @@
 -- Every row of the table for 02, by computation.
 use mathlib.Core.Path.{refl}
 use Rattle.examples.specs.Examples.{hex}
-use Rattle.examples.specs.Changes.{Statement, widths, headText, statedText, statedBinary, wideText, replies}
+use Rattle.examples.specs.Changes.{Statement, widths, headText, statedText, statedBinary, wideText, replies, oldText, oldBinary, measuredText, closings}
 use Rattle.examples.specs.Computing.{computing}
 
 pub changed : Statement
-unfolding computing widths headText statedText statedBinary wideText replies hex
+unfolding computing widths headText statedText statedBinary wideText replies oldText oldBinary measuredText closings hex
 changed = record {
   item4 = (refl, (refl, (refl, (refl, (refl, tt)))));
   item5 = (
     (refl, refl),
     ((refl, refl), (refl, ((refl, refl), (refl, ((refl, refl), (refl, ((refl, refl), ((refl, refl), ((refl, refl), ((refl, refl), ((refl, refl), tt))))))))))),
   );
+  item10 = ((refl, refl), ((refl, refl), (refl, (refl, ((refl, refl), ((refl, refl), ((refl, refl), ((refl, refl), ((refl, refl), ((refl, refl), ((refl, refl), ((refl, refl), ((refl, refl), ((refl, refl), tt))))))))))))));
 }

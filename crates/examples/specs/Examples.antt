@@ -12,7 +12,7 @@ use Rattle.numbers.specs.Digits.{digitOf}
 use Rattle.numbers.specs.Integer.{readInt}
 use Rattle.numbers.specs.declared.Integer.the-variants.{Value, Cut}
 use Rattle.script.specs.Script.{Answer}
-use Rattle.messages.specs.Told.{plain, answering}
+use Rattle.messages.specs.Told.{plain}
 use Rattle.messages.specs.declared.Told.{Told}
 use Rattle.messages.specs.Message.{Message}
 use Rattle.messages.specs.Answers.{readingOf, numberOf, placeOf}
@@ -50,16 +50,16 @@ pub data Example : Type 0 where
   integer : List ℕ → ℕ → Example
   -- reading as an HTTP/1.1 request under http: number, then the length or the refusal's place
   http1 : List ℕ → ℕ → ℕ → Example
-  -- reading as an HTTP/1.1 response, told whether it answers a HEAD (0 no, 1 yes): the same
-  http1Reply : ℕ → List ℕ → ℕ → ℕ → Example
-  -- reading as Binary, told the same of it
-  binaryReply : ℕ → List ℕ → ℕ → ℕ → Example
-  -- an accepted HTTP/1.1 response, told so, has this stated length
-  states : ℕ → List ℕ → StatedLength → Example
-  -- an HTTP/1.1 response, told so, becomes these octets of Binary
-  replyBecomes : ℕ → List ℕ → List ℕ → Example
-  -- a Binary message, told so, becomes these octets of HTTP/1.1 under http
-  goesAs : ℕ → List ℕ → List ℕ → Example
+  -- reading as an HTTP/1.1 response, as told: the same
+  http1Reply : Told → List ℕ → ℕ → ℕ → Example
+  -- reading as Binary, as told
+  binaryReply : Told → List ℕ → ℕ → ℕ → Example
+  -- an accepted HTTP/1.1 response, read as told, has this stated length
+  states : Told → List ℕ → StatedLength → Example
+  -- an HTTP/1.1 response, read as told, becomes these octets of Binary
+  replyBecomes : Told → List ℕ → List ℕ → Example
+  -- a Binary message, as told, becomes these octets of HTTP/1.1
+  goesAs : Told → List ℕ → List ℕ → Example
   -- reading as Binary: number, then the length or the refusal's place
   binary : List ℕ → ℕ → ℕ → Example
   -- an accepted Binary message has so many octets of content and so many trailers
@@ -71,7 +71,7 @@ pub data Example : Type 0 where
   -- so many octets
   long : List ℕ → ℕ → Example
 
--- a call told http, and that its message answers no HEAD
+-- a call told http, that its message answers no HEAD, and that the connection is open
 abbrev pub http : Told
 http = plain 0
 
@@ -95,11 +95,11 @@ States outcome.More x = ⊥
 abbrev pub Holds : Example → Type 0
 Holds (integer s v) = readInt 0 s ≡ Value v (length s)
 Holds (http1 s k p) = Answers s (readRequest http s) k p
-Holds (http1Reply h s k p) = Answers s (readResponse (answering h http) s) k p
-Holds (binaryReply h s k p) = Answers s (readBinary (answering h http) s) k p
-Holds (states h s x) = States (readingOf (readResponse (answering h http) s) .outcome) x
-Holds (replyBecomes h s b) = responseToBinary (answering h http) s ≡ writes b
-Holds (goesAs h s b) = binaryToHttp1 (answering h http) s ≡ writes b
+Holds (http1Reply t s k p) = Answers s (readResponse t s) k p
+Holds (binaryReply t s k p) = Answers s (readBinary t s) k p
+Holds (states t s x) = States (readingOf (readResponse t s) .outcome) x
+Holds (replyBecomes t s b) = responseToBinary t s ≡ writes b
+Holds (goesAs t s b) = binaryToHttp1 t s ≡ writes b
 Holds (binary s k p) = Answers s (readBinary http s) k p
 Holds (binaryHas s c t) = Counts (readingOf (readBinary http s) .outcome) c t
 Holds (becomes s b) = requestToBinary http s ≡ writes b

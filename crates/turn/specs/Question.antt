@@ -42,7 +42,7 @@ valueOr default (some w) = w .text
 unfoldable pub requestQuestion : Told → List ℕ → List ℕ → Question
 requestQuestion t name s = questionOf name (length s) (readRequest t s)
 
--- of a response, told whether it answers a HEAD
+-- of a response, told whether it answers a HEAD and whether the connection has closed
 unfoldable pub responseQuestion : Told → List ℕ → List ℕ → Question
 responseQuestion t name s = questionOf name (length s) (readResponse t s)
 

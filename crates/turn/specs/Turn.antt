@@ -43,7 +43,7 @@ pub record TakenServed (x : Answer Message) (y : Reply) (o o′ : List ℕ) (tak
 unfoldable pub requestToBinary : Told → List ℕ → Reply
 requestToBinary t s = replyFrom (length s) (readRequest t s) toBinary
 
--- an HTTP/1.1 response as Binary, told whether it answers a HEAD
+-- an HTTP/1.1 response as Binary, told whether it answers a HEAD and whether the connection has closed
 unfoldable pub responseToBinary : Told → List ℕ → Reply
 responseToBinary t s = replyFrom (length s) (readResponse t s) toBinary
 
