@@ -58,6 +58,7 @@ pub extern "C" fn ospirnar_request_field(
             scheme,
             head: 0,
             closed: 0,
+            former: 0,
         },
         name,
     );
@@ -86,6 +87,7 @@ pub extern "C" fn ospirnar_response_field(
             scheme: 0,
             head,
             closed,
+            former: 0,
         },
         name,
     );
@@ -112,6 +114,7 @@ pub extern "C" fn ospirnar_binary_field(
             scheme: 0,
             head,
             closed: 0,
+            former: 0,
         },
         name,
     );

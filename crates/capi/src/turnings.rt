@@ -6,7 +6,7 @@ use turning::from_binary::binary_to_http1;
 use turning::to_binary::request_to_binary;
 use turning::to_binary::response_to_binary;
 ghost use mathlib.Core.Path.{_≡_};
-ghost use Rattle.messages.specs.Told.{plain, answering, closing};
+ghost use Rattle.messages.specs.Told.{plain, answering, closing, keeping};
 ghost use Rattle.http1.specs.Read.{readRequest, readResponse};
 ghost use Rattle.turn.specs.Turn.{requestToBinary, responseToBinary, binaryToBinary, binaryToHttp1};
 ghost use Rattle.capi.specs.Entries.{EntryServed, EntryTaken};
@@ -29,6 +29,7 @@ pub extern "C" fn ospirnar_request_to_binary(
             scheme,
             head: 0,
             closed: 0,
+            former: 0,
         },
         output,
         taken,
@@ -56,6 +57,7 @@ pub extern "C" fn ospirnar_response_to_binary(
             scheme: 0,
             head,
             closed,
+            former: 0,
         },
         output,
         taken,
@@ -80,22 +82,25 @@ pub extern "C" fn ospirnar_binary_to_binary(
             scheme: 0,
             head,
             closed: 0,
+            former: 0,
         },
         output,
     );
     give_written(w, place)
 }
 
-// A Binary message, told whether it answers a HEAD, as HTTP/1.1 on a connection of the scheme told.
+// A Binary message, told whether it answers a HEAD, as HTTP/1.1 on a connection of the scheme told, by the former rule on empty content or
+// not.
 #[no_mangle]
 pub extern "C" fn ospirnar_binary_to_http1(
     input: &[u8],
     scheme: u32,
     head: u32,
+    former: u32,
     output: &mut [u8],
     place: &mut usize,
 ) -> u32
-    ensures { λ r. ⌜ EntryServed (binaryToHttp1 (answering head (plain scheme)) (now (input .entry)))
+    ensures { λ r. ⌜ EntryServed (binaryToHttp1 (keeping former (answering head (plain scheme))) (now (input .entry)))
         (now (output .entry)) (now (output .exit)) (now (place .exit)) r ⌝ }
 {
     let w = binary_to_http1(
@@ -104,6 +109,7 @@ pub extern "C" fn ospirnar_binary_to_http1(
             scheme,
             head,
             closed: 0,
+            former,
         },
         output,
     );
