@@ -57,6 +57,6 @@ void ours_binary_to_binary(const struct message *message, struct found *found)
 void ours_binary_to_http1(const struct message *message, struct found *found)
 {
     size_t place;
-    uint32_t number = ospirnar_binary_to_http1(message->octets, message->len, 0, 0, output, OUTPUT_ROOM, &place);
+    uint32_t number = ospirnar_binary_to_http1(message->octets, message->len, 0, 0, 0, output, OUTPUT_ROOM, &place);
     found->written = number == 0 ? place : 0;
 }

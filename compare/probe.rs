@@ -35,7 +35,7 @@ mod entries {
         ) -> u32;
         pub fn ospirnar_binary_to_binary(input: *const u8, input_len: usize, head: u32, out: *mut u8, out_len: usize, place: *mut usize) -> u32;
         pub fn ospirnar_binary_to_http1(
-            input: *const u8, input_len: usize, scheme: u32, head: u32, out: *mut u8, out_len: usize, place: *mut usize,
+            input: *const u8, input_len: usize, scheme: u32, head: u32, former: u32, out: *mut u8, out_len: usize, place: *mut usize,
         ) -> u32;
         pub fn ospirnar_request_field(
             input: *const u8, input_len: usize, scheme: u32, name: *const u8, name_len: usize, number: *mut u32, place: *mut usize, start: *mut usize, length: *mut usize,
@@ -133,7 +133,7 @@ fn binary_to_binary(input: &[u8], told: Told, out: &mut Lent<u8>) -> Answer {
 
 fn binary_to_http1(input: &[u8], scheme: u32, told: Told, out: &mut Lent<u8>) -> Answer {
     let (pointer, room) = out.lend();
-    ask(|place| unsafe { entries::ospirnar_binary_to_http1(input.as_ptr(), input.len(), scheme, told.head, pointer, room, place) })
+    ask(|place| unsafe { entries::ospirnar_binary_to_http1(input.as_ptr(), input.len(), scheme, told.head, told.former, pointer, room, place) })
 }
 
 fn request_field(input: &[u8], scheme: u32, name: &[u8]) -> Result<Asked, &'static str> {
@@ -519,7 +519,7 @@ fn stream(told: u32, room: usize, tail: &[u8], inputs: &[Vec<u8>]) -> Result<Str
     for input in inputs {
         let before = space.all.clone();
         let (pointer, left) = (space.all[written..].as_mut_ptr(), room - written);
-        let answer = ask(|place| unsafe { entries::ospirnar_binary_to_http1(input.as_ptr(), input.len(), told, 0, pointer, left, place) });
+        let answer = ask(|place| unsafe { entries::ospirnar_binary_to_http1(input.as_ptr(), input.len(), told, 0, 0, pointer, left, place) });
         let used = if answer.number == 0 { answer.place } else { 0 };
         if used > left {
             return Err("range");
@@ -679,6 +679,7 @@ fn scheme(word: &[u8]) -> Option<u32> {
 struct Told {
     head: u32,
     closed: u32,
+    former: u32,
 }
 
 /// A command, its options as told, and its other words: options stand directly behind the command, and only where it takes them.
@@ -692,6 +693,7 @@ fn options<'a, 'b>(words: &'b [&'a [u8]]) -> Option<(&'a [u8], Told, &'b [&'a [u
         let value = number(&option[at + 1..], u64::MAX).filter(|&n| n <= u32::MAX as u64)? as u32;
         match (&option[..at], name) {
             (b"head", b"h1resp" | b"bin" | b"h1resp2bin" | b"bin2h1" | b"bin2bin" | b"field_h1resp" | b"field_bin") => told.head = value,
+            (b"former", b"bin2h1") => told.former = value,
             (b"closed", b"h1resp" | b"h1resp2bin" | b"field_h1resp") => told.closed = value,
             _ => return None,
         }

@@ -79,7 +79,8 @@ uint32_t ospirnar_binary_to_binary(const uint8_t *input, size_t input_len, uint3
 
 /* A Binary message, request or response, as HTTP/1.1 on a connection of the scheme told. Calls that each write behind
  * what the calls before them wrote make a stream, from which ospirnar_read_request under the same scheme takes the same requests in the same order. */
-uint32_t ospirnar_binary_to_http1(const uint8_t *input, size_t input_len, uint32_t scheme, uint32_t head, uint8_t *output, size_t output_len, size_t *place);
+uint32_t ospirnar_binary_to_http1(const uint8_t *input, size_t input_len, uint32_t scheme, uint32_t head, uint32_t former, uint8_t *output, size_t output_len,
+                                  size_t *place);
 
 /* The listing of an HTTP/1.1 request stream under http, as the listing program prints it, into `output`; *place is its length. All behind it stays as
  * it was. 13 at 0 where it does not fit; nothing else is refused. */
