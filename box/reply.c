@@ -1,5 +1,5 @@
 /* The C example of replies: takes HTTP/1.1 responses off standard input, each the answer to a request whose method is known, turns each into Binary HTTP for the radio
- * hop and back. The first line of the input has the methods, one word each, as the box remembers them; behind its line feed the responses begin.
+ * hop and back. The input has ended, so the connection has closed: a reply without a length ends with it. The first line of the input has the methods, one word each, as the box remembers them; behind its line feed the responses begin.
  *
  *     target/box/reply < file of methods and responses
  *
@@ -48,7 +48,7 @@ int main(void)
     for (size_t at = line < len ? line + 1 : len; at < len; at += taken) {
         if (next_method(&method, line, &head) == 0)
             return stop("no method is left", 0, at);
-        uint32_t number = ospirnar_response_to_binary(input + at, len - at, head, 0, binary, sizeof binary, &binary_len, &taken);
+        uint32_t number = ospirnar_response_to_binary(input + at, len - at, head, 1, binary, sizeof binary, &binary_len, &taken);
         if (number != 0)
             return stop(number == 1 ? "more octets are needed" : "refused", number, at + binary_len);
         if (ospirnar_read_binary(binary, binary_len, head, ranges, OSPIRNAR_RANGES_MOST, &place) != 0)

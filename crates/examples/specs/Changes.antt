@@ -3,7 +3,7 @@ use Prim.Native.Nat.{ℕ}
 use mathlib.Core.List.{List, [], _∷_, _++_}
 use lib.ListN.{take}
 use Rattle.octets.specs.Ascii.{ascii}
-use Rattle.messages.specs.Told.{answering, closing}
+use Rattle.messages.specs.Told.{answering, closing, keeping}
 use Rattle.messages.specs.declared.StatedLength.the-variants.{Missing, Of}
 use Rattle.messages.specs.declared.Told.{Told}
 use Rattle.examples.specs.Examples.{http, Example, integer, http1, http1Reply, binaryReply, states, replyBecomes, goesAs, hex, AllHold}
@@ -103,8 +103,32 @@ closings =
     ∷ http1Reply closed (ascii "HTTP/1.1 200 \r\ntransfer-encoding: gzip\r\n\r\nabc") 7 42
     ∷ []
 
+-- a request without content, of a method with its length
+abbrev pub emptyOf : List ℕ → List ℕ
+emptyOf method = hex "00" ++ method ++ hex "0468747470 0161 022f73 00 00 00"
+
+-- what stands behind the method in HTTP/1.1, without a length line and with it
+unfoldable pub silentText : List ℕ
+silentText = ascii " /s HTTP/1.1\r\nhost: a\r\n\r\n"
+
+unfoldable pub sayingText : List ℕ
+sayingText = ascii " /s HTTP/1.1\r\nhost: a\r\ncontent-length: 0\r\n\r\n"
+
+-- item 9
+unfoldable pub empties : List Example
+empties =
+    goesAs http (emptyOf (hex "04" ++ ascii "POST")) (ascii "POST" ++ sayingText)
+    -- GET and HEAD go without, in this case of letters
+    ∷ goesAs http (emptyOf (hex "03" ++ ascii "GET")) (ascii "GET" ++ silentText)
+    ∷ goesAs http (emptyOf (hex "04" ++ ascii "HEAD")) (ascii "HEAD" ++ silentText)
+    ∷ goesAs http (emptyOf (hex "03" ++ ascii "get")) (ascii "get" ++ sayingText)
+    -- by the former rule each goes without
+    ∷ goesAs (keeping 1 http) (emptyOf (hex "04" ++ ascii "POST")) (ascii "POST" ++ silentText)
+    ∷ []
+
 -- the statement: every row holds
 pub record Statement : Type 0 where
   pub item4 : AllHold widths
   pub item5 : AllHold replies
+  pub item9 : AllHold empties
   pub item10 : AllHold closings
