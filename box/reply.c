@@ -1,5 +1,6 @@
 /* The C example of replies: takes HTTP/1.1 responses off standard input, each the answer to a request whose method is known, turns each into Binary HTTP for the radio
- * hop and back. The first line of the input has the methods, one word each, as the box remembers them; behind its line feed the responses begin.
+ * hop and back. The first line of the input has the methods, one word each, as the box remembers them; behind its line feed the responses begin. Standard input has ended,
+ * so the connection has closed: the content of a last response without a length ends there too.
  *
  *     target/box/reply < file of methods and responses
  *
@@ -48,7 +49,7 @@ int main(void)
     for (size_t at = line < len ? line + 1 : len; at < len; at += taken) {
         if (next_method(&method, line, &head) == 0)
             return stop("no method is left", 0, at);
-        uint32_t number = ospirnar_response_to_binary(input + at, len - at, head, binary, sizeof binary, &binary_len, &taken);
+        uint32_t number = ospirnar_response_to_binary(input + at, len - at, head, 1, binary, sizeof binary, &binary_len, &taken);
         if (number != 0)
             return stop(number == 1 ? "more octets are needed" : "refused", number, at + binary_len);
         if (ospirnar_read_binary(binary, binary_len, head, ranges, OSPIRNAR_RANGES_MOST, &place) != 0)
@@ -58,9 +59,9 @@ int main(void)
             printf(", would have %llu octets", (unsigned long long)ranges[17] << 32 | ranges[16]);
         else
             printf(", %u octets of content", (unsigned)ranges[12]);
-        /* back, told the same, and once more over the hop: the same octets */
+        /* back, told the same, and once more over the hop, where the connection is open: the same octets, since what is written says where it ends */
         if (ospirnar_binary_to_http1(binary, binary_len, 0, head, written, sizeof written, &back_len) != 0
-            || ospirnar_response_to_binary(written, back_len, head, anew, sizeof anew, &anew_len, &place) != 0
+            || ospirnar_response_to_binary(written, back_len, head, 0, anew, sizeof anew, &anew_len, &place) != 0
             || place != back_len || anew_len != binary_len || memcmp(anew, binary, binary_len) != 0)
             return 2;
         printf("; %zu octets, as Binary %zu, turned back %zu\n", taken, binary_len, back_len);
