@@ -1,5 +1,6 @@
 /* The C example of replies: takes HTTP/1.1 responses off standard input, each the answer to a request whose method is known, turns each into Binary HTTP for the radio
- * hop and back. The input has ended, so the connection has closed: a reply without a length ends with it. The first line of the input has the methods, one word each, as the box remembers them; behind its line feed the responses begin.
+ * hop and back. The first line of the input has the methods, one word each, as the box remembers them; behind its line feed the responses begin. Standard input has ended,
+ * so the connection has closed: the content of a last response without a length ends there too.
  *
  *     target/box/reply < file of methods and responses
  *
@@ -58,7 +59,7 @@ int main(void)
             printf(", would have %llu octets", (unsigned long long)ranges[17] << 32 | ranges[16]);
         else
             printf(", %u octets of content", (unsigned)ranges[12]);
-        /* back, told the same, and once more over the hop: the same octets */
+        /* back, told the same, and once more over the hop, where the connection is open: the same octets, since what is written says where it ends */
         if (ospirnar_binary_to_http1(binary, binary_len, 0, head, 0, written, sizeof written, &back_len) != 0
             || ospirnar_response_to_binary(written, back_len, head, 0, anew, sizeof anew, &anew_len, &place) != 0
             || place != back_len || anew_len != binary_len || memcmp(anew, binary, binary_len) != 0)

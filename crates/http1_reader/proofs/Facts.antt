@@ -1,13 +1,10 @@
 -- What holds of a section that was read at a place of an input.
-use Prim.Native.Nat.{ℕ, _+_, _-_, _≤_}
-use mathlib.Core.Path.{_≡_, sym, subst}
-use mathlib.Core.List.{List, [], _∷_, _++_}
-use native.Mathlib.Omega.{arith}
-use lib.ListN.{length, take, drop, length-drop, take-append-drop}
-use lib.Seq.{length-take-le}
+use Prim.Native.Nat.{ℕ, _+_, _≤_}
+use mathlib.Core.Path.{_≡_}
+use mathlib.Core.List.{List, [], _∷_}
+use lib.ListN.{length, drop}
 use Rattle.octets.specs.Limits.{linesMost}
-use Rattle.script.specs.Script.{accepted, run, Every}
-use Rattle.script.proofs.Sound.{says, sound}
+use Rattle.script.specs.Script.{accepted, run}
 use Rattle.messages.specs.Message.{FieldRead}
 use Rattle.messages.specs.Notes.{AllLie}
 use Rattle.messages.specs.declared.Body.{Body}
@@ -16,7 +13,7 @@ use Rattle.http1.specs.Read.{Lines, section}
 use Rattle.sound.specs.Placed.{Each}
 use Rattle.sound.proofs.Parts.{LineAt}
 use Rattle.http1_sound.proofs.Rules.{Fits}
-use Rattle.http1_sound.proofs.Sections.{SectionRead, every-section}
+use Rattle.http1_sound.proofs.Sections.{section-at}
 use Rattle.http1_parts.specs.Content.{SizedWithin}
 use Rattle.http1_parts.proofs.Outcomes.{Ended, section-end}
 
@@ -35,17 +32,13 @@ pub record SectionFacts (s : List ℕ) (from total n : ℕ) (h : Lines) : Type 0
 pub section-facts : (s : List ℕ) (from left n : ℕ) (h : Lines) → from ≤ length s → run (section left) from (drop from s) ≡ accepted n h
     → SectionFacts s from (from + left) n h
 section-facts s from left n h g e =
-    let l : length (take from s) ≡ from = length-take-le from s g in
-    let d : length (drop from s) ≡ length s - from = length-drop from s in
-    let t : take from s ++ drop from s ≡ s = take-append-drop from s in
-    let b = says _ (sound (λ n h. SectionRead s n h) (section left) (take from s) (drop from s) from l
-    (subst (λ (x : List ℕ). Every x (λ n h. SectionRead s n h) from (section left)) (sym t) (every-section s left from))) e in
+    let b = section-at s left from n h g e in
     record {
       ended = section-end left from (drop from s) e;
-      within = omega (arith, b .2, d);
-      behind = b .1;
-      few = b .0 .lines .few;
-      lie = all-lie s (h .lines) (b .0 .lines .lines);
+      within = b .within;
+      behind = b .behind;
+      few = b .read .lines .few;
+      lie = all-lie s (h .lines) (b .read .lines .lines);
     }
 
 -- a body that is within its size

@@ -1,19 +1,20 @@
 -- What sections and content give wherever they stand.
-use Prim.Native.Nat.{ℕ, zero, suc, _+_, _-_}
-use mathlib.Core.Path.{_≡_, refl, subst}
+use Prim.Native.Nat.{ℕ, zero, suc, _+_, _-_, _≤_}
+use mathlib.Core.Path.{_≡_, refl, sym, subst}
 use mathlib.Core.Bool.{Bool, true, false, cond}
 use mathlib.Core.List.{List, [], _∷_, _++_}
 use native.Mathlib.Omega.{arith}
 use borrow.Author.Tests.{leb-false, ltb-false, eqb-true, eqb-false}
 use lib.Dec.{eqb, leb, ltb}
-use lib.ListN.{length, take, drop, length-append}
+use lib.ListN.{length, take, drop, length-append, length-drop, take-append-drop}
 use lib.Seq.{length-take-le}
 use Rattle.octets.specs.Limits.{trailerMost, chunkLineMost, linesMost, chunksMost, contentMost}
 use Rattle.octets.specs.Refusals.{badLength, tooLarge, badSyntax}
 use Rattle.octets.specs.Text.{isEmpty, sameText}
-use Rattle.script.specs.Script.{done, stop, someOctets, Lies, Every}
+use Rattle.script.specs.Script.{accepted, done, stop, run, someOctets, Lies, Every}
 use Rattle.script.specs.Do.{_>>=_, Piece, piece, word, tell, good, wrong}
 use Rattle.script.proofs.Do.{every-bind, every-map, every-tell, every-then}
+use Rattle.script.proofs.Sound.{says, sound}
 use Rattle.script.proofs.Places.{lies-front, lies-in}
 use Rattle.messages.specs.Message.{FieldRead}
 use Rattle.messages.specs.Names.{areTrailers}
@@ -39,7 +40,7 @@ empty-line : (at : ℕ) (w : List ℕ) → isEmpty w ≡ true → at + 2 ≡ at 
 unfolding isEmpty
 empty-line at w e = omega (arith, eqb-true (length w) 0 e, length-append w (13 ∷ 10 ∷ []))
 
-every-lines : (s : List ℕ) (f left at : ℕ) (fs : List FieldRead) → SectionAt s fs → Every s (λ n h. SectionRead s n h) at (fieldLines f left fs)
+every-lines : (s : List ℕ) (f left at : ℕ) (fs : List FieldRead) → SectionAt s fs → Every s (SectionRead s) at (fieldLines f left fs)
 unfolding fieldLines
 every-lines s zero left at fs h = tt
 every-lines s (suc f) left at fs h =
@@ -48,8 +49,8 @@ every-lines s (suc f) left at fs h =
   where
     pick : (w : List ℕ) (a : Bool) → isEmpty w ≡ a → (b : Bool) → leb linesMost (length fs) ≡ b → Lies s at w
         → ((x : FieldRead) → SectionAt s (fs ++ x ∷ [])
-        → Every s (λ n h. SectionRead s n h) (at + length (w ++ 13 ∷ 10 ∷ [])) (fieldLines f (less left (piece at w)) (fs ++ x ∷ [])))
-        → Every s (λ n h. SectionRead s n h) (at + length (w ++ 13 ∷ 10 ∷ []))
+        → Every s (SectionRead s) (at + length (w ++ 13 ∷ 10 ∷ [])) (fieldLines f (less left (piece at w)) (fs ++ x ∷ [])))
+        → Every s (SectionRead s) (at + length (w ++ 13 ∷ 10 ∷ []))
         (cond a (done (record { lines = fs; end = at + 2; left = left - 2 }))
         (cond b (stop tooLarge at) (tell (fieldOf (piece at w)) >>= λ x. fieldLines f (less left (piece at w)) (fs ++ x ∷ []))))
     pick w true q b e y ih = record { lines = h; end = empty-line at w q }
@@ -59,9 +60,24 @@ every-lines s (suc f) left at fs h =
         ih x
         (section-snoc s fs x h (line-at s (piece at w) x q y) (leb-false linesMost (length fs) e)))
 
-pub every-section : (s : List ℕ) (left at : ℕ) → Every s (λ n h. SectionRead s n h) at (section left)
+pub every-section : (s : List ℕ) (left at : ℕ) → Every s (SectionRead s) at (section left)
 unfolding section
 every-section s left at = every-lines s (suc linesMost) left at [] (section-none s)
+
+-- a section that was read from a place on
+pub record SectionFrom (s : List ℕ) (from n : ℕ) (h : Lines) : Type 0 where
+  pub read : SectionRead s n h
+  pub behind : from ≤ n
+  pub within : n ≤ length s
+
+pub section-at : (s : List ℕ) (left from n : ℕ) (h : Lines) → from ≤ length s → run (section left) from (drop from s) ≡ accepted n h → SectionFrom s from n h
+section-at s left from n h g e =
+    let l : length (take from s) ≡ from = length-take-le from s g in
+    let d : length (drop from s) ≡ length s - from = length-drop from s in
+    let t : take from s ++ drop from s ≡ s = take-append-drop from s in
+    let b = says _ (sound (SectionRead s) (section left) (take from s) (drop from s) from l
+    (subst (λ (x : List ℕ). Every x (SectionRead s) from (section left)) (sym t) (every-section s left from))) e in
+    record { read = b .0; behind = b .1; within = omega (arith, b .2, d) }
 
 -- ---- content
 

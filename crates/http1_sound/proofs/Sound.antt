@@ -35,6 +35,7 @@ use Rattle.sound.proofs.Stated.{stated-few, content-status, none-stated}
 use Rattle.http1_sound.proofs.Rules.{host-is, Fills, Reaches, ends-with-stream, request-framed, ResponseFramed, response-framed}
 use Rattle.http1_sound.proofs.Lines.{RequestAt, request-at, status-good}
 use Rattle.http1_sound.proofs.Sections.{SectionRead, every-section, ContentAt, every-content}
+use Rattle.http1_sound.proofs.Closing.{closed-later}
 use Rattle.http1_sound.proofs.Front.{request-within, response-within, request-front, response-front}
 
 -- ---- requests
@@ -228,5 +229,6 @@ http1-reads = record {
   requestsSound = request-sound;
   responsesSound = response-sound;
   headUnused = request-head-unused;
+  closedLater = closed-later;
   closedUnused = request-closed-unused;
 }

@@ -5,7 +5,7 @@ use mathlib.Core.Path.{_≡_}
 use mathlib.Core.Bool.{true, false}
 use mathlib.Core.List.{List, [], _∷_}
 use lib.ListN.{length}
-use Rattle.script.specs.Script.{accepted, refused}
+use Rattle.script.specs.Script.{accepted, refused, Settled}
 use Rattle.messages.specs.Told.{isYes, answering, closing}
 use Rattle.messages.specs.declared.Told.{Told}
 use Rattle.messages.specs.Message.{FieldRead, Start, requestStart, responseStart, Message}
@@ -78,6 +78,11 @@ RequestsRefused = (t : Told) (s : List ℕ) (n p : ℕ) → readRequest t s ≡ 
 abbrev pub ResponsesRefused : Type 0
 ResponsesRefused = (t : Told) (s : List ℕ) (n p : ℕ) → readResponse t s ≡ refused n p → Refusal http1Last s n p
 
+-- what the reader of responses settles while the connection is open stays when it has closed: with a length line, in chunks or ended at its head a response is as it
+-- was, and so is every refusal; only a call for more octets may become another answer (02, item 10)
+abbrev pub ClosedLater : Type 0
+ClosedLater = (t : Told) (c : ℕ) (s : List ℕ) → Settled (readResponse (closing 0 t) s) → readResponse (closing c t) s ≡ readResponse (closing 0 t) s
+
 -- the claims on both readers of HTTP/1.1, whatever a call is told; that a message answers a HEAD, or that the connection has closed, means nothing of a request. A
 -- stream of responses goes on only while the connection is open: what is read when it has closed may be as long as the input
 pub record Http1Reads : Type 0 where
@@ -86,4 +91,5 @@ pub record Http1Reads : Type 0 where
   pub requestsSound : RequestsSound
   pub responsesSound : ResponsesSound
   pub headUnused : (t : Told) (h : ℕ) (s : List ℕ) → readRequest (answering h t) s ≡ readRequest t s
+  pub closedLater : ClosedLater
   pub closedUnused : (t : Told) (c : ℕ) (s : List ℕ) → readRequest (closing c t) s ≡ readRequest t s

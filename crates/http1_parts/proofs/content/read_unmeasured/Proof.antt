@@ -1,5 +1,4 @@
 use borrow.Author.Needs.{needs}
-use native.Mathlib.Omega.{arith}
 use Rattle.http1_parts.proofs.Contents.{unmeasured-more, unmeasured-over}
 use Rattle.http1_parts.proofs.content.read_unmeasured.Statement.{statement}
 use Rattle.http1_parts.proofs.content.read_unmeasured.Tie as tie
