@@ -91,8 +91,8 @@ abbrev pub sectionMost : ℕ
 sectionMost = 549755814792
 
 -- the field of a stated length: a name of 14 octets with its count, at most 20 digits with theirs
-abbrev pub statedMost : ℕ
-statedMost = 43
+abbrev pub statedFieldMost : ℕ
+statedFieldMost = 43
 
 -- a final header section: count, that field, 64 fields
 abbrev pub headerMost : ℕ

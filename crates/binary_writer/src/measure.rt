@@ -15,7 +15,7 @@ ghost use Rattle.octets.specs.Limits.{linesMost};
 ghost use Rattle.ranges.specs.Entries.{HeadsCounted, MessageWithin};
 ghost use Rattle.binary_writer.specs.Sizes.{countedSize, entrySize, fieldsSize, sectionSize, statedSize, headerSize, headsSize};
 ghost use Rattle.binary_writer.specs.Sizes.{schemeSize, requestSize, responseSize, controlSize, messageSize};
-ghost use Rattle.binary_writer.specs.Sizes.{countMost, schemeMost, entryMost, fieldsMost, sectionMost, statedMost, headerMost, headMost, headsMost};
+ghost use Rattle.binary_writer.specs.Sizes.{countMost, schemeMost, entryMost, fieldsMost, sectionMost, statedFieldMost, headerMost, headMost, headsMost};
 ghost use Rattle.binary_writer.specs.Sizes.{partMost, controlMost};
 
 // So many octets with their count in front.
@@ -61,7 +61,7 @@ fn section_size(ranges: &[u32], k: usize, n: usize) -> usize
 
 // The field of a stated length.
 pub(crate) fn stated_size(stated: StatedLength) -> usize
-    ensures { λ r. ⌜ (r ≡ statedSize stated) × (r ≤ statedMost) ⌝ }
+    ensures { λ r. ⌜ (r ≡ statedSize stated) × (r ≤ statedFieldMost) ⌝ }
 {
     match stated {
         StatedLength::Missing => return 0,

@@ -1,6 +1,6 @@
 -- Demand 2 (00): "Turning a message from either form into the other keeps its meaning: control data, fields in order, content and trailers. The only
--- messages that can't be turned are those that document 01 numbers." A stated length is part of the meaning (02, item 5). One statement, `Turns`, of each of the four turnings (01, "The two forms and the
--- meaning between them", "Numbers a call answers with").
+-- messages that can't be turned are those that document 01 numbers." A stated length is part of the meaning (02, item 5). One statement, `Turns`, of each of
+-- the four turnings (01, "The two forms and the meaning between them", "Numbers a call answers with").
 use Prim.Native.Nat.{ℕ, _<_, _≤_}
 use mathlib.Core.Path.{_≡_}
 use mathlib.Core.Bool.{Bool, true, false, cond}
