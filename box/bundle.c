@@ -16,7 +16,7 @@
 enum { STREAM_MOST = 1 << 20, BINARY_MOST = 65536, BUNDLE_MOST = 1 << 20, FLOCKS = 127, NUMBERS = OSPIRNAR_ENTRIES_MOST * OSPIRNAR_ENTRY_NUMBERS };
 
 static uint8_t input[STREAM_MOST], binary[BINARY_MOST], bundle[BUNDLE_MOST], list[BUNDLE_MOST];
-static uint32_t ranges[OSPIRNAR_RANGES_MOST], entries[NUMBERS];
+static uint32_t entries[NUMBERS];
 
 static int stop(const char *what, uint32_t number, size_t place)
 {

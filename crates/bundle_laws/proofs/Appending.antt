@@ -15,7 +15,7 @@ use Rattle.octets.proofs.Kit.{into, split}
 use Rattle.script.specs.Script.{Answer, accepted, refused, more}
 use Rattle.messages.specs.Message.{isResponse, Message}
 use Rattle.messages.specs.Meaning.{Meaning, meaning}
-use Rattle.messages.specs.Valid.{ofResponse, valid}
+use Rattle.messages.specs.Valid.{ofResponse, valid, suits}
 use Rattle.sound.specs.Placed.{Each}
 use Rattle.messages.specs.Told.{plain}
 use Rattle.binary.specs.Read.{readBinary}
@@ -148,9 +148,9 @@ module _ (f : ℕ) (hf : isFlock f ≡ true) (x : Meaning) (v : valid x ≡ true
   pub new-kind : kindOf (wordOf (newEntry f x .head)) ≡ kindNumber (ofResponse (x .control))
   new-kind = rw word (head-kind f (kindNumber (ofResponse (x .control))) (length (binaryOf x)) least low big)
 
-  pub new-good : InForm (newEntry f x)
-  new-good =
-      let r = round-trip x v h in
+  pub new-good : suits (plain 0) x ≡ true → InForm (newEntry f x)
+  new-good o =
+      let r = round-trip (plain 0) x v o h in
       let p = placedBinary x in
       record {
         head = head-long _;
@@ -208,9 +208,9 @@ adds b used f m n q =
     let p = passed b used f m l (w .reply) in
     let a = p .entry in
     let x = meaning (a .message) in
-    let v : valid x ≡ true = binary-sound m (a .long) (a .message) (a .read) .sound .valid in
+    let v : valid x ≡ true = binary-sound (plain 0) m (a .long) (a .message) (a .read) .sound .valid in
     let d = newEntry f x in
-    let g = new-good f (p .flock) x v (a .fits) in
+    let g = new-good f (p .flock) x v (a .fits) (binary-sound (plain 0) m (a .long) (a .message) (a .read) .suits) in
     let es = walk (take used b) .entries in
     let o : l ≡ entryOctets d = a .is in
     let t : take used b ++ l ≡ entriesOctets (es ++ d ∷ []) =

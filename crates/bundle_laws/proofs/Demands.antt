@@ -8,10 +8,10 @@ use borrow.Author.Tests.{le-leb, eqb-true}
 use lib.Dec.{leb, eqb}
 use lib.ListN.{length}
 use Rattle.octets.specs.Limits.{binaryMost}
-use Rattle.script.specs.Script.{Answer, accepted, refused, more}
+use Rattle.script.specs.Script.{Answer, accepted, refused, more, means}
 use Rattle.messages.specs.declared.Told.{Told}
 use Rattle.messages.specs.Message.{Start, requestStart, responseStart, isResponse, Message}
-use Rattle.messages.specs.Meaning.{Meaning, meaning, controlMeans}
+use Rattle.messages.specs.Meaning.{Control, request, response, Meaning, meaning, controlMeans}
 use Rattle.messages.specs.Valid.{ofResponse, suitsControl, suits}
 use Rattle.sound.specs.Placed.{Each}
 use Rattle.messages.specs.Told.{plain}

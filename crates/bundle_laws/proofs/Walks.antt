@@ -61,14 +61,14 @@ verdict-zero kind w e = go (readBinary (plain 0) w) refl e
     go (accepted n m) q v =
         let a = into fifteen (eqb kind (kindNumber (isResponse (m .start)))) _ v in
         let b = into fifteen (isWritten (toBinary (meaning m)) w) _ (a .1) in
-        let l : n ≡ length w = binary-sound w n m q .whole in
+        let l : n ≡ length w = binary-sound (plain 0) w n m q .whole in
         record {
           message = m;
           read = q ∙ rw l;
           same = eqb-true kind (kindNumber (isResponse (m .start))) (a .0);
           form = is-written (meaning m) w (b .0);
         }
-    go (refused k p) q v = let h = binary-refused w k p q .some in no-zero (omega (arith, h)) v
+    go (refused k p) q v = let h = binary-refused (plain 0) w k p q .some in no-zero (omega (arith, h)) v
     go more q v = no-zero (omega arith) v
 
 pub zero-verdict : (kind : ℕ) (w : List ℕ) (m : Message) → length w ≤ binaryMost → readMessage w ≡ accepted (length w) m → kind ≡ kindNumber (isResponse (m .start))

@@ -1,9 +1,13 @@
 use borrow.Author.Needs.{needs}
 use Rattle.output.proofs.Serve.{serve-tail}
+use Rattle.bundle_edit.proofs.Appends.{lent-plain}
 use Rattle.bundle_edit.proofs.lend_behind.Statement.{statement}
 use Rattle.bundle_edit.proofs.lend_behind.Tie as tie
 use Rattle.bundle_edit.proofs.lend_behind.Reads as reads
 use Rattle.bundle_edit.proofs.lend_behind.Lts as lts
+
+plain-requires : tie.Need-plain-requires
+plain-requires c κs = search needs
 
 sub-binary-to-binary : tie.Need-sub-binary-to-binary
 sub-binary-to-binary c = search needs
@@ -21,12 +25,13 @@ same-length : tie.Need-same-length
 same-length c = search needs
 
 returns : tie.Need-returns
-returns c = serve-tail (c .before .before .before .before .before .before .pre) (c .before .before .binary-to-binary .ensures)
+returns c = lent-plain _ (c .before .before .before .before .plain .ensures) (serve-tail (c .before .before .before .before .before .before .before .pre) (c .before .before .binary-to-binary .ensures))
 
 pub lend-behind-spec : {M : Type 1} → statement M
 lend-behind-spec =
     tie.close
     (tie.spec
+    plain-requires
     sub-binary-to-binary
     part-binary-to-binary-start
     part-binary-to-binary-end
