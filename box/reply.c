@@ -1,6 +1,6 @@
-/* The C example of replies: takes HTTP/1.1 responses off standard input, each the answer to a request whose method is known, turns each into Binary HTTP for the radio
- * hop and back. The first line of the input has the methods, one word each, as the box remembers them; behind its line feed the responses begin. Standard input has ended,
- * so the connection has closed: the content of a last response without a length ends there too.
+/* The C example of replies: takes HTTP/1.1 responses off standard input, each the answer to a request whose method is known, turns each into Binary HTTP for
+ * the radio hop and back. The first line of the input has the methods, one word each, as the box remembers them; behind its line feed the responses begin.
+ * Standard input has ended, so the connection has closed: the content of a last response without a length ends there too.
  *
  *     target/box/reply < file of methods and responses
  *

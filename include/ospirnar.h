@@ -47,11 +47,12 @@ extern "C" {
 
 #define OSPIRNAR_RANGES_MOST 2076
 
-/* What a call is told. `scheme`: 0 http, 1 https; another number is 4 at 0, first. `head`: whether the message answers a HEAD, 0 no, any other number yes; its final
- * response then ends behind its head, whatever length that states. On a request `head` means nothing. `closed`: whether the connection has closed, 0 no, any other number yes; the content of a final
- * response that may have content and has neither length line then ends with the input. While it is open such a response is 1, or 8 at the first octet of its content once there
- * are more than 32,768. Whatever else a closed connection has cut stays 1. `former`: a request with empty content and no
- * trailers is written in HTTP/1.1 with `content-length: 0`, unless its method is GET or HEAD; told `former`, 0 no, any other number yes, it goes without. */
+/* What a call is told. `scheme`: 0 http, 1 https; another number is 4 at 0, first. `head`: whether the message answers a HEAD, 0 no, any other number yes;
+ * its final response then ends behind its head, whatever length that states. On a request `head` means nothing. `closed`: whether the connection has
+ * closed, 0 no, any other number yes; the content of a final response that may have content and has neither length line then ends with the input. While the
+ * connection is open such a response is 1, or 8 at the first octet of its content once there are more than 32,768. Whatever else a closed connection has cut
+ * stays 1. `former`: a request with empty content and no trailers is written in HTTP/1.1 with `content-length: 0`, unless its method is GET or HEAD; told
+ * `former`, 0 no, any other number yes, it goes without. */
 
 /* The first HTTP/1.1 request of a stream, under the scheme told. */
 uint32_t ospirnar_read_request(const uint8_t *input, size_t input_len, uint32_t scheme, uint32_t *ranges, size_t ranges_len, size_t *place);
