@@ -23,7 +23,7 @@ static void read_messages(const struct message *message, struct found *found)
 {
     size_t at = 0, count = 0, place;
     for (; at < message->len; at += HEAD + post.len, count++)
-        if (ospirnar_read_binary(message->octets + at + HEAD, post.len, 0, ranges, OSPIRNAR_RANGES_MOST, &place) != 0)
+        if (ospirnar_read_binary(message->octets + at + HEAD, post.len, 0, 0, ranges, OSPIRNAR_RANGES_MOST, &place) != 0)
             break;
     memcpy(copy, message->octets, message->len);
     __asm__ volatile("" : : "r"(copy) : "memory");

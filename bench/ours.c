@@ -29,7 +29,7 @@ void ours_read_response(const struct message *message, struct found *found)
 void ours_read_binary(const struct message *message, struct found *found)
 {
     size_t place;
-    uint32_t number = ospirnar_read_binary(message->octets, message->len, 0, ranges, OSPIRNAR_RANGES_MOST, &place);
+    uint32_t number = ospirnar_read_binary(message->octets, message->len, 0, 0, ranges, OSPIRNAR_RANGES_MOST, &place);
     tell_read(number, place, found);
 }
 
@@ -50,13 +50,13 @@ void ours_response_to_binary(const struct message *message, struct found *found)
 void ours_binary_to_binary(const struct message *message, struct found *found)
 {
     size_t place;
-    uint32_t number = ospirnar_binary_to_binary(message->octets, message->len, 0, output, OUTPUT_ROOM, &place);
+    uint32_t number = ospirnar_binary_to_binary(message->octets, message->len, 0, 0, output, OUTPUT_ROOM, &place);
     found->written = number == 0 ? place : 0;
 }
 
 void ours_binary_to_http1(const struct message *message, struct found *found)
 {
     size_t place;
-    uint32_t number = ospirnar_binary_to_http1(message->octets, message->len, 0, 0, 0, output, OUTPUT_ROOM, &place);
+    uint32_t number = ospirnar_binary_to_http1(message->octets, message->len, 0, 0, 0, 0, output, OUTPUT_ROOM, &place);
     found->written = number == 0 ? place : 0;
 }

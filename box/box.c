@@ -57,7 +57,7 @@ int main(void)
         uint32_t number = ospirnar_request_to_binary(input + at, len - at, 0, binary, sizeof binary, &binary_len, &taken);
         if (number != 0) /* 1 is no refusal: a box that reads from a connection would wait for more octets and call again */
             return stop(number == 1 ? "more octets are needed" : "refused", number, binary_len, at);
-        number = ospirnar_binary_to_http1(binary, binary_len, 0, 0, 0, written + out, sizeof written - out, &http1_len);
+        number = ospirnar_binary_to_http1(binary, binary_len, 0, 0, 0, 0, written + out, sizeof written - out, &http1_len);
         if (number != 0)
             return stop("not turned back", number, http1_len, 0);
         printf("%zu: %zu octets, as Binary %zu, turned back %zu\n", ++count, taken, binary_len, http1_len);

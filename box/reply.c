@@ -52,7 +52,7 @@ int main(void)
         uint32_t number = ospirnar_response_to_binary(input + at, len - at, head, 1, binary, sizeof binary, &binary_len, &taken);
         if (number != 0)
             return stop(number == 1 ? "more octets are needed" : "refused", number, at + binary_len);
-        if (ospirnar_read_binary(binary, binary_len, head, ranges, OSPIRNAR_RANGES_MOST, &place) != 0)
+        if (ospirnar_read_binary(binary, binary_len, head, 0, ranges, OSPIRNAR_RANGES_MOST, &place) != 0)
             return 2;
         printf("%zu: %u", ++count, (unsigned)ranges[8]);
         if (ranges[15] != 0)
@@ -60,7 +60,7 @@ int main(void)
         else
             printf(", %u octets of content", (unsigned)ranges[12]);
         /* back, told the same, and once more over the hop, where the connection is open: the same octets, since what is written says where it ends */
-        if (ospirnar_binary_to_http1(binary, binary_len, 0, head, 0, written, sizeof written, &back_len) != 0
+        if (ospirnar_binary_to_http1(binary, binary_len, 0, head, 0, 0, written, sizeof written, &back_len) != 0
             || ospirnar_response_to_binary(written, back_len, head, 0, anew, sizeof anew, &anew_len, &place) != 0
             || place != back_len || anew_len != binary_len || memcmp(anew, binary, binary_len) != 0)
             return 2;

@@ -26,16 +26,20 @@ mod entries {
         pub fn ospirnar_read_response(
             input: *const u8, input_len: usize, head: u32, closed: u32, ranges: *mut u32, ranges_len: usize, place: *mut usize,
         ) -> u32;
-        pub fn ospirnar_read_binary(input: *const u8, input_len: usize, head: u32, ranges: *mut u32, ranges_len: usize, place: *mut usize) -> u32;
+        pub fn ospirnar_read_binary(
+            input: *const u8, input_len: usize, head: u32, edition: u32, ranges: *mut u32, ranges_len: usize, place: *mut usize,
+        ) -> u32;
         pub fn ospirnar_request_to_binary(
             input: *const u8, input_len: usize, scheme: u32, out: *mut u8, out_len: usize, place: *mut usize, taken: *mut usize,
         ) -> u32;
         pub fn ospirnar_response_to_binary(
             input: *const u8, input_len: usize, head: u32, closed: u32, out: *mut u8, out_len: usize, place: *mut usize, taken: *mut usize,
         ) -> u32;
-        pub fn ospirnar_binary_to_binary(input: *const u8, input_len: usize, head: u32, out: *mut u8, out_len: usize, place: *mut usize) -> u32;
+        pub fn ospirnar_binary_to_binary(
+            input: *const u8, input_len: usize, head: u32, edition: u32, out: *mut u8, out_len: usize, place: *mut usize,
+        ) -> u32;
         pub fn ospirnar_binary_to_http1(
-            input: *const u8, input_len: usize, scheme: u32, head: u32, former: u32, out: *mut u8, out_len: usize, place: *mut usize,
+            input: *const u8, input_len: usize, scheme: u32, head: u32, former: u32, edition: u32, out: *mut u8, out_len: usize, place: *mut usize,
         ) -> u32;
         pub fn ospirnar_request_field(
             input: *const u8, input_len: usize, scheme: u32, name: *const u8, name_len: usize, number: *mut u32, place: *mut usize, start: *mut usize, length: *mut usize,
@@ -44,7 +48,8 @@ mod entries {
             input: *const u8, input_len: usize, head: u32, closed: u32, name: *const u8, name_len: usize, number: *mut u32, place: *mut usize, start: *mut usize, length: *mut usize,
         ) -> u32;
         pub fn ospirnar_binary_field(
-            input: *const u8, input_len: usize, head: u32, name: *const u8, name_len: usize, number: *mut u32, place: *mut usize, start: *mut usize, length: *mut usize,
+            input: *const u8, input_len: usize, head: u32, edition: u32, name: *const u8, name_len: usize, number: *mut u32, place: *mut usize, start: *mut usize,
+            length: *mut usize,
         ) -> u32;
         pub fn ospirnar_listing(input: *const u8, input_len: usize, output: *mut u8, output_len: usize, place: *mut usize) -> u32;
     }
@@ -100,7 +105,7 @@ fn read_response(input: &[u8], told: Told, ranges: &mut Lent<u32>) -> Answer {
 
 fn read_binary(input: &[u8], told: Told, ranges: &mut Lent<u32>) -> Answer {
     let (pointer, room) = ranges.lend();
-    ask(|place| unsafe { entries::ospirnar_read_binary(input.as_ptr(), input.len(), told.head, pointer, room, place) })
+    ask(|place| unsafe { entries::ospirnar_read_binary(input.as_ptr(), input.len(), told.head, told.edition, pointer, room, place) })
 }
 
 /// The answer of a turning off a stream, which says how many octets it took: those of the message that the reader takes off there, or none
@@ -128,12 +133,12 @@ fn response_to_binary(input: &[u8], told: Told, out: &mut Lent<u8>) -> Answer {
 
 fn binary_to_binary(input: &[u8], told: Told, out: &mut Lent<u8>) -> Answer {
     let (pointer, room) = out.lend();
-    ask(|place| unsafe { entries::ospirnar_binary_to_binary(input.as_ptr(), input.len(), told.head, pointer, room, place) })
+    ask(|place| unsafe { entries::ospirnar_binary_to_binary(input.as_ptr(), input.len(), told.head, told.edition, pointer, room, place) })
 }
 
 fn binary_to_http1(input: &[u8], scheme: u32, told: Told, out: &mut Lent<u8>) -> Answer {
     let (pointer, room) = out.lend();
-    ask(|place| unsafe { entries::ospirnar_binary_to_http1(input.as_ptr(), input.len(), scheme, told.head, told.former, pointer, room, place) })
+    ask(|place| unsafe { entries::ospirnar_binary_to_http1(input.as_ptr(), input.len(), scheme, told.head, told.former, told.edition, pointer, room, place) })
 }
 
 fn request_field(input: &[u8], scheme: u32, name: &[u8]) -> Result<Asked, &'static str> {
@@ -147,7 +152,7 @@ fn response_field(input: &[u8], told: Told, name: &[u8]) -> Result<Asked, &'stat
 }
 
 fn binary_field(input: &[u8], told: Told, name: &[u8]) -> Result<Asked, &'static str> {
-    inquire(|n, p, s, l| unsafe { entries::ospirnar_binary_field(input.as_ptr(), input.len(), told.head, name.as_ptr(), name.len(), n, p, s, l) })
+    inquire(|n, p, s, l| unsafe { entries::ospirnar_binary_field(input.as_ptr(), input.len(), told.head, told.edition, name.as_ptr(), name.len(), n, p, s, l) })
 }
 
 fn listing(input: &[u8], output: &mut Lent<u8>) -> Answer {
@@ -596,6 +601,8 @@ fn trip(line: &[u8]) -> Option<Result<(), &'static str>> {
         Ok(Err(_)) => return None,
         Err(error) => return Some(Err(error)),
     };
+    // RFC 9292 is written, whatever edition was read
+    let again = Told { edition: 0, ..told };
     Some((|| {
         let before = read(&input, source)?;
         let before = meaning_of(&before).ok_or("the input is not accepted")?;
@@ -608,7 +615,7 @@ fn trip(line: &[u8]) -> Option<Result<(), &'static str>> {
             let back = match (name, request) {
                 (b"bin2h1", true) => read(octets, |ranges| read_request(octets, connection, ranges))?,
                 (b"bin2h1", false) => read(octets, |ranges| read_response(octets, told, ranges))?,
-                _ => read(octets, |ranges| read_binary(octets, told, ranges))?,
+                _ => read(octets, |ranges| read_binary(octets, again, ranges))?,
             };
             if !back.starts_with(&format!("{{\"len\":{},", written.len())) {
                 return Err("the length is another");
@@ -618,7 +625,7 @@ fn trip(line: &[u8]) -> Option<Result<(), &'static str>> {
             }
         }
         // written anew, Binary stays as it is
-        if name != b"bin2h1" && write(written.len(), |out| binary_to_binary(&written, told, out))? != Ok(written.clone()) {
+        if name != b"bin2h1" && write(written.len(), |out| binary_to_binary(&written, again, out))? != Ok(written.clone()) {
             return Err("written anew it is another");
         }
         Ok(())
@@ -680,6 +687,7 @@ struct Told {
     head: u32,
     closed: u32,
     former: u32,
+    edition: u32,
 }
 
 /// A command, its options as told, and its other words: options stand directly behind the command, and only where it takes them.
@@ -694,6 +702,7 @@ fn options<'a, 'b>(words: &'b [&'a [u8]]) -> Option<(&'a [u8], Told, &'b [&'a [u
         match (&option[..at], name) {
             (b"head", b"h1resp" | b"bin" | b"h1resp2bin" | b"bin2h1" | b"bin2bin" | b"field_h1resp" | b"field_bin") => told.head = value,
             (b"former", b"bin2h1") => told.former = value,
+            (b"edition", b"bin" | b"bin2h1" | b"bin2bin" | b"field_bin") => told.edition = value,
             (b"closed", b"h1resp" | b"h1resp2bin" | b"field_h1resp") => told.closed = value,
             _ => return None,
         }

@@ -52,7 +52,9 @@ extern "C" {
  * closed, 0 no, any other number yes; the content of a final response that may have content and has neither length line then ends with the input. While the
  * connection is open such a response is 1, or 8 at the first octet of its content once there are more than 32,768. Whatever else a closed connection has cut
  * stays 1. `former`: a request with empty content and no trailers is written in HTTP/1.1 with `content-length: 0`, unless its method is GET or HEAD; told
- * `former`, 0 no, any other number yes, it goes without. */
+ * `former`, 0 no, any other number yes, it goes without. `edition`, told to each call that reads a Binary message, last of what it is told: 0 RFC 9292, 1 the draft
+ * of 2021 (draft-thomson-http-binary-message-00), in which a value can't be empty, nothing may follow the trailers and a message may also end before its final
+ * header section; another number is 17 at 0, before all else. RFC 9292 is what is written, and what bundles hold. */
 
 /* The first HTTP/1.1 request of a stream, under the scheme told. */
 uint32_t ospirnar_read_request(const uint8_t *input, size_t input_len, uint32_t scheme, uint32_t *ranges, size_t ranges_len, size_t *place);
@@ -60,8 +62,8 @@ uint32_t ospirnar_read_request(const uint8_t *input, size_t input_len, uint32_t 
 /* The first HTTP/1.1 response of a stream. */
 uint32_t ospirnar_read_response(const uint8_t *input, size_t input_len, uint32_t head, uint32_t closed, uint32_t *ranges, size_t ranges_len, size_t *place);
 
-/* One Binary HTTP message: the whole input, zero padding included, so that an accepted message is as long as the input and there is no call for more. */
-uint32_t ospirnar_read_binary(const uint8_t *input, size_t input_len, uint32_t head, uint32_t *ranges, size_t ranges_len, size_t *place);
+/* One Binary HTTP message of the edition told: the whole input, zero padding included, so that an accepted message is as long as the input and there is no call for more. */
+uint32_t ospirnar_read_binary(const uint8_t *input, size_t input_len, uint32_t head, uint32_t edition, uint32_t *ranges, size_t ranges_len, size_t *place);
 
 /* Turning. The message is read by the reader of its form and written in the other, or anew, into `output`: 0 and *place the number of octets written, all behind
  * them as it was. Otherwise no octet of `output` is altered: the reader's refusal (1 with the input's length where more octets are needed), then, into HTTP/1.1, 14 at
@@ -77,12 +79,12 @@ uint32_t ospirnar_response_to_binary(const uint8_t *input, size_t input_len, uin
                                      size_t *place, size_t *taken);
 
 /* A Binary message anew: known length, shortest integers, all sections, no padding. */
-uint32_t ospirnar_binary_to_binary(const uint8_t *input, size_t input_len, uint32_t head, uint8_t *output, size_t output_len, size_t *place);
+uint32_t ospirnar_binary_to_binary(const uint8_t *input, size_t input_len, uint32_t head, uint32_t edition, uint8_t *output, size_t output_len, size_t *place);
 
 /* A Binary message, request or response, as HTTP/1.1 on a connection of the scheme told. Calls that each write behind
  * what the calls before them wrote make a stream, from which ospirnar_read_request under the same scheme takes the same requests in the same order. */
-uint32_t ospirnar_binary_to_http1(const uint8_t *input, size_t input_len, uint32_t scheme, uint32_t head, uint32_t former, uint8_t *output, size_t output_len,
-                                  size_t *place);
+uint32_t ospirnar_binary_to_http1(const uint8_t *input, size_t input_len, uint32_t scheme, uint32_t head, uint32_t former, uint32_t edition, uint8_t *output,
+                                  size_t output_len, size_t *place);
 
 /* The listing of an HTTP/1.1 request stream under http, as the listing program prints it, into `output`; *place is its length. All behind it stays as
  * it was. 13 at 0 where it does not fit; nothing else is refused. */
@@ -105,8 +107,8 @@ uint32_t ospirnar_response_field(const uint8_t *input, size_t input_len, uint32_
                                  uint32_t *number, size_t *place, size_t *start, size_t *length);
 
 /* To a Binary HTTP message: the whole input. */
-uint32_t ospirnar_binary_field(const uint8_t *input, size_t input_len, uint32_t head, const uint8_t *name, size_t name_len, uint32_t *number, size_t *place,
-                               size_t *start, size_t *length);
+uint32_t ospirnar_binary_field(const uint8_t *input, size_t input_len, uint32_t head, uint32_t edition, const uint8_t *name, size_t name_len, uint32_t *number,
+                               size_t *place, size_t *start, size_t *length);
 
 /* Bundles (document 02, items 1 and 12): entries one behind the other, at most 256, each a head of four octets and a Binary message as ospirnar_binary_to_binary writes it. The
  * head is a number of 32 bits, most significant octet first: 7 bits flock (1 to 127), 1 bit delivered, 2 bits kind (0 request, 1 response), 22 bits length of the

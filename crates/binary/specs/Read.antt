@@ -1,13 +1,14 @@
--- The reader of Binary HTTP in 01's order of judgement (01, "Binary HTTP as we take it", "Sizes", "Numbers a call answers with"; RFC 9292, section 3).
+-- The reader of Binary HTTP in 01's order of judgement (01, "Binary HTTP as we take it", "Sizes", "Numbers a call answers with"; RFC 9292, section 3), over what
+-- an edition allows (02, item 7; draft-thomson-http-binary-message-00, section 3).
 use Prim.Native.Nat.{ℕ, zero, suc, _+_}
-use mathlib.Core.Bool.{Bool, true, false, cond}
+use mathlib.Core.Bool.{Bool, true, false, not, cond}
 use mathlib.Core.List.{List, [], _∷_, _++_}
 use lib.Dec.{ltb, leb, eqb}
 use lib.ListN.{length}
 use Rattle.octets.specs.Ascii.{ascii}
-use Rattle.octets.specs.Text.{sameText}
+use Rattle.octets.specs.Text.{sameText, isEmpty}
 use Rattle.octets.specs.Limits.{methodMost, authorityMost, pathMost, linesMost, chunksMost, contentMost, binaryMost, informationalMost}
-use Rattle.octets.specs.Refusals.{badSyntax, notSupported, badLength, tooLarge, cutOff, badIndicator, badSection, badPadding}
+use Rattle.octets.specs.Refusals.{badSyntax, notSupported, badLength, tooLarge, cutOff, badIndicator, badSection, badPadding, badEdition}
 use Rattle.script.specs.Script.{Answer, accepted, refused}
 use Rattle.script.specs.Do.{Piece, Judged, good, wrong}
 use Rattle.messages.specs.Message.{FieldRead, Section, InformationalRead, Start, requestStart, responseStart, Message, statingMessage, nonEmpty}
@@ -19,8 +20,24 @@ use Rattle.messages.specs.declared.Framing.the-variants.{Unstated}
 use Rattle.messages.specs.declared.StatedLength.{StatedLength}
 use Rattle.messages.specs.declared.StatedLength.the-variants.{Missing}
 use Rattle.messages.specs.declared.Told.{Told}
+use Rattle.messages.specs.Told.{isEdition}
 use Rattle.messages.specs.Meaning.{contentOf}
+use Rattle.binary.specs.declared.Form.{Form}
 use Rattle.binary.specs.Reader.{Got, got, no, Reader, _>>=_, give, refuse, here, ended, tell, rule, integer, string}
+
+-- ---- what an edition allows
+
+-- by RFC 9292 a value may be empty and zero octets may follow the message
+abbrev pub rfc9292 : Bool → Form
+rfc9292 known = record { known = known; empty = true; padded = true; headless = false }
+
+-- in the draft they may not, but a message may also end before its final header section
+abbrev pub draft : Bool → Form
+draft known = record { known = known; empty = false; padded = false; headless = true }
+
+-- by the number of the edition told, of messages of known or of indeterminate length
+unfoldable pub formOf : ℕ → Bool → Form
+formOf edition known = cond (eqb edition 0) (rfc9292 known) (draft known)
 
 -- ---- parts: a length and what it counts
 
@@ -81,39 +98,43 @@ requestControl = do
 
 -- ---- field lines
 
+-- a value as the edition allows it: empty or not
+unfoldable pub isLineValue : Form → List ℕ → Bool
+isLineValue form v = cond (isTrimmedValue v) (cond (form .empty) true (not (isEmpty v))) false
+
 -- a line's octets are judged when both halves are in, at the line's first octet
-unfoldable pub judgedLine : ℕ → Piece → Piece → Judged FieldRead
-judgedLine p n v =
-    cond (isLowerName (n .text)) (cond (isTrimmedValue (v .text)) (good (record { name = n; value = v; place = p })) (wrong badSyntax p)) (wrong badSyntax p)
+unfoldable pub judgedLine : Form → ℕ → Piece → Piece → Judged FieldRead
+judgedLine form p n v =
+    cond (isLowerName (n .text)) (cond (isLineValue form (v .text)) (good (record { name = n; value = v; place = p })) (wrong badSyntax p)) (wrong badSyntax p)
 
 -- the number of a line that is cut off: in a known-length section it crosses the section
-abbrev pub cutNumber : Bool → ℕ
-cutNumber known = cond known badSection cutOff
+abbrev pub cutNumber : Form → ℕ
+cutNumber form = cond (form .known) badSection cutOff
 
 -- the place of a value that is cut off: in an indeterminate section the value is a part of its own, at q; in a known-length one the line's place p stays
-abbrev pub cutPlace : Bool → ℕ → ℕ → ℕ
-cutPlace known p q = cond known p q
+abbrev pub cutPlace : Form → ℕ → ℕ → ℕ
+cutPlace form p q = cond (form .known) p q
 
 -- behind the name length a of the line at the place p, in either kind of section: name, value length, value
-unfoldable pub afterNameLength : Bool → ℕ → ℕ → Reader FieldRead
-afterNameLength known p a = do
-  n ← string a (cutNumber known) p
+unfoldable pub afterNameLength : Form → ℕ → ℕ → Reader FieldRead
+afterNameLength form p a = do
+  n ← string a (cutNumber form) p
   q ← here
-  b ← integer (cutNumber known) (cutPlace known p q)
-  v ← string b (cutNumber known) (cutPlace known p q)
-  tell (judgedLine p n v)
+  b ← integer (cutNumber form) (cutPlace form p q)
+  v ← string b (cutNumber form) (cutPlace form p q)
+  tell (judgedLine form p n v)
 
 -- a line of a known-length section: it has a name
-unfoldable pub knownLine : Reader FieldRead
-knownLine = do
+unfoldable pub knownLine : Form → Reader FieldRead
+knownLine form = do
   p ← here
   a ← integer badSection p
-  cond (eqb a 0) (refuse badSection p) (afterNameLength true p a)
+  cond (eqb a 0) (refuse badSection p) (afterNameLength form p a)
 
 -- the lines that fill the body of a known-length section exactly; a 65th is refused before it is read. The first number is above how many may come
-unfoldable pub knownLines : ℕ → List FieldRead → Reader (List FieldRead)
-knownLines zero fs = refuse tooLarge 0
-knownLines (suc f) fs = do
+unfoldable pub knownLines : Form → ℕ → List FieldRead → Reader (List FieldRead)
+knownLines form zero fs = refuse tooLarge 0
+knownLines form (suc f) fs = do
   e ← ended
   p ← here
   cond e
@@ -121,8 +142,8 @@ knownLines (suc f) fs = do
       (cond (leb linesMost (length fs))
       (refuse tooLarge p)
       (do
-        h ← knownLine
-        knownLines f (fs ++ h ∷ [])))
+        h ← knownLine form
+        knownLines form f (fs ++ h ∷ [])))
 
 -- the body is read by itself; behind it the reading goes on
 abbrev pub onBody : Got (List FieldRead) → Reader (List FieldRead)
@@ -130,19 +151,19 @@ onBody (got fs e r) at s = got fs at s
 onBody (no n p) at s = no n p
 
 -- the lines that fill the body b of a known-length section
-unfoldable pub bodyLines : Piece → Reader (List FieldRead)
-bodyLines b = onBody (knownLines (suc linesMost) [] (b .place) (b .text))
+unfoldable pub bodyLines : Form → Piece → Reader (List FieldRead)
+bodyLines form b = onBody (knownLines form (suc linesMost) [] (b .place) (b .text))
 
 -- a known-length section: its length, and the lines that fill its body
-unfoldable pub knownSection : Reader (List FieldRead)
-knownSection = do
+unfoldable pub knownSection : Form → Reader (List FieldRead)
+knownSection form = do
   b ← part
-  bodyLines b
+  bodyLines form b
 
 -- the lines up to a name length of zero; a 65th is refused when its name length is in. The first number is above how many may come
-unfoldable pub openLines : ℕ → List FieldRead → Reader (List FieldRead)
-openLines zero fs = refuse tooLarge 0
-openLines (suc f) fs = do
+unfoldable pub openLines : Form → ℕ → List FieldRead → Reader (List FieldRead)
+openLines form zero fs = refuse tooLarge 0
+openLines form (suc f) fs = do
   p ← here
   a ← integer cutOff p
   cond (eqb a 0)
@@ -150,19 +171,30 @@ openLines (suc f) fs = do
       (cond (leb linesMost (length fs))
       (refuse tooLarge p)
       (do
-        h ← afterNameLength false p a
-        openLines f (fs ++ h ∷ [])))
+        h ← afterNameLength form p a
+        openLines form f (fs ++ h ∷ [])))
 
 -- an indeterminate section
-abbrev pub openSection : Reader (List FieldRead)
-openSection = openLines (suc linesMost) []
+abbrev pub openSection : Form → Reader (List FieldRead)
+openSection form = openLines form (suc linesMost) []
 
 -- a section and the place behind it
-unfoldable pub section : Bool → Reader Section
-section known = do
-  fs ← cond known knownSection openSection
+unfoldable pub section : Form → Reader Section
+section form = do
+  fs ← cond (form .known) (knownSection form) (openSection form)
   e ← here
   give (record { lines = fs; end = e })
+
+-- no lines, at the place p
+abbrev pub noSection : ℕ → Section
+noSection p = record { lines = []; end = p }
+
+-- a request's header section, or that of a final head: where the edition allows that the message ends before it, it has no lines then
+unfoldable pub headerSection : Form → Reader Section
+headerSection form = do
+  e ← ended
+  p ← here
+  cond (cond e (form .headless) false) (give (noSection p)) (section form)
 
 -- ---- content
 
@@ -219,72 +251,72 @@ trailerRule body h =
     cond (trailersAgree (areTrailers (h .lines)) body (length (keptTrailers (h .lines)))) (good (h .lines)) (wrong badLength (h .end))
 
 -- the message may end before its trailers: then there are none
-unfoldable pub trailers : Bool → Bool → Reader (List FieldRead)
-trailers known body = do
+unfoldable pub trailers : Form → Bool → Reader (List FieldRead)
+trailers form body = do
   e ← ended
   cond e
       (give [])
       (do
-        h ← section known
+        h ← section form
         tell (trailerRule body h))
 
--- zero octets may follow, to the end; any other is refused at its place
-unfoldable pub padding : ℕ → List ℕ → Got ℕ
-padding at [] = got at at []
-padding at (b ∷ s) = cond (eqb b 0) (padding (at + 1) s) (no badPadding at)
+-- zero octets may follow, to the end, where the edition allows padding; any other octet is refused at its place
+unfoldable pub padding : Form → ℕ → List ℕ → Got ℕ
+padding form at [] = got at at []
+padding form at (b ∷ s) = cond (cond (form .padded) (eqb b 0) false) (padding form (at + 1) s) (no badPadding at)
 
 -- ---- whole messages
 
 -- behind the content: trailers and padding
-unfoldable pub afterContent : Bool → Bool → StatedLength → Start → List FieldRead → List Piece → Reader Message
-afterContent known body stated start lines c = do
-  ts ← trailers known body
-  z ← padding
+unfoldable pub afterContent : Form → Bool → StatedLength → Start → List FieldRead → List Piece → Reader Message
+afterContent form body stated start lines c = do
+  ts ← trailers form body
+  z ← padding form
   give (statingMessage stated start lines c ts)
 
 -- behind a header section that was judged: content, trailers, padding. `body` says whether the message may have content, `stated` the length it states if not
-unfoldable pub afterHeaders : Bool → Bool → StatedLength → Start → Section → Framing → Reader Message
-afterHeaders known body stated start h f = do
-  cs ← content known
+unfoldable pub afterHeaders : Form → Bool → StatedLength → Start → Section → Framing → Reader Message
+afterHeaders form body stated start h f = do
+  cs ← content (form .known)
   e ← here
   c ← tell (contentRule body f e cs)
-  afterContent known body stated start (h .lines) c
+  afterContent form body stated start (h .lines) c
 
 -- behind the header section of a request: host, then the length, are judged
-unfoldable pub afterHead : Bool → RequestControl → Section → Reader Message
-afterHead known q h = do
+unfoldable pub afterHead : Form → RequestControl → Section → Reader Message
+afterHead form q h = do
   a ← tell (authorityIn (h .end) (q .authority) (h .lines))
   f ← tell (mayState (h .end) (binaryFramingOf (h .lines)))
-  afterHeaders known true Missing (requestStart (q .method) (q .scheme) a (q .path)) h f
+  afterHeaders form true Missing (requestStart (q .method) (q .scheme) a (q .path)) h f
 
 -- behind the control data of a request
-unfoldable pub afterControl : Bool → RequestControl → Reader Message
-afterControl known q = do
-  h ← section known
-  afterHead known q h
+unfoldable pub afterControl : Form → RequestControl → Reader Message
+afterControl form q = do
+  h ← headerSection form
+  afterHead form q h
 
 -- a request
-unfoldable pub requestMessage : Bool → Reader Message
-requestMessage known = do
+unfoldable pub requestMessage : Form → Reader Message
+requestMessage form = do
   q ← requestControl
-  afterControl known q
+  afterControl form q
 
 -- behind the section of a final head of status n: the length that it states is judged
-unfoldable pub afterFinal : Told → Bool → List InformationalRead → ℕ → Section → Reader Message
-afterFinal t known is n h =
+unfoldable pub afterFinal : Told → Form → List InformationalRead → ℕ → Section → Reader Message
+afterFinal t form is n h =
     cond (endsAtHead t n)
     (do
       b ← tell (bodylessRule t n (h .end) (binaryFramingOf (h .lines)))
-      afterHeaders known false (statedIn t n (binaryFramingOf (h .lines))) (responseStart is n) h Unstated)
+      afterHeaders form false (statedIn t n (binaryFramingOf (h .lines))) (responseStart is n) h Unstated)
     (do
       f ← tell (mayState (h .end) (binaryFramingOf (h .lines)))
-      afterHeaders known true Missing (responseStart is n) h f)
+      afterHeaders form true Missing (responseStart is n) h f)
 
 -- behind a final status n
-unfoldable pub afterFinalStatus : Told → Bool → List InformationalRead → ℕ → Reader Message
-afterFinalStatus t known is n = do
-  h ← section known
-  afterFinal t known is n h
+unfoldable pub afterFinalStatus : Told → Form → List InformationalRead → ℕ → Reader Message
+afterFinalStatus t form is n = do
+  h ← headerSection form
+  afterFinal t form is n h
 
 -- an informational head of status n with the lines of the section h
 abbrev pub informationalRead : ℕ → Section → InformationalRead
@@ -296,33 +328,37 @@ afterInformational others is n h = do
   u ← tell (nothingStated (h .end) (binaryFramingOf (h .lines)))
   others (is ++ informationalRead n h ∷ [])
 
--- behind an informational status n
-unfoldable pub afterInformationalStatus : Bool → (List InformationalRead → Reader Message) → List InformationalRead → ℕ → Reader Message
-afterInformationalStatus known others is n = do
-  h ← section known
+-- behind an informational status n: its section stands there in either edition
+unfoldable pub afterInformationalStatus : Form → (List InformationalRead → Reader Message) → List InformationalRead → ℕ → Reader Message
+afterInformationalStatus form others is n = do
+  h ← section form
   afterInformational others is n h
 
 -- one head after another, behind the informational heads `is`: a fifth is refused at its status. The number is above how many may come
-unfoldable pub heads : Told → Bool → ℕ → List InformationalRead → Reader Message
-heads t known zero is = refuse tooLarge 0
-heads t known (suc f) is = do
+unfoldable pub heads : Told → Form → ℕ → List InformationalRead → Reader Message
+heads t form zero is = refuse tooLarge 0
+heads t form (suc f) is = do
   p ← here
   v ← integer cutOff p
   n ← tell (rule (statusVerdict v) p v)
   cond (isInformational n)
-      (cond (leb informationalMost (length is)) (refuse tooLarge p) (afterInformationalStatus known (heads t known f) is n))
-      (afterFinalStatus t known is n)
+      (cond (leb informationalMost (length is)) (refuse tooLarge p) (afterInformationalStatus form (heads t form f) is n))
+      (afterFinalStatus t form is n)
 
 -- a response
-abbrev pub responseMessage : Told → Bool → Reader Message
-responseMessage t known = heads t known (suc informationalMost) []
+abbrev pub responseMessage : Told → Form → Reader Message
+responseMessage t form = heads t form (suc informationalMost) []
 
 -- behind the framing indicator: 0 request, 1 response, of known length; 2 and 3 the same of indeterminate length
 unfoldable pub afterIndicator : Told → ℕ → Reader Message
 afterIndicator t f =
     cond (eqb f 0)
-    (requestMessage true)
-    (cond (eqb f 1) (responseMessage t true) (cond (eqb f 2) (requestMessage false) (cond (eqb f 3) (responseMessage t false) (refuse badIndicator 0))))
+    (requestMessage (formOf (t .edition) true))
+    (cond (eqb f 1)
+    (responseMessage t (formOf (t .edition) true))
+    (cond (eqb f 2)
+    (requestMessage (formOf (t .edition) false))
+    (cond (eqb f 3) (responseMessage t (formOf (t .edition) false)) (refuse badIndicator 0))))
 
 -- the framing indicator, and what it names
 unfoldable pub message : Told → Reader Message
@@ -335,6 +371,10 @@ abbrev pub messageAnswer : Got Message → Answer Message
 messageAnswer (got m n r) = accepted n m
 messageAnswer (no k p) = refused k p
 
--- a whole Binary message; input above the size is 8 at 0, first
+-- the input in an edition; above the size it is 8 at 0, first
+unfoldable pub readSized : Told → List ℕ → Answer Message
+readSized t s = cond (leb (length s) binaryMost) (messageAnswer (message t 0 s)) (refused tooLarge 0)
+
+-- a whole Binary message in the edition told; another number is 17 at 0, before all else
 unfoldable pub readBinary : Told → List ℕ → Answer Message
-readBinary t s = cond (leb (length s) binaryMost) (messageAnswer (message t 0 s)) (refused tooLarge 0)
+readBinary t s = cond (isEdition (t .edition)) (readSized t s) (refused badEdition 0)

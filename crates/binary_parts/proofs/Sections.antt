@@ -2,20 +2,29 @@
 use Prim.Native.Nat.{ℕ, suc, _+_, _-_, _<_, _≤_}
 use mathlib.Core.Path.{_≡_, refl, sym, ap, _∙_, subst}
 use mathlib.Core.List.{List, []}
-use mathlib.Core.Bool.{Bool, true, false}
+use mathlib.Core.Bool.{Bool, true, false, cond}
 use native.Mathlib.Omega.{arith}
+use borrow.Author.Tests.{eq-eqb, ne-eqb}
 use lib.ListN.{length, take, drop, length-drop}
 use lib.Seq.{length-take-le}
 use Rattle.octets.specs.Limits.{linesMost}
 use Rattle.octets.specs.Refusals.{cutOff}
+use Rattle.octets.specs.Text.{isEmpty}
 use Rattle.numbers.specs.Integer.{readInt}
 use Rattle.numbers.specs.declared.Integer.the-variants.{Value, Cut}
 use Rattle.numbers.proofs.IntegerLaws.{int-within}
 use Rattle.messages.specs.Message.{FieldRead, Section}
-use Rattle.binary.specs.Reader.{Got, got, no, onGot, _>>=_}
-use Rattle.binary.specs.Read.{part, knownLines, onBody, bodyLines, knownSection, openLines, section}
+use Rattle.messages.specs.Names.{kept}
+use Rattle.messages.specs.Notes.{noNotes}
+use Rattle.messages.specs.Answers.{fieldsNumbers}
+use Rattle.messages.specs.declared.Notes.{Notes}
+use Rattle.messages.proofs.Noting.{notes-none}
+use Rattle.binary.specs.Reader.{Got, got, no, onGot, _>>=_, give}
+use Rattle.binary.specs.declared.Form.{Form}
+use Rattle.binary.specs.Read.{part, knownLines, onBody, bodyLines, knownSection, openLines, openSection, section, noSection, headerSection}
 use Rattle.binary_parts.specs.Section.{BodySays, Bodied, SectionSays, Sectioned}
 use Rattle.binary_parts.specs.declared.Section as answer
+use Rattle.binary_parts.specs.declared.Section.the-variants as done
 use Rattle.binary_parts.proofs.Places.{integer-cut, integer-got, octets-cut, octets-got}
 
 -- an answer that equals another promises the same
@@ -25,8 +34,8 @@ bodied-as {end = end} {host = host} {k = k} {o = o} {o′ = o′} {r = r} e h =
     record { says = subst (λ (z : Got (List FieldRead)). BodySays z end host k o o′ r) (sym e) h }
 
 -- the body from its first line on
-pub known-start : (n a : ℕ) (s : List ℕ) → knownLines n [] a s ≡ knownLines n [] (a + 0) (drop 0 s)
-known-start n a s = let z : a + 0 ≡ a = omega arith in rw z
+pub known-start : (form : Form) (n a : ℕ) (s : List ℕ) → knownLines form n [] a s ≡ knownLines form n [] (a + 0) (drop 0 s)
+known-start form n a s = let z : a + 0 ≡ a = omega arith in rw z
 
 -- ---- sections
 
@@ -39,26 +48,26 @@ on-closed : (x : Got (List FieldRead)) → onGot x (λ fs e l. closed (got fs e 
 on-closed (got fs e l) = refl
 on-closed (no n p) = refl
 
-known-closed : (at : ℕ) (l : List ℕ) → section true at l ≡ closed (knownSection at l)
-unfolding section _>>=_
-known-closed at l = on-closed (knownSection at l)
+-- a section of known length or not
+abbrev from-lines : Form → ℕ → List ℕ → Bool → Got Section
+from-lines form at l known = onGot (cond known (knownSection form) (openSection form) at l) (λ fs e l. closed (got fs e l))
 
-open-closed : (at : ℕ) (l : List ℕ) → section false at l ≡ closed (openLines (suc linesMost) [] at l)
+known-closed : (form : Form) (at : ℕ) (l : List ℕ) → form .known ≡ true → section form at l ≡ closed (knownSection form at l)
 unfolding section _>>=_
-open-closed at l = on-closed (openLines (suc linesMost) [] at l)
+known-closed form at l k = ap (from-lines form at l) k ∙ on-closed (knownSection form at l)
+
+open-closed : (form : Form) (at : ℕ) (l : List ℕ) → form .known ≡ false → section form at l ≡ closed (openLines form (suc linesMost) [] at l)
+unfolding section _>>=_
+open-closed form at l k = ap (from-lines form at l) k ∙ on-closed (openLines form (suc linesMost) [] at l)
 
 module _ {s : List ℕ} {host : Bool} {k : ℕ} {o o′ : List ℕ} {r : answer.Section} where
   pub sectioned-as : {x y : Got Section} → x ≡ y → SectionSays s y host k o o′ r → Sectioned s x host k o o′ r
   sectioned-as e h = record { says = subst (λ (z : Got Section). SectionSays s z host k o o′ r) (sym e) h }
 
   -- the lines of an indeterminate section are the section
-  pub sectioned-open : (at : ℕ) (l : List ℕ) {y : Got (List FieldRead)} → openLines (suc linesMost) [] at l ≡ y → SectionSays s (closed y) host k o o′ r
-      → Sectioned s (section false at l) host k o o′ r
-  sectioned-open at l {y} e h = sectioned-as {y = closed y} (open-closed at l ∙ ap closed e) h
-
-  pub sectioned-if : (at : ℕ) (l : List ℕ) {known b : Bool} → known ≡ b → Sectioned s (section b at l) host k o o′ r
-      → Sectioned s (section known at l) host k o o′ r
-  sectioned-if at l e h = subst (λ (z : Bool). Sectioned s (section z at l) host k o o′ r) (sym e) h
+  pub sectioned-open : (form : Form) (at : ℕ) (l : List ℕ) {y : Got (List FieldRead)} → form .known ≡ false → openLines form (suc linesMost) [] at l ≡ y
+      → SectionSays s (closed y) host k o o′ r → Sectioned s (section form at l) host k o o′ r
+  sectioned-open form at l {y} u e h = sectioned-as {y = closed y} (open-closed form at l u ∙ ap closed e) h
 
   -- the body fills the section, behind which the reading goes on
   sectioned-body : {end : ℕ} (x : Got (List FieldRead)) → end ≤ length s → Bodied x end host k o o′ r
@@ -69,28 +78,62 @@ module _ {s : List ℕ} {host : Bool} {k : ℕ} {o o′ : List ℕ} {r : answer.
       go (got fs e l) q = (q .0, q .1, refl, b, refl)
       go (no n p) q = q
 
-module _ (s : List ℕ) (from : ℕ) where
-  pub section-cut : readInt from (drop from s) ≡ Cut → section true from (drop from s) ≡ no cutOff from
+module _ (form : Form) (known : form .known ≡ true) (s : List ℕ) (from : ℕ) where
+  pub section-cut : readInt from (drop from s) ≡ Cut → section form from (drop from s) ≡ no cutOff from
   unfolding knownSection part _>>=_
-  section-cut e = rw (known-closed from (drop from s), integer-cut s from cutOff from e)
+  section-cut e = rw (known-closed form from (drop from s) known, integer-cut s from cutOff from e)
 
   module _ {n next : ℕ} (e : readInt from (drop from s) ≡ Value n next) where
-    pub section-short : length s - next < n → section true from (drop from s) ≡ no cutOff from
+    pub section-short : length s - next < n → section form from (drop from s) ≡ no cutOff from
     unfolding knownSection part _>>=_
-    section-short h = rw (known-closed from (drop from s), integer-got s from cutOff from e, octets-cut s next n cutOff from h)
+    section-short h = rw (known-closed form from (drop from s) known, integer-got s from cutOff from e, octets-cut s next n cutOff from h)
 
     section-in : n ≤ length s - next
-        → section true from (drop from s) ≡ closed (onBody (knownLines (suc linesMost) [] next (take n (drop next s))) (next + n) (drop (next + n) s))
+        → section form from (drop from s) ≡ closed (onBody (knownLines form (suc linesMost) [] next (take n (drop next s))) (next + n) (drop (next + n) s))
     unfolding knownSection part bodyLines _>>=_
-    section-in h = rw (known-closed from (drop from s), integer-got s from cutOff from e, octets-got s next n cutOff from h)
+    section-in h = rw (known-closed form from (drop from s) known, integer-got s from cutOff from e, octets-got s next n cutOff from h)
 
     -- the body was read by itself
     pub section-body : {host : Bool} {k : ℕ} {o o′ : List ℕ} {r : answer.Section} → n ≤ length s - next
-        → Bodied (knownLines (suc linesMost) [] next (take (next + n - next) (drop next s))) (next + length (take (next + n - next) (drop next s))) host k o o′ r
-        → Sectioned s (section true from (drop from s)) host k o o′ r
+        → Bodied (knownLines form (suc linesMost) [] next (take (next + n - next) (drop next s))) (next + length (take (next + n - next) (drop next s))) host k o o′ r
+        → Sectioned s (section form from (drop from s)) host k o o′ r
     section-body {host} {k} {o} {o′} {r} h b =
         let x : next + n - next ≡ n = omega arith in
         let y : length (take n (drop next s)) ≡ n = length-take-le n (drop next s) (omega (arith, length-drop next s)) in
-        let z : Bodied (knownLines (suc linesMost) [] next (take n (drop next s))) (next + n) host k o o′ r = rw (x, y) at b in
+        let z : Bodied (knownLines form (suc linesMost) [] next (take n (drop next s))) (next + n) host k o o′ r = rw (x, y) at b in
         let w : next + n ≤ length s = omega (arith, int-within s from e) in
-        sectioned-as (section-in h) (sectioned-body (knownLines (suc linesMost) [] next (take n (drop next s))) w z .says)
+        sectioned-as (section-in h) (sectioned-body (knownLines form (suc linesMost) [] next (take n (drop next s))) w z .says)
+
+-- ---- header sections
+
+-- whether the message ends before one that it may go without
+module _ (form : Form) (s : List ℕ) (from : ℕ) where
+  pub headless-ended : length s ≤ from → form .headless ≡ cond (isEmpty (drop from s)) (form .headless) false
+  unfolding isEmpty
+  headless-ended h = let z : length s - from ≡ 0 = omega arith in rw (length-drop from s, eq-eqb (length s - from) 0 z)
+
+  pub headless-left : from < length s → false ≡ cond (isEmpty (drop from s)) (form .headless) false
+  unfolding isEmpty
+  headless-left h = rw (length-drop from s, ne-eqb (length s - from) 0 (λ z. omega (arith, z)))
+
+  header-is : {b : Bool} → b ≡ cond (isEmpty (drop from s)) (form .headless) false
+      → headerSection form from (drop from s) ≡ cond b (got (noSection from) from (drop from s)) (section form from (drop from s))
+  unfolding headerSection _>>=_
+  header-is {b} e = rw (← e) (on b)
+    where
+      on : (b : Bool) → cond b (give (noSection from)) (section form) from (drop from s) ≡ cond b (got (noSection from) from (drop from s)) (section form from (drop from s))
+      on true = refl
+      on false = refl
+
+module _ (form : Form) (s : List ℕ) (from : ℕ) {host : Bool} {k : ℕ} {o o′ : List ℕ} where
+  -- the message may end before it, and does
+  pub header-none : {b : Bool} {n : Notes} → b ≡ cond (isEmpty (drop from s)) (form .headless) false → b ≡ true → from ≤ length s → n ≡ noNotes → o′ ≡ o
+      → Sectioned s (headerSection form from (drop from s)) host k o o′ (done.Done from k n)
+  unfolding kept fieldsNumbers
+  header-none e t w n q =
+      let z : k + 0 ≡ k = omega arith in
+      sectioned-as {y = got (noSection from) from (drop from s)} (header-is form s from e ∙ rw t refl) (rw (z, n, notes-none false) refl, q, refl, w, refl)
+
+  pub header-some : {b : Bool} {r : answer.Section} → b ≡ cond (isEmpty (drop from s)) (form .headless) false → b ≡ false
+      → Sectioned s (section form from (drop from s)) host k o o′ r → Sectioned s (headerSection form from (drop from s)) host k o o′ r
+  header-some e t h = sectioned-as {y = section form from (drop from s)} (header-is form s from e ∙ rw t refl) (h .says)

@@ -21,6 +21,7 @@ use Rattle.messages.specs.declared.Kind.{Kind}
 use Rattle.messages.specs.declared.Notes.{Notes}
 use Rattle.messages.proofs.Noting.{noted-nothing}
 use Rattle.binary.specs.Reader.{Got, got, no, _>>=_}
+use Rattle.binary.specs.declared.Form.{Form}
 use Rattle.binary.specs.Read.{afterNameLength, knownLine, knownLines, openLines}
 use Rattle.binary_parts.specs.Section.{LineSays, Lined}
 use Rattle.binary_parts.specs.declared.LineRead.{LineRead}
@@ -30,17 +31,17 @@ use Rattle.binary_parts.proofs.Places.{integer-cut as integer-cut-here,
 
 -- ---- a line by its name length
 
-module _ (a : ℕ) (s : List ℕ) (at : ℕ) where
-  pub known-cut : readInt at (drop at s) ≡ Cut → knownLine (a + at) (drop at s) ≡ no badSection (a + at)
+module _ (form : Form) (a : ℕ) (s : List ℕ) (at : ℕ) where
+  pub known-cut : readInt at (drop at s) ≡ Cut → knownLine form (a + at) (drop at s) ≡ no badSection (a + at)
   unfolding knownLine _>>=_
   known-cut e = rw (integer-cut a s at badSection (a + at) e)
 
   module _ {n next : ℕ} (e : readInt at (drop at s) ≡ Value n next) where
-    pub known-none : n ≡ 0 → knownLine (a + at) (drop at s) ≡ no badSection (a + at)
+    pub known-none : n ≡ 0 → knownLine form (a + at) (drop at s) ≡ no badSection (a + at)
     unfolding knownLine _>>=_
     known-none h = rw (integer-in a s at badSection (a + at) e, eq-eqb n 0 h)
 
-    pub known-rest : (n ≡ 0 → ⊥) → knownLine (a + at) (drop at s) ≡ afterNameLength true (a + at) n (a + next) (drop next s)
+    pub known-rest : (n ≡ 0 → ⊥) → knownLine form (a + at) (drop at s) ≡ afterNameLength form (a + at) n (a + next) (drop next s)
     unfolding knownLine _>>=_
     known-rest h = rw (integer-in a s at badSection (a + at) e, ne-eqb n 0 h)
 
@@ -108,8 +109,8 @@ module _ {s : List ℕ} {a : ℕ} {x : Got FieldRead} {host : Bool} {k : ℕ} {o
 
 -- ---- the lines of a known-length section
 
-module _ (a : ℕ) (s : List ℕ) (i f : ℕ) (fs : List FieldRead) where
-  pub known-done : length s ≤ i → knownLines (suc f) fs (a + i) (drop i s) ≡ got fs (a + i) (drop i s)
+module _ (form : Form) (a : ℕ) (s : List ℕ) (i f : ℕ) (fs : List FieldRead) where
+  pub known-done : length s ≤ i → knownLines form (suc f) fs (a + i) (drop i s) ≡ got fs (a + i) (drop i s)
   unfolding knownLines _>>=_ isEmpty
   known-done h = rw (eq-eqb (length (drop i s)) 0 (omega (arith, length-drop i s)))
 
@@ -118,48 +119,48 @@ module _ (a : ℕ) (s : List ℕ) (i f : ℕ) (fs : List FieldRead) where
     unfolding isEmpty
     some-left = ne-eqb _ _ (λ (q : length (drop i s) ≡ 0). omega (arith, length-drop i s, q))
 
-    pub known-full : linesMost ≤ length fs → knownLines (suc f) fs (a + i) (drop i s) ≡ no tooLarge (a + i)
+    pub known-full : linesMost ≤ length fs → knownLines form (suc f) fs (a + i) (drop i s) ≡ no tooLarge (a + i)
     unfolding knownLines _>>=_
     known-full g = rw (some-left, le-leb _ _ g)
 
     module _ (g : length fs < linesMost) where
-      pub known-wrong : {n p : ℕ} → knownLine (a + i) (drop i s) ≡ no n p → knownLines (suc f) fs (a + i) (drop i s) ≡ no n p
+      pub known-wrong : {n p : ℕ} → knownLine form (a + i) (drop i s) ≡ no n p → knownLines form (suc f) fs (a + i) (drop i s) ≡ no n p
       unfolding knownLines _>>=_
       known-wrong e = rw (some-left, lt-leb _ _ g, e)
 
-      pub known-next : {x : FieldRead} (end g′ : ℕ) → f ≡ suc g′ → knownLine (a + i) (drop i s) ≡ got x (a + end) (drop end s)
-          → knownLines (suc f) fs (a + i) (drop i s) ≡ knownLines (suc g′) (fs ++ x ∷ []) (a + end) (drop end s)
+      pub known-next : {x : FieldRead} (end g′ : ℕ) → f ≡ suc g′ → knownLine form (a + i) (drop i s) ≡ got x (a + end) (drop end s)
+          → knownLines form (suc f) fs (a + i) (drop i s) ≡ knownLines form (suc g′) (fs ++ x ∷ []) (a + end) (drop end s)
       unfolding knownLines _>>=_
       known-next end g′ z e = rw (some-left, lt-leb _ _ g, e, z)
 
 -- ---- the lines of an indeterminate section
 
-module _ (s : List ℕ) (i f : ℕ) (fs : List FieldRead) where
-  pub open-cut : readInt i (drop i s) ≡ Cut → openLines (suc f) fs i (drop i s) ≡ no cutOff i
+module _ (form : Form) (s : List ℕ) (i f : ℕ) (fs : List FieldRead) where
+  pub open-cut : readInt i (drop i s) ≡ Cut → openLines form (suc f) fs i (drop i s) ≡ no cutOff i
   unfolding openLines _>>=_
   open-cut e = rw (integer-cut-here s i cutOff i e)
 
   module _ {n next : ℕ} (e : readInt i (drop i s) ≡ Value n next) where
-    pub open-done : n ≡ 0 → openLines (suc f) fs i (drop i s) ≡ got fs next (drop next s)
+    pub open-done : n ≡ 0 → openLines form (suc f) fs i (drop i s) ≡ got fs next (drop next s)
     unfolding openLines _>>=_
     open-done h = rw (integer-got s i cutOff i e, eq-eqb n 0 h)
 
     module _ (h : n ≡ 0 → ⊥) where
-      pub open-full : linesMost ≤ length fs → openLines (suc f) fs i (drop i s) ≡ no tooLarge i
+      pub open-full : linesMost ≤ length fs → openLines form (suc f) fs i (drop i s) ≡ no tooLarge i
       unfolding openLines _>>=_
       open-full g = rw (integer-got s i cutOff i e, ne-eqb n 0 h, le-leb _ _ g)
 
       module _ (g : length fs < linesMost) where
         -- the rest of a line counts its places from 0 on
-        as-rest : afterNameLength false i n next (drop next s) ≡ afterNameLength false i n (0 + next) (drop next s)
+        as-rest : afterNameLength form i n next (drop next s) ≡ afterNameLength form i n (0 + next) (drop next s)
         as-rest = let z : 0 + next ≡ next = omega arith in rw z
 
-        pub open-wrong : {k p : ℕ} → afterNameLength false i n (0 + next) (drop next s) ≡ no k p → openLines (suc f) fs i (drop i s) ≡ no k p
+        pub open-wrong : {k p : ℕ} → afterNameLength form i n (0 + next) (drop next s) ≡ no k p → openLines form (suc f) fs i (drop i s) ≡ no k p
         unfolding openLines _>>=_
         open-wrong q = rw (integer-got s i cutOff i e, ne-eqb n 0 h, lt-leb _ _ g, as-rest, q)
 
-        pub open-next : {x : FieldRead} (end g′ : ℕ) → f ≡ suc g′ → afterNameLength false i n (0 + next) (drop next s) ≡ got x (0 + end) (drop end s)
-            → openLines (suc f) fs i (drop i s) ≡ openLines (suc g′) (fs ++ x ∷ []) end (drop end s)
+        pub open-next : {x : FieldRead} (end g′ : ℕ) → f ≡ suc g′ → afterNameLength form i n (0 + next) (drop next s) ≡ got x (0 + end) (drop end s)
+            → openLines form (suc f) fs i (drop i s) ≡ openLines form (suc g′) (fs ++ x ∷ []) end (drop end s)
         unfolding openLines _>>=_
         open-next end g′ z q =
             let y : 0 + end ≡ end = omega arith in

@@ -4,6 +4,7 @@ use crate::ContentRead;
 use crate::Padding;
 use crate::PartRead;
 use crate::parts::part_within;
+use binary::Form;
 use messages::Framing;
 use messages::sections::does_agree;
 use numbers::Integer;
@@ -12,6 +13,8 @@ use octets::Limits;
 use octets::Refusals;
 use ranges::store;
 ghost use mathlib.Core.Path.{_≡_};
+ghost use mathlib.Core.Bool.{cond, false};
+ghost use lib.Dec.{eqb};
 ghost use Prim.Native.Nat.{_≤_, _<_};
 ghost use lib.ListN.{length, drop};
 ghost use Rattle.octets.specs.Limits.{chunksMost, contentMost};
@@ -20,14 +23,24 @@ ghost use Rattle.binary.specs.Read.{knownContent, openContent, content, content
 ghost use Rattle.messages.specs.Room.{chunksRoom};
 ghost use Rattle.binary_parts.specs.Content.{Chunked, Contented, Padded};
 
-// The zero octets from `from` on, to the end of the input.
-pub fn check_padding(s: &[u8], from: usize) -> Padding
+// Whether the octet may follow a message.
+fn is_padding(form: Form, b: u8) -> bool
+    ensures { λ r. ⌜ r ≡ cond (form .padded) (eqb b 0) false ⌝ }
+{
+    if form.padded {
+        return b == 0;
+    }
+    false
+}
+
+// The padding from `from` on, to the end of the input.
+pub fn check_padding(s: &[u8], from: usize, form: Form) -> Padding
     requires { ⌜ from ≤ length (now s) ⌝ }
-    ensures { λ r. ⌜ Padded (now (s .entry)) (padding from (drop from (now (s .entry)))) r ⌝ }
+    ensures { λ r. ⌜ Padded (now (s .entry)) (padding form from (drop from (now (s .entry)))) r ⌝ }
 {
     let mut i = from;
     while i < s.len() {
-        if s[i] == 0 {
+        if is_padding(form, s[i]) {
             i += 1;
         } else {
             return Padding::Bad { place: i };

@@ -1,6 +1,7 @@
 // Field lines and field sections, of known and of indeterminate length.
 use crate::LineRead;
 use crate::Section;
+use binary::Form;
 use messages::parts::is_end_to_end;
 use messages::parts::is_lower_name;
 use messages::parts::is_trimmed_value;
@@ -19,40 +20,55 @@ ghost use mathlib.Core.List.{[]};
 ghost use Prim.Native.Nat.{suc, _+_, _*_, _≤_, _<_};
 ghost use lib.ListN.{length, drop};
 ghost use Rattle.octets.specs.Table.{classes};
+ghost use Rattle.octets.specs.Text.{isEmpty};
 ghost use Rattle.octets.specs.Limits.{linesMost};
 ghost use Rattle.script.specs.Do.{piece};
-ghost use Rattle.messages.specs.Control.{isLowerName, isTrimmedValue};
+ghost use Rattle.messages.specs.Control.{isLowerName};
 ghost use Rattle.ranges.specs.Ranges.{placesEnd};
-ghost use Rattle.binary.specs.Read.{judgedLine, cutNumber, cutPlace, afterNameLength, knownLine, knownLines, section};
+ghost use Rattle.binary.specs.Read.{isLineValue, judgedLine, cutNumber, cutPlace, afterNameLength, knownLine, knownLines, section, headerSection};
 ghost use Rattle.messages.specs.Room.{sectionRoom};
 ghost use Rattle.binary_parts.specs.Section.{JudgedLine, Lined, Bodied, Sectioned};
 
 // The number of a line that is cut off.
-fn cut_number(known: bool) -> u32
-    ensures { λ r. ⌜ r ≡ cutNumber known ⌝ }
+fn cut_number(form: Form) -> u32
+    ensures { λ r. ⌜ r ≡ cutNumber form ⌝ }
 {
-    if known {
+    if form.known {
         return Refusals::BAD_SECTION;
     }
     Refusals::CUT_OFF
 }
 
 // The place of a value that is cut off: of the line at p, or of the value's part at q.
-fn cut_place(known: bool, p: usize, q: usize) -> usize
-    ensures { λ r. ⌜ r ≡ cutPlace known p q ⌝ }
+fn cut_place(form: Form, p: usize, q: usize) -> usize
+    ensures { λ r. ⌜ r ≡ cutPlace form p q ⌝ }
 {
-    if known {
+    if form.known {
         return p;
     }
     q
 }
 
-fn is_line(t: &[u8; 256], name: &[u8], value: &[u8]) -> bool
+// Whether the octets may be a value.
+fn is_line_value(t: &[u8; 256], form: Form, value: &[u8]) -> bool
     requires { ⌜ now t ≡ classes ⌝ }
-    ensures { λ r. ⌜ r ≡ cond (isLowerName (now (name .entry))) (isTrimmedValue (now (value .entry))) false ⌝ }
+    ensures { λ r. ⌜ r ≡ isLineValue form (now (value .entry)) ⌝ }
+{
+    if is_trimmed_value(t, value) {
+        if form.empty {
+            return true;
+        }
+        return value.len() != 0;
+    }
+    false
+}
+
+fn is_line(t: &[u8; 256], form: Form, name: &[u8], value: &[u8]) -> bool
+    requires { ⌜ now t ≡ classes ⌝ }
+    ensures { λ r. ⌜ r ≡ cond (isLowerName (now (name .entry))) (isLineValue form (now (value .entry))) false ⌝ }
 {
     if is_lower_name(t, name) {
-        return is_trimmed_value(t, value);
+        return is_line_value(t, form, value);
     }
     false
 }
@@ -66,15 +82,16 @@ fn store_line(
     v: usize,
     value: &[u8],
     end: usize,
+    form: Form,
     host: bool,
     kept: usize,
     out: &mut [u32],
 ) -> LineRead
     requires { ⌜ (now t ≡ classes) × (n + length (now name) < placesEnd) × (v + length (now value) < placesEnd) × (kept * 4 + 4 ≤ length (now out)) ⌝ }
-    ensures { λ r. ⌜ JudgedLine (judgedLine p (piece n (now (name .entry))) (piece v (now (value .entry)))) end host kept
+    ensures { λ r. ⌜ JudgedLine (judgedLine form p (piece n (now (name .entry))) (piece v (now (value .entry)))) end host kept
         (now (out .entry)) (now (out .exit)) r ⌝ }
 {
-    if is_line(t, name, value) {
+    if is_line(t, form, name, value) {
         let kind = kind_of(name);
         let k = keep(
             out,
@@ -108,21 +125,21 @@ fn after_name_length(
     p: usize,
     at: usize,
     n: usize,
-    known: bool,
+    form: Form,
     host: bool,
     kept: usize,
     out: &mut [u32],
 ) -> LineRead
     requires { ⌜ (now t ≡ classes) × (at ≤ length (now s)) × (a + length (now s) < placesEnd) × (kept * 4 + 4 ≤ length (now out)) ⌝ }
-    ensures { λ r. ⌜ Lined (now (s .entry)) a (afterNameLength known p n (a + at) (drop at (now (s .entry)))) host kept
+    ensures { λ r. ⌜ Lined (now (s .entry)) a (afterNameLength form p n (a + at) (drop at (now (s .entry)))) host kept
         (now (out .entry)) (now (out .exit)) r ⌝ }
 {
-    let number = cut_number(known);
+    let number = cut_number(form);
     if s.len() - at < n {
         return LineRead::Refused { number, place: p };
     }
     let m = at + n;
-    let place = cut_place(known, p, a + m);
+    let place = cut_place(form, p, a + m);
     let Integer::Value { value: len, next } = read_int(s, m) else {
         return LineRead::Refused { number, place };
     };
@@ -138,6 +155,7 @@ fn after_name_length(
         a + next,
         &s[next..end],
         end,
+        form,
         host,
         kept,
         out,
@@ -150,12 +168,13 @@ fn known_line(
     s: &[u8],
     a: usize,
     at: usize,
+    form: Form,
     host: bool,
     kept: usize,
     out: &mut [u32],
 ) -> LineRead
     requires { ⌜ (now t ≡ classes) × (at ≤ length (now s)) × (a + length (now s) < placesEnd) × (kept * 4 + 4 ≤ length (now out)) ⌝ }
-    ensures { λ r. ⌜ Lined (now (s .entry)) a (knownLine (a + at) (drop at (now (s .entry)))) host kept (now (out .entry)) (now (out .exit)) r ⌝ }
+    ensures { λ r. ⌜ Lined (now (s .entry)) a (knownLine form (a + at) (drop at (now (s .entry)))) host kept (now (out .entry)) (now (out .exit)) r ⌝ }
 {
     let p = a + at;
     let Integer::Value { value: n, next } = read_int(s, at) else {
@@ -170,7 +189,7 @@ fn known_line(
             place: p,
         };
     }
-    after_name_length(t, s, a, p, next, n, true, host, kept, out)
+    after_name_length(t, s, a, p, next, n, form, host, kept, out)
 }
 
 // The lines that fill the body s of a known-length section, whose first octet is at the place a: at most 64 of them. Kept fields are stored behind
@@ -179,12 +198,13 @@ fn known_lines(
     t: &[u8; 256],
     s: &[u8],
     a: usize,
+    form: Form,
     host: bool,
     base: usize,
     out: &mut [u32],
 ) -> Section
     requires { ⌜ (now t ≡ classes) × (a + length (now s) < placesEnd) × (base * 4 + sectionRoom ≤ length (now out)) ⌝ }
-    ensures { λ r. ⌜ Bodied (knownLines (suc linesMost) [] a (now (s .entry))) (a + length (now (s .entry))) host base
+    ensures { λ r. ⌜ Bodied (knownLines form (suc linesMost) [] a (now (s .entry))) (a + length (now (s .entry))) host base
         (now (out .entry)) (now (out .exit)) r ⌝ }
 {
     let mut i: usize = 0;
@@ -200,7 +220,7 @@ fn known_lines(
             };
         }
         if Limits::fits(lines + 1, Limits::LINES) {
-            let line = known_line(t, s, a, i, host, count, out);
+            let line = known_line(t, s, a, i, form, host, count, out);
             match line {
                 LineRead::Refused { number, place } => return Section::Refused { number, place },
                 LineRead::Next {
@@ -233,12 +253,14 @@ fn known_section(
     t: &[u8; 256],
     s: &[u8],
     from: usize,
+    form: Form,
     host: bool,
     base: usize,
     out: &mut [u32],
 ) -> Section
-    requires { ⌜ (now t ≡ classes) × (from ≤ length (now s)) × (length (now s) < placesEnd) × (base * 4 + sectionRoom ≤ length (now out)) ⌝ }
-    ensures { λ r. ⌜ Sectioned (now (s .entry)) (section true from (drop from (now (s .entry)))) host base (now (out .entry)) (now (out .exit)) r ⌝ }
+    requires { ⌜ (now t ≡ classes) × (from ≤ length (now s)) × (length (now s) < placesEnd) × (base * 4 + sectionRoom ≤ length (now out))
+        × (form .known ≡ true) ⌝ }
+    ensures { λ r. ⌜ Sectioned (now (s .entry)) (section form from (drop from (now (s .entry)))) host base (now (out .entry)) (now (out .exit)) r ⌝ }
 {
     let Integer::Value { value: n, next } = read_int(s, from) else {
         return Section::Refused {
@@ -252,7 +274,7 @@ fn known_section(
             place: from,
         };
     }
-    known_lines(t, &s[next..next + n], next, host, base, out)
+    known_lines(t, &s[next..next + n], next, form, host, base, out)
 }
 
 // An indeterminate section: at most 64 lines, up to a name length of zero.
@@ -260,12 +282,14 @@ fn open_section(
     t: &[u8; 256],
     s: &[u8],
     from: usize,
+    form: Form,
     host: bool,
     base: usize,
     out: &mut [u32],
 ) -> Section
-    requires { ⌜ (now t ≡ classes) × (from ≤ length (now s)) × (length (now s) < placesEnd) × (base * 4 + sectionRoom ≤ length (now out)) ⌝ }
-    ensures { λ r. ⌜ Sectioned (now (s .entry)) (section false from (drop from (now (s .entry)))) host base (now (out .entry)) (now (out .exit)) r ⌝ }
+    requires { ⌜ (now t ≡ classes) × (from ≤ length (now s)) × (length (now s) < placesEnd) × (base * 4 + sectionRoom ≤ length (now out))
+        × (form .known ≡ false) ⌝ }
+    ensures { λ r. ⌜ Sectioned (now (s .entry)) (section form from (drop from (now (s .entry)))) host base (now (out .entry)) (now (out .exit)) r ⌝ }
 {
     let mut i = from;
     let mut lines: usize = 0;
@@ -286,7 +310,7 @@ fn open_section(
             };
         }
         if Limits::fits(lines + 1, Limits::LINES) {
-            let line = after_name_length(t, s, 0, i, next, n, false, host, count, out);
+            let line = after_name_length(t, s, 0, i, next, n, form, host, count, out);
             match line {
                 LineRead::Refused { number, place } => return Section::Refused { number, place },
                 LineRead::Next {
@@ -319,17 +343,51 @@ pub fn read_section(
     t: &[u8; 256],
     s: &[u8],
     from: usize,
-    known: bool,
+    form: Form,
     host: bool,
     base: usize,
     out: &mut [u32],
 ) -> Section
     requires { ⌜ (now t ≡ classes) × (from ≤ length (now s)) × (length (now s) < placesEnd) × (base * 4 + sectionRoom ≤ length (now out)) ⌝ }
-    ensures { λ r. ⌜ Sectioned (now (s .entry)) (section known from (drop from (now (s .entry)))) host base (now (out .entry)) (now (out .exit)) r ⌝ }
+    ensures { λ r. ⌜ Sectioned (now (s .entry)) (section form from (drop from (now (s .entry)))) host base (now (out .entry)) (now (out .exit)) r ⌝ }
 {
-    if known {
-        return known_section(t, s, from, host, base, out);
+    if form.known {
+        return known_section(t, s, from, form, host, base, out);
     } else {
-        return open_section(t, s, from, host, base, out);
+        return open_section(t, s, from, form, host, base, out);
+    }
+}
+
+// Whether the message ends at `from`, before a header section that it may go without.
+fn is_headless(s: &[u8], from: usize, form: Form) -> bool
+    ensures { λ r. ⌜ r ≡ cond (isEmpty (drop from (now (s .entry)))) (form .headless) false ⌝ }
+{
+    if s.len() <= from {
+        return form.headless;
+    }
+    false
+}
+
+// The header section from `from` on, or none where the message ends there and may.
+pub fn header_section(
+    t: &[u8; 256],
+    s: &[u8],
+    from: usize,
+    form: Form,
+    host: bool,
+    base: usize,
+    out: &mut [u32],
+) -> Section
+    requires { ⌜ (now t ≡ classes) × (from ≤ length (now s)) × (length (now s) < placesEnd) × (base * 4 + sectionRoom ≤ length (now out)) ⌝ }
+    ensures { λ r. ⌜ Sectioned (now (s .entry)) (headerSection form from (drop from (now (s .entry)))) host base (now (out .entry)) (now (out .exit)) r ⌝ }
+{
+    if is_headless(s, from, form) {
+        return Section::Done {
+            end: from,
+            kept: base,
+            notes: no_notes(),
+        };
+    } else {
+        return read_section(t, s, from, form, host, base, out);
     }
 }

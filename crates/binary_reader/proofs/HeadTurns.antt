@@ -16,6 +16,7 @@ use Rattle.messages.specs.declared.Told.{Told}
 use Rattle.messages.proofs.Noting.{kept-few}
 use Rattle.ranges.proofs.HeadsStored.{lines-snoc, fields-more, numbers-more}
 use Rattle.binary.specs.Reader.{Got}
+use Rattle.binary.specs.declared.Form.{Form}
 use Rattle.binary.specs.Read.{informationalRead, heads, responseMessage}
 use Rattle.binary_reader.specs.Heads.{HeadStored, HeadSays, Headed, HeadsTaken}
 use Rattle.binary_reader.specs.declared.HeadRead.{HeadRead}
@@ -25,7 +26,7 @@ use Rattle.binary_reader.proofs.HeadLaws.{says-as}
 
 -- what was read of s up to the place i, where the reader of the whole answers x, whatever is told: informational heads whose fields are stored in hs and whose numbers
 -- are stored in ns
-pub record HeadsTo (x : Told → Got Message) (known : Bool) (s hs₀ hs ns₀ ns : List ℕ) (i count base : ℕ) : Type 0 where
+pub record HeadsTo (x : Told → Got Message) (form : Form) (s hs₀ hs ns₀ ns : List ℕ) (i count base : ℕ) : Type 0 where
   pub read : List InformationalRead
   pub counted : length read ≡ count
   pub most : count ≤ informationalMost
@@ -33,12 +34,12 @@ pub record HeadsTo (x : Told → Got Message) (known : Bool) (s hs₀ hs ns₀ n
   pub few : base ≤ count * linesMost
   pub stored : hs ≡ splice hs₀ 0 (fieldsNumbers (informationalLines read))
   pub numbers : ns ≡ splice ns₀ 0 (informationalNumbers read)
-  pub turn : (t : Told) → x t ≡ heads t known (suc (informationalMost - count)) read i (drop i s)
+  pub turn : (t : Told) → x t ≡ heads t form (suc (informationalMost - count)) read i (drop i s)
 
-pub heads-start : (known : Bool) (s hs ns : List ℕ) (from : ℕ)
-    → HeadsTo (λ t. responseMessage t known from (drop from s)) known s hs hs ns ns from 0 0
+pub heads-start : (form : Form) (s hs ns : List ℕ) (from : ℕ)
+    → HeadsTo (λ t. responseMessage t form from (drop from s)) form s hs hs ns ns from 0 0
 unfolding informationalLines informationalNumbers fieldsNumbers
-heads-start known s hs ns from =
+heads-start form s hs ns from =
     record {
       read = [];
       counted = refl;
@@ -50,17 +51,17 @@ heads-start known s hs ns from =
       turn = λ t. refl;
     }
 
-module _ {x : Told → Got Message} {known : Bool} {s hs₀ hs hs′ ns₀ ns : List ℕ} {i count base : ℕ} (to : HeadsTo x known s hs₀ hs ns₀ ns i count base) {r : HeadRead}
-    (w : Headed (SoManyHeads count) (λ f is t. heads t known (suc f) is i (drop i s)) known s base hs hs′ r) where
-  says : {q : HeadRead} → r ≡ q → HeadSays x known (informationalMost - count) (to .read) s base hs hs′ q
+module _ {x : Told → Got Message} {form : Form} {s hs₀ hs hs′ ns₀ ns : List ℕ} {i count base : ℕ} (to : HeadsTo x form s hs₀ hs ns₀ ns i count base) {r : HeadRead}
+    (w : Headed (SoManyHeads count) (λ f is t. heads t form (suc f) is i (drop i s)) form s base hs hs′ r) where
+  says : {q : HeadRead} → r ≡ q → HeadSays x form (informationalMost - count) (to .read) s base hs hs′ q
   says {q} e =
-      says-as known (informationalMost - count) (to .read) s base hs hs′ q (to .turn)
+      says-as form (informationalMost - count) (to .read) s base hs hs′ q (to .turn)
       (subst
       (λ (z : HeadRead).
-      HeadSays (λ t. heads t known (suc (informationalMost - count)) (to .read) i (drop i s)) known (informationalMost - count) (to .read) s base hs hs′ z)
+      HeadSays (λ t. heads t form (suc (informationalMost - count)) (to .read) i (drop i s)) form (informationalMost - count) (to .read) s base hs hs′ z)
       e (w .by (informationalMost - count) (to .read) (to .counted)))
 
-  pub heads-refused : (ns′ : List ℕ) {k p : ℕ} → r ≡ head.Refused k p → HeadsTaken x known s hs₀ hs′ ns₀ ns′ (heads-read.Refused k p)
+  pub heads-refused : (ns′ : List ℕ) {k p : ℕ} → r ≡ head.Refused k p → HeadsTaken x form s hs₀ hs′ ns₀ ns′ (heads-read.Refused k p)
   heads-refused ns′ e = record { says = says e }
 
   -- the fields of one head more
@@ -72,7 +73,7 @@ module _ {x : Told → Got Message} {known : Bool} {s hs₀ hs hs′ ns₀ ns : 
       pub final-some : base ≤ k
       final-some = omega (arith, says q .1 .count)
 
-      pub heads-final : HeadsTaken x known s hs₀ hs′ ns₀ ns (heads-read.Done n e count (k - base) notes)
+      pub heads-final : HeadsTaken x form s hs₀ hs′ ns₀ ns (heads-read.Done n e count (k - base) notes)
       heads-final =
           let d = says q in
           record {
@@ -92,7 +93,7 @@ module _ {x : Told → Got Message} {known : Bool} {s hs₀ hs hs′ ns₀ ns : 
           let d = says q in
           (omega (arith, d .1 .count), omega (arith, d .1 .count, d .1 .few, kept-few true (d .0 .lines)), omega (arith, d .2, to .counted))
 
-      pub heads-next : {ns′ : List ℕ} → ns′ ≡ splice ns (count * 2) (n ∷ (k - base) ∷ []) → HeadsTo x known s hs₀ hs′ ns₀ ns′ e (count + 1) k
+      pub heads-next : {ns′ : List ℕ} → ns′ ≡ splice ns (count * 2) (n ∷ (k - base) ∷ []) → HeadsTo x form s hs₀ hs′ ns₀ ns′ e (count + 1) k
       heads-next stores =
           let d = says q in
           let h : Section = d .0 in
@@ -108,5 +109,5 @@ module _ {x : Told → Got Message} {known : Bool} {s hs₀ hs hs′ ns₀ ns : 
             few = omega (arith, few, to .few);
             stored = stored-more (d .1) ∙ rw (lines-snoc (to .read) y) refl;
             numbers = numbers-more ns₀ (to .read) y (to .counted) (to .numbers) f stores;
-            turn = λ t. d .3 t ∙ ap (λ (m : ℕ). heads t known m (to .read ++ y ∷ []) e (drop e s)) g;
+            turn = λ t. d .3 t ∙ ap (λ (m : ℕ). heads t form m (to .read ++ y ∷ []) e (drop e s)) g;
           }

@@ -24,6 +24,7 @@ use Rattle.messages.specs.declared.StatedLength.the-variants.{Missing}
 use Rattle.messages.specs.declared.Told.{Told}
 use Rattle.messages.proofs.Lengths.{body-read, body-refused, may-state, may-not-state}
 use Rattle.binary.specs.Reader.{Got, got, no, _>>=_}
+use Rattle.binary.specs.declared.Form.{Form}
 use Rattle.binary.specs.Read.{afterHeaders, afterFinal, messageAnswer}
 use Rattle.ranges.specs.Ranges.{Responded}
 use Rattle.binary_reader.specs.Heads.{HeadsFacts, HeadsSays, HeadsTaken}
@@ -40,47 +41,47 @@ use Rattle.binary_reader.proofs.Answered.{message-as, message-no, answe
 
 -- ---- what a final head states
 
-module _ (t : Told) (known : Bool) (is : List InformationalRead) (n : ℕ) (h : Section) (at : ℕ) (l : List ℕ) where
+module _ (t : Told) (form : Form) (is : List InformationalRead) (n : ℕ) (h : Section) (at : ℕ) (l : List ℕ) where
   module _ (b : endsAtHead t n ≡ true) where
-    bodyless-no : {k p : ℕ} → bodylessRule t n (h .end) (binaryFramingOf (h .lines)) ≡ wrong k p → afterFinal t known is n h at l ≡ no k p
+    bodyless-no : {k p : ℕ} → bodylessRule t n (h .end) (binaryFramingOf (h .lines)) ≡ wrong k p → afterFinal t form is n h at l ≡ no k p
     unfolding afterFinal _>>=_
     bodyless-no e = rw (b, e)
 
     bodyless-on : {x : Body} → bodylessRule t n (h .end) (binaryFramingOf (h .lines)) ≡ good x
-        → afterFinal t known is n h at l ≡ afterHeaders known false (statedIn t n (binaryFramingOf (h .lines))) (responseStart is n) h Unstated at l
+        → afterFinal t form is n h at l ≡ afterHeaders form false (statedIn t n (binaryFramingOf (h .lines))) (responseStart is n) h Unstated at l
     unfolding afterFinal _>>=_
     bodyless-on e = rw (b, e)
 
   module _ (b : endsAtHead t n ≡ false) where
-    states-no : {k p : ℕ} → mayState (h .end) (binaryFramingOf (h .lines)) ≡ wrong k p → afterFinal t known is n h at l ≡ no k p
+    states-no : {k p : ℕ} → mayState (h .end) (binaryFramingOf (h .lines)) ≡ wrong k p → afterFinal t form is n h at l ≡ no k p
     unfolding afterFinal _>>=_
     states-no e = rw (b, e)
 
     states-on : {f : Framing} → mayState (h .end) (binaryFramingOf (h .lines)) ≡ good f
-        → afterFinal t known is n h at l ≡ afterHeaders known true Missing (responseStart is n) h f at l
+        → afterFinal t form is n h at l ≡ afterHeaders form true Missing (responseStart is n) h f at l
     unfolding afterFinal _>>=_
     states-on e = rw (b, e)
 
 module _ (t : Told) (n : ℕ) (f : Framing) (end : ℕ) where
   module _ (b : endsAtHead t n ≡ true) where
     pub final-stated : {k p : ℕ} → bodyAnswer (bodylessRule t n end f) ≡ body.Refused k p → FinalJudged t n f end (final.Refused k p)
-    final-stated {k} {p} e = record { by = λ known is h at l g q. bodyless-no t known is n h at l b (rw (g, q) (body-refused _ k p e)) }
+    final-stated {k} {p} e = record { by = λ form is h at l g q. bodyless-no t form is n h at l b (rw (g, q) (body-refused _ k p e)) }
 
     pub final-bodyless : {x : Body} {k : StatedLength} → bodyAnswer (bodylessRule t n end f) ≡ body.Read x → k ≡ statedIn t n f
         → FinalJudged t n f end (final.Good false Unstated k)
     final-bodyless {x} {k} e i =
         record {
-          by = λ known is h at l g q.
-              bodyless-on t known is n h at l b {x = x} (rw (g, q) (body-read _ x e))
-              ∙ ap (λ (z : StatedLength). afterHeaders known false z (responseStart is n) h Unstated at l) (ap (statedIn t n) q ∙ sym i);
+          by = λ form is h at l g q.
+              bodyless-on t form is n h at l b {x = x} (rw (g, q) (body-read _ x e))
+              ∙ ap (λ (z : StatedLength). afterHeaders form false z (responseStart is n) h Unstated at l) (ap (statedIn t n) q ∙ sym i);
         }
 
   module _ (b : endsAtHead t n ≡ false) where
     pub final-clashes : isClashing f ≡ true → FinalJudged t n f end (final.Refused badLength end)
-    final-clashes c = record { by = λ known is h at l g q. states-no t known is n h at l b (rw (g, q) (may-not-state end f c)) }
+    final-clashes c = record { by = λ form is h at l g q. states-no t form is n h at l b (rw (g, q) (may-not-state end f c)) }
 
     pub final-states : isClashing f ≡ false → FinalJudged t n f end (final.Good true f Missing)
-    final-states c = record { by = λ known is h at l g q. states-on t known is n h at l b (rw (g, q) (may-state end f c)) }
+    final-states c = record { by = λ form is h at l g q. states-on t form is n h at l b (rw (g, q) (may-state end f c)) }
 
 -- ---- behind the final head
 
@@ -92,33 +93,33 @@ rest-says s stated is status c k lines (got x e l) cs cs′ ts ts′ d r f g o u
     (o ∙ rw (u .0, u .3, u .4, u .5, u .6, f, g) refl, u .1, u .2, u .4, ap isResponse (u .3), ap informationalIn (u .3))
 rest-says s stated is status c k lines (no i j) cs cs′ ts ts′ d r f g o u = o ∙ rw u refl
 
-module _ (t : Told) (s : List ℕ) (known : Bool) (status e c k : ℕ) (notes : Notes) {r : FinalAnswer} (j : FinalJudged t status (notes .framing) e r) where
+module _ (t : Told) (s : List ℕ) (form : Form) (status e c k : ℕ) (notes : Notes) {r : FinalAnswer} (j : FinalJudged t status (notes .framing) e r) where
   said : {o : FinalAnswer} → r ≡ o → (is : List InformationalRead) (h : Section) → HeadsFacts s is h status e c k notes
-      → FinalSays t known is status h e (drop e s) o
+      → FinalSays t form is status h e (drop e s) o
   said q is h f =
-      subst (λ (o : FinalAnswer). FinalSays t known is status h e (drop e s) o) q
-      (j .by known is h e (drop e s) (f .end) (sym (framing-noted notes h (f .noted))))
+      subst (λ (o : FinalAnswer). FinalSays t form is status h e (drop e s) o) q
+      (j .by form is h e (drop e s) (f .end) (sym (framing-noted notes h (f .noted))))
 
-  pub final-refused : {i p : ℕ} {cs cs′ ts ts′ : List ℕ} → r ≡ final.Refused i p → FinalRead t s known status e c k notes cs cs′ ts ts′ (outcome.Refusal i p)
+  pub final-refused : {i p : ℕ} {cs cs′ ts ts′ : List ℕ} → r ≡ final.Refused i p → FinalRead t s form status e c k notes cs cs′ ts ts′ (outcome.Refusal i p)
   final-refused q = record { by = λ is h f. message-no (said q is h f) }
 
   pub final-read : {body : Bool} {f : Framing} {stated : StatedLength} {cs cs′ ts ts′ : List ℕ} {d : RestRead} {o : Outcome} → r ≡ final.Good body f stated
-      → Rested s e known body f cs cs′ ts ts′ d → o ≡ responseOutcome stated (length s) status c k d → FinalRead t s known status e c k notes cs cs′ ts ts′ o
+      → Rested s e form body f cs cs′ ts ts′ d → o ≡ responseOutcome stated (length s) status c k d → FinalRead t s form status e c k notes cs cs′ ts ts′ o
   final-read {body} {f} {stated} {cs} {cs′} {ts} {ts′} {d} {o} q w g =
       record {
         by = λ is h y.
             message-as (said q is h y)
             (record {
-              says = rest-says s stated is status c k (h .lines) (afterHeaders known body stated (responseStart is status) h f e (drop e s)) cs cs′ ts ts′ d o (y .heads)
+              says = rest-says s stated is status c k (h .lines) (afterHeaders form body stated (responseStart is status) h f e (drop e s)) cs cs′ ts ts′ d o (y .heads)
                   (y .fields) g (w .by stated (responseStart is status) h .says);
             });
       }
 
 -- ---- the whole
 
-module _ {x : Told → Got Message} {known : Bool} {s hs hs′ ns ns′ : List ℕ} {r : HeadsRead} (w : HeadsTaken x known s hs hs′ ns ns′ r) where
-  taken : {o : HeadsRead} → r ≡ o → HeadsSays x known s hs hs′ ns ns′ o
-  taken q = subst (λ (z : HeadsRead). HeadsSays x known s hs hs′ ns ns′ z) q (w .says)
+module _ {x : Told → Got Message} {form : Form} {s hs hs′ ns ns′ : List ℕ} {r : HeadsRead} (w : HeadsTaken x form s hs hs′ ns ns′ r) where
+  taken : {o : HeadsRead} → r ≡ o → HeadsSays x form s hs hs′ ns ns′ o
+  taken q = subst (λ (z : HeadsRead). HeadsSays x form s hs hs′ ns ns′ z) q (w .says)
 
   pub responded-no : (t : Told) {cs cs′ ts ts′ : List ℕ} {i p : ℕ} → r ≡ heads-read.Refused i p → Responded (messageAnswer (x t)) hs hs′ ns ns′ cs cs′ ts ts′ (outcome.Refusal i p)
   responded-no t q = answered-no (taken q t)
@@ -127,7 +128,7 @@ module _ {x : Told → Got Message} {known : Bool} {s hs hs′ ns ns′ : List �
     pub final-within : e ≤ length s
     final-within = taken q .2 .within
 
-    pub responded-final : (t : Told) {cs cs′ ts ts′ : List ℕ} {o : Outcome} → FinalRead t s known n e c k notes cs cs′ ts ts′ o → Responded (messageAnswer (x t)) hs hs′ ns ns′ cs cs′ ts ts′ o
+    pub responded-final : (t : Told) {cs cs′ ts ts′ : List ℕ} {o : Outcome} → FinalRead t s form n e c k notes cs cs′ ts ts′ o → Responded (messageAnswer (x t)) hs hs′ ns ns′ cs cs′ ts ts′ o
     responded-final t f =
         let d = taken q in
-        answered-as (d .3 t) (with-headers (afterFinal t known (d .0) n (d .1) e (drop e s)) (d .4) (d .5) (f .by (d .0) (d .1) (d .2)))
+        answered-as (d .3 t) (with-headers (afterFinal t form (d .0) n (d .1) e (drop e s)) (d .4) (d .5) (f .by (d .0) (d .1) (d .2)))

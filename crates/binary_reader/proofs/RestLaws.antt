@@ -10,6 +10,7 @@ use Rattle.messages.specs.Message.{FieldRead, Section, Start, Message, statingM
 use Rattle.messages.specs.declared.Framing.{Framing}
 use Rattle.messages.specs.declared.StatedLength.{StatedLength}
 use Rattle.binary.specs.Reader.{Got, got, no, _>>=_}
+use Rattle.binary.specs.declared.Form.{Form}
 use Rattle.binary.specs.Read.{content, contentAgrees, contentRule, trailers, padding, afterContent, afterHeaders}
 use Rattle.binary_parts.specs.Content.{Contented, Padded}
 use Rattle.binary_parts.specs.declared.ContentRead.{ContentRead}
@@ -40,43 +41,43 @@ same-done e f g = rw (e, f, g)
 
 -- ---- behind the content
 
-trailers-then : (s : List ℕ) (from : ℕ) (known body : Bool) (stated : StatedLength) (start : Start) (lines : List FieldRead) (c : List Piece) {fs : List FieldRead} {end v n : ℕ} {l : List ℕ}
-    → trailers known body from (drop from s) ≡ got fs end (drop end s) → padding end (drop end s) ≡ got v n l
-    → afterContent known body stated start lines c from (drop from s) ≡ got (statingMessage stated start lines c fs) n l
+trailers-then : (s : List ℕ) (from : ℕ) (form : Form) (body : Bool) (stated : StatedLength) (start : Start) (lines : List FieldRead) (c : List Piece) {fs : List FieldRead} {end v n : ℕ} {l : List ℕ}
+    → trailers form body from (drop from s) ≡ got fs end (drop end s) → padding form end (drop end s) ≡ got v n l
+    → afterContent form body stated start lines c from (drop from s) ≡ got (statingMessage stated start lines c fs) n l
 unfolding afterContent _>>=_
-trailers-then s from known body stated start lines c e f = rw (e, f)
+trailers-then s from form body stated start lines c e f = rw (e, f)
 
-module _ (s : List ℕ) (from : ℕ) (known body : Bool) (count total : ℕ) {ts ts′ : List ℕ} {r : TrailersRead}
-    (h : Trailed s (trailers known body from (drop from s)) ts ts′ r) where
-  pub behind-no : {n p : ℕ} → r ≡ trailers-are.Refused n p → Behind s from known body count total ts ts′ (Refused n p)
+module _ (s : List ℕ) (from : ℕ) (form : Form) (body : Bool) (count total : ℕ) {ts ts′ : List ℕ} {r : TrailersRead}
+    (h : Trailed s (trailers form body from (drop from s)) ts ts′ r) where
+  pub behind-no : {n p : ℕ} → r ≡ trailers-are.Refused n p → Behind s from form body count total ts ts′ (Refused n p)
   unfolding afterContent _>>=_
   behind-no e = record { by = λ stated start lines c cs cs′ a b g. rest-no (rw (trailed-refused h e)) }
 
-  module _ {end k : ℕ} (e : r ≡ trailers-are.Done end k) {q : Padding} (z : Padded s (padding end (drop end s)) q) where
-    pub behind-padding : {p : ℕ} → q ≡ padding-is.Bad p → Behind s from known body count total ts ts′ (Refused badPadding p)
+  module _ {end k : ℕ} (e : r ≡ trailers-are.Done end k) {q : Padding} (z : Padded s (padding form end (drop end s)) q) where
+    pub behind-padding : {p : ℕ} → q ≡ padding-is.Bad p → Behind s from form body count total ts ts′ (Refused badPadding p)
     unfolding afterContent _>>=_
     behind-padding f = record { by = λ stated start lines c cs cs′ a b g. rest-no (rw (trailed-done h e .taken, padding-bad z f)) }
 
-    pub behind-done : q ≡ padding-is.Clean → Behind s from known body count total ts ts′ (Done count total k)
+    pub behind-done : q ≡ padding-is.Clean → Behind s from form body count total ts ts′ (Done count total k)
     behind-done f = let d = trailed-done h e in let w = padding-clean z f in
         record {
           by = λ stated start lines c cs cs′ a b g.
               rest-as {y = got (statingMessage stated start lines c (d .lines)) (length s) (w .rest)}
-              (trailers-then s from known body stated start lines c (d .taken) (w .taken))
+              (trailers-then s from form body stated start lines c (d .taken) (w .taken))
               (record { says = (same-done (sym a) (sym b) (sym (d .counted)), g, d .stored, refl, refl, refl, refl) });
         }
 
 -- ---- the content
 
-content-then : (s : List ℕ) (from : ℕ) (known body : Bool) (f : Framing) (stated : StatedLength) (start : Start) (h : Section) {c : List Piece} {end : ℕ}
-    → content known from (drop from s) ≡ got c end (drop end s) → contentRule body f end c ≡ good c
-    → afterHeaders known body stated start h f from (drop from s) ≡ afterContent known body stated start (h .lines) c end (drop end s)
+content-then : (s : List ℕ) (from : ℕ) (form : Form) (body : Bool) (f : Framing) (stated : StatedLength) (start : Start) (h : Section) {c : List Piece} {end : ℕ}
+    → content (form .known) from (drop from s) ≡ got c end (drop end s) → contentRule body f end c ≡ good c
+    → afterHeaders form body stated start h f from (drop from s) ≡ afterContent form body stated start (h .lines) c end (drop end s)
 unfolding afterHeaders _>>=_
-content-then s from known body f stated start h e j = rw (e, j)
+content-then s from form body f stated start h e j = rw (e, j)
 
-module _ (s : List ℕ) (from : ℕ) (known body : Bool) (f : Framing) {cs cs′ : List ℕ} {r : ContentRead}
-    (h : Contented s (content known from (drop from s)) cs cs′ r) where
-  pub rested-no : {n p : ℕ} {ts ts′ : List ℕ} → r ≡ content-is.Refused n p → Rested s from known body f cs cs′ ts ts′ (Refused n p)
+module _ (s : List ℕ) (from : ℕ) (form : Form) (body : Bool) (f : Framing) {cs cs′ : List ℕ} {r : ContentRead}
+    (h : Contented s (content (form .known) from (drop from s)) cs cs′ r) where
+  pub rested-no : {n p : ℕ} {ts ts′ : List ℕ} → r ≡ content-is.Refused n p → Rested s from form body f cs cs′ ts ts′ (Refused n p)
   unfolding afterHeaders _>>=_
   rested-no e = record { by = λ stated start l. rest-no (rw (content-no h e)) }
 
@@ -85,14 +86,14 @@ module _ (s : List ℕ) (from : ℕ) (known body : Bool) (f : Framing) {cs cs′
     unfolding contentRule
     judged g = rw (content-done h e .sum, ← a, g)
 
-    pub rested-bad : {ts ts′ : List ℕ} → b ≡ false → Rested s from known body f cs cs′ ts ts′ (Refused badLength end)
+    pub rested-bad : {ts ts′ : List ℕ} → b ≡ false → Rested s from form body f cs cs′ ts ts′ (Refused badLength end)
     unfolding afterHeaders _>>=_
     rested-bad g = record { by = λ stated start l. rest-no (rw (content-done h e .taken, judged g)) }
 
-    pub rested-on : {ts ts′ : List ℕ} {o : RestRead} → b ≡ true → Behind s end known body count total ts ts′ o → Rested s from known body f cs cs′ ts ts′ o
+    pub rested-on : {ts ts′ : List ℕ} {o : RestRead} → b ≡ true → Behind s end form body count total ts ts′ o → Rested s from form body f cs cs′ ts ts′ o
     rested-on g w = let d = content-done h e in
         record {
           by = λ stated start l.
-              rest-as (content-then s from known body f stated start l (d .taken) (judged g))
+              rest-as (content-then s from form body f stated start l (d .taken) (judged g))
               (w .by stated start (l .lines) (d .chunks) cs cs′ (d .counted) (d .sum) (d .stored));
         }

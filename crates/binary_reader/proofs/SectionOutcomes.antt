@@ -1,6 +1,6 @@
 -- What a caller learns from a section that was read, and what goes on behind it.
 use Prim.Native.Nat.{ℕ, _+_, _*_, _≤_}
-use mathlib.Core.Path.{_≡_, refl, sym, _∙_, subst}
+use mathlib.Core.Path.{_≡_, sym, _∙_}
 use mathlib.Core.List.{List}
 use mathlib.Core.Bool.{Bool, false}
 use native.Mathlib.Omega.{arith}
@@ -13,9 +13,10 @@ use Rattle.messages.specs.Notes.{notesOf}
 use Rattle.messages.specs.Answers.{fieldsNumbers}
 use Rattle.messages.specs.declared.Notes.{Notes}
 use Rattle.binary.specs.Reader.{Got, got, no, Reader, _>>=_}
-use Rattle.binary.specs.Read.{section}
+use Rattle.binary.specs.declared.Form.{Form}
+use Rattle.binary.specs.Read.{section, headerSection}
 use Rattle.binary_sound.proofs.Judgement.{Stands, Gets}
-use Rattle.binary_sound.proofs.Lines.{LinesAt, every-section}
+use Rattle.binary_sound.proofs.Lines.{LinesAt, every-section, every-header}
 use Rattle.binary_parts.specs.Section.{SectionSays, Sectioned}
 use Rattle.binary_parts.specs.declared.Section as answer
 use Rattle.binary_parts.specs.declared.Section.the-variants.{Done, Refused}
@@ -23,18 +24,26 @@ use Rattle.binary_parts.specs.declared.Section.the-variants.{Done, Refused}
 clash : {A : Type 0} {k p e c : ℕ} {x : Notes} → Done e c x ≡ Refused k p → A
 clash e = let z : _≡_ {A = ℕ} 0 1 = cc in absurd (omega arith)
 
--- the lines of a section lie in the input and are not too many
-lines-at : (known : Bool) (s : List ℕ) (from : ℕ) {h : Section} {e : ℕ} {l : List ℕ} → from ≤ length s → section known from (drop from s) ≡ got h e l
-    → LinesAt s (h .lines)
-lines-at known s from {h} {e} {l} w q =
-    let o : 0 + from ≡ from = omega arith in
-    let z : Stands s (length s) from (drop from s) = record { lies = rw o at (lies-rest from w (lies-all s)); ends = omega (arith, length-drop from s, w) } in
-    subst (λ (x : Got Section). Gets (λ n k a. Stands s (length s) n k × LinesAt s (a .lines)) x) q (every-section {s = s} {e = length s} known .go (drop from s) z) .1
+-- what was read of s is a section whose lines lie in s and are not too many
+abbrev pub InLines : List ℕ → Got Section → Type 0
+InLines s x = Gets (λ n k a. Stands s (length s) n k × LinesAt s (a .lines)) x
+
+module _ (form : Form) (s : List ℕ) (from : ℕ) (w : from ≤ length s) where
+  stands : Stands s (length s) from (drop from s)
+  stands =
+      let o : 0 + from ≡ from = omega arith in
+      record { lies = rw o at (lies-rest from w (lies-all s)); ends = omega (arith, length-drop from s, w) }
+
+  pub section-lines : InLines s (section form from (drop from s))
+  section-lines = every-section {s = s} {e = length s} form .go (drop from s) stands
+
+  pub header-lines : InLines s (headerSection form from (drop from s))
+  header-lines = every-header {s = s} {e = length s} form .go (drop from s) stands
 
 -- a section that ends at e, with c kept fields in the ranges now
-pub record SectionDone (s : List ℕ) (known : Bool) (from : ℕ) (host : Bool) (k : ℕ) (o o′ : List ℕ) (e c : ℕ) (n : Notes) : Type 0 where
+pub record SectionDone (s : List ℕ) (x : Got Section) (host : Bool) (k : ℕ) (o o′ : List ℕ) (e c : ℕ) (n : Notes) : Type 0 where
   pub read : Section
-  pub gives : section known from (drop from s) ≡ got read e (drop e s)
+  pub gives : x ≡ got read e (drop e s)
   pub end : read .end ≡ e
   pub within : e ≤ length s
   pub lines : LinesAt s (read .lines)
@@ -42,41 +51,40 @@ pub record SectionDone (s : List ℕ) (known : Bool) (from : ℕ) (host : Bool) 
   pub noted : n ≡ notesOf false (read .lines)
   pub stored : o′ ≡ splice o (k * 4) (fieldsNumbers (kept host (read .lines)))
 
-module _ (s : List ℕ) (known : Bool) (from : ℕ) {host : Bool} {k : ℕ} {o o′ : List ℕ} {r : answer.Section}
-    (h : Sectioned s (section known from (drop from s)) host k o o′ r) where
-  pub section-no : {n p : ℕ} → r ≡ Refused n p → section known from (drop from s) ≡ no n p
-  section-no {n} {p} e = go (section known from (drop from s)) (h .says)
+module _ {s : List ℕ} {x : Got Section} {host : Bool} {k : ℕ} {o o′ : List ℕ} {r : answer.Section} (h : Sectioned s x host k o o′ r) where
+  pub section-no : {n p : ℕ} → r ≡ Refused n p → x ≡ no n p
+  section-no {n} {p} e = go x (h .says)
     where
       go : (y : Got Section) → SectionSays s y host k o o′ r → y ≡ no n p
       go (got a i l) q = clash (sym (q .0) ∙ e)
       go (no j m) q = let z : Refused j m ≡ Refused n p = sym q ∙ e in cc
 
-  pub section-done : {e c : ℕ} {n : Notes} → from ≤ length s → r ≡ Done e c n → SectionDone s known from host k o o′ e c n
-  section-done {e} {c} {n} w d = go (section known from (drop from s)) refl (h .says)
+  pub section-done : {e c : ℕ} {n : Notes} → InLines s x → r ≡ Done e c n → SectionDone s x host k o o′ e c n
+  section-done {e} {c} {n} w d = go x w (h .says)
     where
-      go : (y : Got Section) → section known from (drop from s) ≡ y → SectionSays s y host k o o′ r → SectionDone s known from host k o o′ e c n
-      go (got a i l) g q =
+      go : (y : Got Section) → InLines s y → SectionSays s y host k o o′ r → SectionDone s y host k o o′ e c n
+      go (got a i l) w q =
           let z : Done i (k + length (kept host (a .lines))) (notesOf false (a .lines)) ≡ Done e c n = sym (q .0) ∙ d in
           let i′ : i ≡ e = cc in
           let l′ : l ≡ drop e s = q .4 ∙ rw i′ in
           record {
             read = a;
-            gives = g ∙ rw (i′, l′);
+            gives = rw (i′, l′);
             end = q .2 ∙ i′;
             within = omega (arith, q .3, i′);
-            lines = lines-at known s from w g;
+            lines = w .1;
             count = cc;
             noted = cc;
             stored = q .1;
           }
-      go (no j m) g q = clash (sym d ∙ q)
+      go (no j m) w q = clash (sym d ∙ q)
 
 -- a section, and what goes on behind it
-module _ {A : Type 0} (known : Bool) (f : Section → Reader A) (s : List ℕ) (from : ℕ) where
-  pub behind-no : {n p : ℕ} → section known from (drop from s) ≡ no n p → (section known >>= f) from (drop from s) ≡ no n p
+module _ {A : Type 0} (r : Reader Section) (f : Section → Reader A) (s : List ℕ) (from : ℕ) where
+  pub behind-no : {n p : ℕ} → r from (drop from s) ≡ no n p → (r >>= f) from (drop from s) ≡ no n p
   unfolding _>>=_
   behind-no e = rw e
 
-  pub behind-got : {h : Section} {e : ℕ} → section known from (drop from s) ≡ got h e (drop e s) → (section known >>= f) from (drop from s) ≡ f h e (drop e s)
+  pub behind-got : {h : Section} {e : ℕ} → r from (drop from s) ≡ got h e (drop e s) → (r >>= f) from (drop from s) ≡ f h e (drop e s)
   unfolding _>>=_
   behind-got e = rw e

@@ -16,6 +16,7 @@ use Rattle.messages.specs.Answers.{fieldsNumbers}
 use Rattle.messages.specs.declared.Notes.{Notes}
 use Rattle.messages.proofs.Noting.{trailers-noted}
 use Rattle.binary.specs.Reader.{Got, got, no, _>>=_, tell}
+use Rattle.binary.specs.declared.Form.{Form}
 use Rattle.binary.specs.Read.{section, trailersAgree, trailerRule, trailers}
 use Rattle.binary_parts.specs.Section.{Sectioned}
 use Rattle.binary_parts.specs.declared.Section as answer
@@ -23,7 +24,7 @@ use Rattle.binary_parts.specs.declared.Section.the-variants as section-is
 use Rattle.binary_reader.specs.Rest.{TrailersSays, Trailed}
 use Rattle.binary_reader.specs.declared.TrailersRead.{TrailersRead}
 use Rattle.binary_reader.specs.declared.TrailersRead.the-variants.{Done, Refused}
-use Rattle.binary_reader.proofs.SectionOutcomes.{section-no, section-done}
+use Rattle.binary_reader.proofs.SectionOutcomes.{section-lines, section-no, section-done}
 
 trailed-as : {s : List ℕ} {x y : Got (List FieldRead)} {o o′ : List ℕ} {r : TrailersRead} → x ≡ y → TrailersSays s y o o′ r → Trailed s x o o′ r
 trailed-as {s} {o = o} {o′ = o′} {r = r} e h = record { says = subst (λ (z : Got (List FieldRead)). TrailersSays s z o o′ r) (sym e) h }
@@ -35,44 +36,44 @@ some-left : (s : List ℕ) (from : ℕ) → from < length s → isEmpty (drop fr
 unfolding isEmpty
 some-left s from h = rw (length-drop from s, ne-eqb (length s - from) 0 (λ z. omega (arith, z)))
 
-section-then : (s : List ℕ) (from : ℕ) (known body : Bool) {h : Section} {end : ℕ} {j : Judged (List FieldRead)} → from < length s
-    → section known from (drop from s) ≡ got h end (drop end s) → trailerRule body h ≡ j → trailers known body from (drop from s) ≡ tell j end (drop end s)
+section-then : (s : List ℕ) (from : ℕ) (form : Form) (body : Bool) {h : Section} {end : ℕ} {j : Judged (List FieldRead)} → from < length s
+    → section form from (drop from s) ≡ got h end (drop end s) → trailerRule body h ≡ j → trailers form body from (drop from s) ≡ tell j end (drop end s)
 unfolding trailers _>>=_
-section-then s from known body g e j = rw (some-left s from g, e, j)
+section-then s from form body g e j = rw (some-left s from g, e, j)
 
-module _ (s : List ℕ) (from : ℕ) (known body : Bool) {o o′ : List ℕ} where
-  pub trailers-none : from ≤ length s → length s ≤ from → o′ ≡ o → Trailed s (trailers known body from (drop from s)) o o′ (Done from 0)
+module _ (s : List ℕ) (from : ℕ) (form : Form) (body : Bool) {o o′ : List ℕ} where
+  pub trailers-none : from ≤ length s → length s ≤ from → o′ ≡ o → Trailed s (trailers form body from (drop from s)) o o′ (Done from 0)
   unfolding trailers _>>=_ isEmpty keptTrailers kept fieldsNumbers
   trailers-none g h q =
       let z : length s - from ≡ 0 = omega arith in
       trailed-as {y = got [] from (drop from s)} (rw (length-drop from s, eq-eqb (length s - from) 0 z)) (refl, q, (g, refl))
 
-  module _ {r : answer.Section} (h : from < length s) (w : Sectioned s (section known from (drop from s)) false 0 o o′ r) where
-    pub trailers-no : {n p : ℕ} → r ≡ section-is.Refused n p → Trailed s (trailers known body from (drop from s)) o o′ (Refused n p)
+  module _ {r : answer.Section} (h : from < length s) (w : Sectioned s (section form from (drop from s)) false 0 o o′ r) where
+    pub trailers-no : {n p : ℕ} → r ≡ section-is.Refused n p → Trailed s (trailers form body from (drop from s)) o o′ (Refused n p)
     unfolding trailers _>>=_
-    trailers-no e = trailed-no (rw (some-left s from h, section-no s known from w e))
+    trailers-no e = trailed-no (rw (some-left s from h, section-no w e))
 
     within : from ≤ length s
     within = omega (arith, h)
 
     module _ {end count : ℕ} {notes : Notes} (e : r ≡ section-is.Done end count notes) {t : Bool} (q : t ≡ trailersAgree (notes .trailers) body count) where
       judged : {b : Bool} → t ≡ b
-          → trailerRule body (section-done s known from w within e .read)
-          ≡ cond b (good (section-done s known from w within e .read .lines)) (wrong badLength end)
+          → trailerRule body (section-done w (section-lines form s from within) e .read)
+          ≡ cond b (good (section-done w (section-lines form s from within) e .read .lines)) (wrong badLength end)
       unfolding trailerRule keptTrailers
-      judged {b} g = let d = section-done s known from w within e in
+      judged {b} g = let d = section-done w (section-lines form s from within) e in
           let c : length (kept false (d .read .lines)) ≡ count = omega (arith, d .count) in
           let n : areTrailers (d .read .lines) ≡ notes .trailers = trailers-noted false (d .read .lines) ∙ ap (λ (n : Notes). n .trailers) (sym (d .noted)) in
           rw (n, c, ← q, g, d .end)
 
-      pub trailers-good : t ≡ true → Trailed s (trailers known body from (drop from s)) o o′ (Done end count)
+      pub trailers-good : t ≡ true → Trailed s (trailers form body from (drop from s)) o o′ (Done end count)
       unfolding keptTrailers
-      trailers-good g = let d = section-done s known from w within e in
+      trailers-good g = let d = section-done w (section-lines form s from within) e in
           let c : count ≡ length (kept false (d .read .lines)) = omega (arith, d .count) in
-          trailed-as {y = got (d .read .lines) end (drop end s)} (section-then s from known body h (d .gives) (judged g)) (ap (Done end) c, d .stored, (d .within, refl))
+          trailed-as {y = got (d .read .lines) end (drop end s)} (section-then s from form body h (d .gives) (judged g)) (ap (Done end) c, d .stored, (d .within, refl))
 
-      pub trailers-bad : t ≡ false → Trailed s (trailers known body from (drop from s)) o o′ (Refused badLength end)
-      trailers-bad g = trailed-no (section-then s from known body h (section-done s known from w within e .gives) (judged g))
+      pub trailers-bad : t ≡ false → Trailed s (trailers form body from (drop from s)) o o′ (Refused badLength end)
+      trailers-bad g = trailed-no (section-then s from form body h (section-done w (section-lines form s from within) e .gives) (judged g))
 
 -- ---- what the caller learns
 

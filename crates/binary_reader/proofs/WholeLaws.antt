@@ -1,13 +1,13 @@
 -- A message, from its framing indicator on, and its answer by value.
 use Prim.Native.Nat.{ℕ}
-use mathlib.Core.Path.{_≡_, refl, sym, ap, subst}
+use mathlib.Core.Path.{_≡_, refl, sym, ap, _∙_, subst}
 use mathlib.Core.Bool.{true, false}
 use mathlib.Core.List.{List}
 use borrow.Author.Tests.{ne-eqb}
 use lib.Dec.{leb}
 use lib.ListN.{length, drop, replicate}
 use Rattle.octets.specs.Limits.{binaryMost}
-use Rattle.octets.specs.Refusals.{tooLarge, cutOff, badIndicator}
+use Rattle.octets.specs.Refusals.{tooLarge, cutOff, badIndicator, badEdition}
 use Rattle.numbers.specs.Integer.{readInt}
 use Rattle.numbers.specs.declared.Integer.the-variants.{Value, Cut}
 use Rattle.script.specs.Script.{Answer, refused}
@@ -16,8 +16,10 @@ use Rattle.messages.specs.Answers.{readingOf}
 use Rattle.messages.specs.declared.Outcome.{Outcome}
 use Rattle.messages.specs.declared.Outcome.the-variants as outcome
 use Rattle.messages.specs.declared.Told.{Told}
+use Rattle.messages.specs.Told.{isEdition}
 use Rattle.binary.specs.Reader.{no, _>>=_}
-use Rattle.binary.specs.Read.{requestMessage, responseMessage, afterIndicator, message, messageAnswer, readBinary}
+use Rattle.binary.specs.declared.Form.{Form}
+use Rattle.binary.specs.Read.{formOf, requestMessage, responseMessage, afterIndicator, message, messageAnswer, readSized, readBinary}
 use Rattle.binary_sound.proofs.Sound.{binary-sound}
 use Rattle.ranges.specs.Ranges.{Responded, readingFrom}
 use Rattle.ranges.proofs.ByValue.{by-value}
@@ -36,26 +38,27 @@ module _ (t : Told) {f : ℕ} (from : ℕ) (l : List ℕ) where
   unfolding afterIndicator
   indicator-other a b c d = rw (ne-eqb f 0 a, ne-eqb f 1 b, ne-eqb f 2 c, ne-eqb f 3 d)
 
-  module _ {hs hs′ ns cs cs′ ts ts′ : List ℕ} {r : Outcome} where
-    pub indicated-request : f ≡ 0 → Requested (requestMessage true from l) hs hs′ cs cs′ ts ts′ r → Responded (messageAnswer (afterIndicator t f from l)) hs hs′ ns ns cs cs′ ts ts′ r
-    unfolding afterIndicator
-    indicated-request e h = answered-as (indicator-is 0 e) (h .by ns)
-
-    pub indicated-open-request : f ≡ 2 → Requested (requestMessage false from l) hs hs′ cs cs′ ts ts′ r
+  module _ {form : Form} {hs hs′ ns cs cs′ ts ts′ : List ℕ} {r : Outcome} where
+    pub indicated-request : f ≡ 0 → form ≡ formOf (t .edition) true → Requested (requestMessage form from l) hs hs′ cs cs′ ts ts′ r
         → Responded (messageAnswer (afterIndicator t f from l)) hs hs′ ns ns cs cs′ ts ts′ r
     unfolding afterIndicator
-    indicated-open-request e h = answered-as (indicator-is 2 e) (h .by ns)
+    indicated-request e q h = answered-as {y = requestMessage form from l} (indicator-is 0 e ∙ rw q refl) (h .by ns)
 
-  module _ {hs hs′ ns ns′ cs cs′ ts ts′ : List ℕ} {r : Outcome} where
-    pub indicated-response : f ≡ 1 → Responded (messageAnswer (responseMessage t true from l)) hs hs′ ns ns′ cs cs′ ts ts′ r
+    pub indicated-open-request : f ≡ 2 → form ≡ formOf (t .edition) false → Requested (requestMessage form from l) hs hs′ cs cs′ ts ts′ r
+        → Responded (messageAnswer (afterIndicator t f from l)) hs hs′ ns ns cs cs′ ts ts′ r
+    unfolding afterIndicator
+    indicated-open-request e q h = answered-as {y = requestMessage form from l} (indicator-is 2 e ∙ rw q refl) (h .by ns)
+
+  module _ {form : Form} {hs hs′ ns ns′ cs cs′ ts ts′ : List ℕ} {r : Outcome} where
+    pub indicated-response : f ≡ 1 → form ≡ formOf (t .edition) true → Responded (messageAnswer (responseMessage t form from l)) hs hs′ ns ns′ cs cs′ ts ts′ r
         → Responded (messageAnswer (afterIndicator t f from l)) hs hs′ ns ns′ cs cs′ ts ts′ r
     unfolding afterIndicator
-    indicated-response e h = answered-as (indicator-is 1 e) h
+    indicated-response e q h = answered-as {y = responseMessage t form from l} (indicator-is 1 e ∙ rw q refl) h
 
-    pub indicated-open-response : f ≡ 3 → Responded (messageAnswer (responseMessage t false from l)) hs hs′ ns ns′ cs cs′ ts ts′ r
+    pub indicated-open-response : f ≡ 3 → form ≡ formOf (t .edition) false → Responded (messageAnswer (responseMessage t form from l)) hs hs′ ns ns′ cs cs′ ts ts′ r
         → Responded (messageAnswer (afterIndicator t f from l)) hs hs′ ns ns′ cs cs′ ts ts′ r
     unfolding afterIndicator
-    indicated-open-response e h = answered-as (indicator-is 3 e) h
+    indicated-open-response e q h = answered-as {y = responseMessage t form from l} (indicator-is 3 e ∙ rw q refl) h
 
   pub indicated-other : {hs hs′ ns ns′ cs cs′ ts ts′ : List ℕ} → (f ≡ 0 → ⊥) → (f ≡ 1 → ⊥) → (f ≡ 2 → ⊥) → (f ≡ 3 → ⊥)
       → Responded (messageAnswer (afterIndicator t f from l)) hs hs′ ns ns′ cs cs′ ts ts′ (outcome.Refusal badIndicator 0)
@@ -63,8 +66,8 @@ module _ (t : Told) {f : ℕ} (from : ℕ) (l : List ℕ) where
 
 -- ---- the whole input
 
-read-whole : (t : Told) (s : List ℕ) → leb (length s) binaryMost ≡ true → readBinary t s ≡ messageAnswer (message t 0 s)
-unfolding readBinary
+read-whole : (t : Told) (s : List ℕ) → leb (length s) binaryMost ≡ true → readSized t s ≡ messageAnswer (message t 0 s)
+unfolding readSized
 read-whole t s h = rw h
 
 message-cut : (t : Told) (s : List ℕ) → readInt 0 (drop 0 s) ≡ Cut → message t 0 s ≡ no cutOff 0
@@ -76,20 +79,31 @@ unfolding message _>>=_
 message-indicated t s e = rw (integer-got s 0 cutOff 0 e)
 
 module _ (t : Told) (s : List ℕ) {hs hs′ ns ns′ cs cs′ ts ts′ : List ℕ} where
-  whole-as : {x : Answer Message} {r : Outcome} → readBinary t s ≡ x → Responded x hs hs′ ns ns′ cs cs′ ts ts′ r → Responded (readBinary t s) hs hs′ ns ns′ cs cs′ ts ts′ r
+  whole-as : {x : Answer Message} {r : Outcome} → readSized t s ≡ x → Responded x hs hs′ ns ns′ cs cs′ ts ts′ r → Responded (readSized t s) hs hs′ ns ns′ cs cs′ ts ts′ r
   whole-as {r = r} e h = subst (λ (z : Answer Message). Responded z hs hs′ ns ns′ cs cs′ ts ts′ r) (sym e) h
 
-  pub whole-large : leb (length s) binaryMost ≡ false → Responded (readBinary t s) hs hs′ ns ns′ cs cs′ ts ts′ (outcome.Refusal tooLarge 0)
-  unfolding readBinary
+  pub whole-large : leb (length s) binaryMost ≡ false → Responded (readSized t s) hs hs′ ns ns′ cs cs′ ts ts′ (outcome.Refusal tooLarge 0)
+  unfolding readSized
   whole-large h = whole-as {x = refused tooLarge 0} (rw h) (record { says = refl; informational = tt })
 
   module _ (h : leb (length s) binaryMost ≡ true) where
-    pub whole-cut : readInt 0 (drop 0 s) ≡ Cut → Responded (readBinary t s) hs hs′ ns ns′ cs cs′ ts ts′ (outcome.Refusal cutOff 0)
+    pub whole-cut : readInt 0 (drop 0 s) ≡ Cut → Responded (readSized t s) hs hs′ ns ns′ cs cs′ ts ts′ (outcome.Refusal cutOff 0)
     whole-cut e = whole-as (read-whole t s h) (answered-no (message-cut t s e))
 
     pub whole-indicated : {v next : ℕ} {r : Outcome} → readInt 0 (drop 0 s) ≡ Value v next
-        → Responded (messageAnswer (afterIndicator t v next (drop next s))) hs hs′ ns ns′ cs cs′ ts ts′ r → Responded (readBinary t s) hs hs′ ns ns′ cs cs′ ts ts′ r
+        → Responded (messageAnswer (afterIndicator t v next (drop next s))) hs hs′ ns ns′ cs cs′ ts ts′ r → Responded (readSized t s) hs hs′ ns ns′ cs cs′ ts ts′ r
     whole-indicated e w = whole-as (read-whole t s h) (answered-as (message-indicated t s e) w)
+
+-- told an edition, and told another number
+module _ (t : Told) (s : List ℕ) {hs hs′ ns ns′ cs cs′ ts ts′ : List ℕ} where
+  pub edition-told : {r : Outcome} → isEdition (t .edition) ≡ true → Responded (readSized t s) hs hs′ ns ns′ cs cs′ ts ts′ r
+      → Responded (readBinary t s) hs hs′ ns ns′ cs cs′ ts ts′ r
+  unfolding readBinary
+  edition-told e h = rw e h
+
+  pub edition-other : isEdition (t .edition) ≡ false → Responded (readBinary t s) hs hs′ ns ns′ cs cs′ ts ts′ (outcome.Refusal badEdition 0)
+  unfolding readBinary
+  edition-other e = rw e (record { says = refl; informational = tt })
 
 pub binary-by-value : (t : Told) (s : List ℕ) {hs′ ns′ cs′ ts′ : List ℕ} {o : Outcome}
     → Responded (readBinary t s) (replicate headsRoom 0) hs′ (replicate informationalRoom 0) ns′ (replicate chunksRoom 0) cs′ (replicate sectionRoom 0) ts′ o

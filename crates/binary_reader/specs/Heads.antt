@@ -1,7 +1,7 @@
 -- What the code that reads the heads of a response promises, in terms of `heads` and `afterFinal` (binary/specs/Read; 01, "Binary HTTP as we take it").
 use Prim.Native.Nat.{ℕ, _+_, _*_, _≤_}
 use mathlib.Core.Path.{_≡_}
-use mathlib.Core.Bool.{Bool, true, false}
+use mathlib.Core.Bool.{true, false}
 use mathlib.Core.List.{List, [], _∷_, _++_}
 use lib.ListN.{length, drop}
 use Rattle.ranges.specs.Ranges.{FewHeads}
@@ -15,6 +15,7 @@ use Rattle.messages.specs.Answers.{fieldsNumbers, informationalNumbers, informa
 use Rattle.messages.specs.declared.Notes.{Notes}
 use Rattle.messages.specs.declared.Told.{Told}
 use Rattle.binary.specs.Reader.{Got, no}
+use Rattle.binary.specs.declared.Form.{Form}
 use Rattle.binary.specs.Read.{afterFinal, informationalRead, heads}
 use Rattle.binary_reader.specs.declared.HeadRead.{HeadRead}
 use Rattle.binary_reader.specs.declared.HeadRead.the-variants as head
@@ -37,19 +38,19 @@ pub record HeadStored (s : List ℕ) (base : ℕ) (hs hs′ : List ℕ) (e k : �
   pub stored : hs′ ≡ splice hs (base * 4) (fieldsNumbers (kept true (h .lines)))
 
 -- a head that was read behind the informational heads `is`, where the reader answers x, whatever is told
-abbrev pub HeadSays : (Told → Got Message) → Bool → ℕ → List InformationalRead → List ℕ → ℕ → List ℕ → List ℕ → HeadRead → Type 0
-HeadSays x known f is s base hs hs′ (head.Informational n e k) =
+abbrev pub HeadSays : (Told → Got Message) → Form → ℕ → List InformationalRead → List ℕ → ℕ → List ℕ → List ℕ → HeadRead → Type 0
+HeadSays x form f is s base hs hs′ (head.Informational n e k) =
     (h : Section) × HeadStored s base hs hs′ e k h × FewHeads is
-    × ((t : Told) → x t ≡ heads t known f (is ++ informationalRead n h ∷ []) e (drop e s))
-HeadSays x known f is s base hs hs′ (head.Final n e k notes) =
+    × ((t : Told) → x t ≡ heads t form f (is ++ informationalRead n h ∷ []) e (drop e s))
+HeadSays x form f is s base hs hs′ (head.Final n e k notes) =
     (h : Section) × HeadStored s base hs hs′ e k h × (notes ≡ notesOf false (h .lines)) × FinalStatus n
-    × ((t : Told) → x t ≡ afterFinal t known is n h e (drop e s))
-HeadSays x known f is s base hs hs′ (head.Refused i p) = (t : Told) → x t ≡ no i p
+    × ((t : Told) → x t ≡ afterFinal t form is n h e (drop e s))
+HeadSays x form f is s base hs hs′ (head.Refused i p) = (t : Told) → x t ≡ no i p
 
 -- the same behind any informational heads of which P holds
-pub record Headed (P : List InformationalRead → Type 0) (x : ℕ → List InformationalRead → Told → Got Message) (known : Bool) (s : List ℕ) (base : ℕ)
+pub record Headed (P : List InformationalRead → Type 0) (x : ℕ → List InformationalRead → Told → Got Message) (form : Form) (s : List ℕ) (base : ℕ)
     (hs hs′ : List ℕ) (r : HeadRead) : Type 0 where
-  pub by : (f : ℕ) (is : List InformationalRead) → P is → HeadSays (x f is) known f is s base hs hs′ r
+  pub by : (f : ℕ) (is : List InformationalRead) → P is → HeadSays (x f is) form f is s base hs hs′ r
 
 -- ---- all heads
 
@@ -63,13 +64,13 @@ pub record HeadsFacts (s : List ℕ) (is : List InformationalRead) (h : Section)
   pub status : FinalStatus n
 
 -- where the reader answers x, whatever is told: the kept fields are stored in hs, status and number of kept fields of each informational head in ns
-abbrev pub HeadsSays : (Told → Got Message) → Bool → List ℕ → List ℕ → List ℕ → List ℕ → List ℕ → HeadsRead → Type 0
-HeadsSays x known s hs hs′ ns ns′ (heads-read.Done n e c k notes) =
+abbrev pub HeadsSays : (Told → Got Message) → Form → List ℕ → List ℕ → List ℕ → List ℕ → List ℕ → HeadsRead → Type 0
+HeadsSays x form s hs hs′ ns ns′ (heads-read.Done n e c k notes) =
     (is : List InformationalRead) × (h : Section) × HeadsFacts s is h n e c k notes
-    × ((t : Told) → x t ≡ afterFinal t known is n h e (drop e s))
+    × ((t : Told) → x t ≡ afterFinal t form is n h e (drop e s))
     × (hs′ ≡ splice hs 0 (fieldsNumbers (informationalLines is ++ kept true (h .lines)))) × (ns′ ≡ splice ns 0 (informationalNumbers is))
-HeadsSays x known s hs hs′ ns ns′ (heads-read.Refused i p) = (t : Told) → x t ≡ no i p
+HeadsSays x form s hs hs′ ns ns′ (heads-read.Refused i p) = (t : Told) → x t ≡ no i p
 
 -- the heads of a response that were read, as one fact
-pub record HeadsTaken (x : Told → Got Message) (known : Bool) (s hs hs′ ns ns′ : List ℕ) (r : HeadsRead) : Type 0 where
-  pub says : HeadsSays x known s hs hs′ ns ns′ r
+pub record HeadsTaken (x : Told → Got Message) (form : Form) (s hs hs′ ns ns′ : List ℕ) (r : HeadsRead) : Type 0 where
+  pub says : HeadsSays x form s hs hs′ ns ns′ r

@@ -1,7 +1,7 @@
 -- What the code that reads requests promises, in terms of `requestMessage` (binary/specs/Read; 01, "Binary HTTP as we take it").
 use Prim.Native.Nat.{ℕ, _+_, _≤_}
 use mathlib.Core.Path.{_≡_}
-use mathlib.Core.Bool.{Bool, false}
+use mathlib.Core.Bool.{false}
 use mathlib.Core.List.{List, []}
 use lib.ListN.{length, drop}
 use Rattle.script.specs.Do.{Piece, piece, Judged, good, wrong}
@@ -17,6 +17,7 @@ use Rattle.messages.specs.declared.StatedLength.the-variants.{Missing}
 use Rattle.messages.specs.declared.Outcome.{Outcome}
 use Rattle.messages.specs.declared.Outcome.the-variants as outcome
 use Rattle.binary.specs.Reader.{Got}
+use Rattle.binary.specs.declared.Form.{Form}
 use Rattle.binary.specs.Read.{RequestControl, afterHead, messageAnswer}
 use Rattle.ranges.specs.Ranges.{Responded}
 use Rattle.binary_parts.specs.Control.{pieceOf}
@@ -73,8 +74,8 @@ pub record HeadFacts (s : List ℕ) (h : Section) (e k : ℕ) (n : Notes) : Type
   pub lie : AllLie s (h .lines)
 
 -- what stands behind any header section that was read up to a place
-pub record RequestRest (s : List ℕ) (known : Bool) (q : RequestControl) (end fields : ℕ) (notes : Notes) (cs cs′ ts ts′ : List ℕ) (r : Outcome) : Type 0 where
-  pub by : (h : Section) → HeadFacts s h end fields notes → MessageIs false [] (h .lines) (afterHead known q h end (drop end s)) cs cs′ ts ts′ r
+pub record RequestRest (s : List ℕ) (form : Form) (q : RequestControl) (end fields : ℕ) (notes : Notes) (cs cs′ ts ts′ : List ℕ) (r : Outcome) : Type 0 where
+  pub by : (h : Section) → HeadFacts s h end fields notes → MessageIs false [] (h .lines) (afterHead form q h end (drop end s)) cs cs′ ts ts′ r
 
 -- ---- whole requests
 

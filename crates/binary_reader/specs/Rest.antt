@@ -15,6 +15,7 @@ use Rattle.messages.specs.declared.Counts.{Counts}
 use Rattle.messages.specs.declared.Framing.{Framing}
 use Rattle.messages.specs.declared.StatedLength.{StatedLength}
 use Rattle.binary.specs.Reader.{Got, got, no}
+use Rattle.binary.specs.declared.Form.{Form}
 use Rattle.binary.specs.Read.{afterContent, afterHeaders}
 use Rattle.binary_parts.specs.Control.{GoesOn}
 use Rattle.binary_reader.specs.declared.TrailersRead.{TrailersRead}
@@ -55,14 +56,14 @@ pub record RestIs (s : List ℕ) (stated : StatedLength) (start : Start) (lines 
   pub says : RestSays s stated start lines x cs cs′ ts ts′ r
 
 -- what stands behind content of so many chunks and octets, whatever stands before it
-pub record Behind (s : List ℕ) (from : ℕ) (known body : Bool) (count total : ℕ) (ts ts′ : List ℕ) (r : RestRead) : Type 0 where
+pub record Behind (s : List ℕ) (from : ℕ) (form : Form) (body : Bool) (count total : ℕ) (ts ts′ : List ℕ) (r : RestRead) : Type 0 where
   pub by : (stated : StatedLength) (start : Start) (lines : List FieldRead) (c : List Piece) (cs cs′ : List ℕ) → length c ≡ count → length (contentOf c) ≡ total
-      → cs′ ≡ splice cs 0 (chunksNumbers c) → RestIs s stated start lines (afterContent known body stated start lines c from (drop from s)) cs cs′ ts ts′ r
+      → cs′ ≡ splice cs 0 (chunksNumbers c) → RestIs s stated start lines (afterContent form body stated start lines c from (drop from s)) cs cs′ ts ts′ r
 
 -- what stands behind any header section, in a message whose content must agree with f
-pub record Rested (s : List ℕ) (from : ℕ) (known body : Bool) (f : Framing) (cs cs′ ts ts′ : List ℕ) (r : RestRead) : Type 0 where
+pub record Rested (s : List ℕ) (from : ℕ) (form : Form) (body : Bool) (f : Framing) (cs cs′ ts ts′ : List ℕ) (r : RestRead) : Type 0 where
   pub by : (stated : StatedLength) (start : Start) (h : Section)
-      → RestIs s stated start (h .lines) (afterHeaders known body stated start h f from (drop from s)) cs cs′ ts ts′ r
+      → RestIs s stated start (h .lines) (afterHeaders form body stated start h f from (drop from s)) cs cs′ ts ts′ r
 
 -- how much of a message of n octets was read, and the length that it states
 abbrev pub counted : StatedLength → ℕ → ℕ → ℕ → ℕ → ℕ → Counts

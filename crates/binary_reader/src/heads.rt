@@ -1,7 +1,9 @@
 // The heads of a response.
 use crate::HeadRead;
 use crate::HeadsRead;
+use binary::Form;
 use binary_parts::Section;
+use binary_parts::lines::header_section;
 use binary_parts::lines::read_section;
 use messages::BodyAnswer;
 use messages::parts::is_informational;
@@ -29,15 +31,15 @@ fn after_informational_status(
     s: &[u8],
     status: u32,
     next: usize,
-    known: bool,
+    form: Form,
     base: usize,
     headers: &mut [u32],
 ) -> HeadRead
     requires { ⌜ (now t ≡ classes) × (next ≤ length (now s)) × (length (now s) < placesEnd) × (base * 4 + sectionRoom ≤ length (now headers)) ⌝ }
-    ensures { λ r. ⌜ Headed FewHeads (λ f is told. afterInformationalStatus known (heads told known f) is status next (drop next (now (s .entry))))
-        known (now (s .entry)) base (now (headers .entry)) (now (headers .exit)) r ⌝ }
+    ensures { λ r. ⌜ Headed FewHeads (λ f is told. afterInformationalStatus form (heads told form f) is status next (drop next (now (s .entry))))
+        form (now (s .entry)) base (now (headers .entry)) (now (headers .exit)) r ⌝ }
 {
-    let h = read_section(t, s, next, known, true, base, headers);
+    let h = read_section(t, s, next, form, true, base, headers);
     match h {
         Section::Refused { number, place } => return HeadRead::Refused { number, place },
         Section::Done { end, kept, notes } => {
@@ -57,16 +59,16 @@ fn after_final_status(
     s: &[u8],
     status: u32,
     next: usize,
-    known: bool,
+    form: Form,
     base: usize,
     headers: &mut [u32],
 ) -> HeadRead
     requires { ⌜ (now t ≡ classes) × (next ≤ length (now s)) × (length (now s) < placesEnd) × (base * 4 + sectionRoom ≤ length (now headers))
         × FinalStatus status ⌝ }
-    ensures { λ r. ⌜ Headed AnyHeads (λ f is told. afterFinalStatus told known is status next (drop next (now (s .entry))))
-        known (now (s .entry)) base (now (headers .entry)) (now (headers .exit)) r ⌝ }
+    ensures { λ r. ⌜ Headed AnyHeads (λ f is told. afterFinalStatus told form is status next (drop next (now (s .entry))))
+        form (now (s .entry)) base (now (headers .entry)) (now (headers .exit)) r ⌝ }
 {
-    let h = read_section(t, s, next, known, true, base, headers);
+    let h = header_section(t, s, next, form, true, base, headers);
     match h {
         Section::Refused { number, place } => return HeadRead::Refused { number, place },
         Section::Done { end, kept, notes } => return HeadRead::Final {
@@ -83,14 +85,14 @@ pub(crate) fn next_head(
     t: &[u8; 256],
     s: &[u8],
     i: usize,
-    known: bool,
+    form: Form,
     count: usize,
     base: usize,
     headers: &mut [u32],
 ) -> HeadRead
     requires { ⌜ (now t ≡ classes) × (length (now s) < placesEnd) × (base * 4 + sectionRoom ≤ length (now headers)) × (count ≤ informationalMost) ⌝ }
-    ensures { λ r. ⌜ Headed (SoManyHeads count) (λ f is told. heads told known (suc f) is i (drop i (now (s .entry))))
-        known (now (s .entry)) base (now (headers .entry)) (now (headers .exit)) r ⌝ }
+    ensures { λ r. ⌜ Headed (SoManyHeads count) (λ f is told. heads told form (suc f) is i (drop i (now (s .entry))))
+        form (now (s .entry)) base (now (headers .entry)) (now (headers .exit)) r ⌝ }
 {
     let n = read_int(s, i);
     let Integer::Value { value, next } = n else {
@@ -104,14 +106,14 @@ pub(crate) fn next_head(
         let status = value as u32;
         if is_informational(value) {
             if Limits::fits(count + 1, Limits::INFORMATIONAL) {
-                return after_informational_status(t, s, status, next, known, base, headers);
+                return after_informational_status(t, s, status, next, form, base, headers);
             }
             return HeadRead::Refused {
                 number: Refusals::TOO_LARGE,
                 place: i,
             };
         } else {
-            return after_final_status(t, s, status, next, known, base, headers);
+            return after_final_status(t, s, status, next, form, base, headers);
         }
     } else {
         return HeadRead::Refused {
@@ -127,20 +129,20 @@ pub(crate) fn read_heads(
     t: &[u8; 256],
     s: &[u8],
     from: usize,
-    known: bool,
+    form: Form,
     headers: &mut [u32],
     informational: &mut [u32],
 ) -> HeadsRead
     requires { ⌜ (now t ≡ classes) × (length (now s) < placesEnd)
         × (headsRoom ≤ length (now headers)) × (informationalRoom ≤ length (now informational)) ⌝ }
-    ensures { λ r. ⌜ HeadsTaken (λ told. responseMessage told known from (drop from (now (s .entry)))) known (now (s .entry))
+    ensures { λ r. ⌜ HeadsTaken (λ told. responseMessage told form from (drop from (now (s .entry)))) form (now (s .entry))
         (now (headers .entry)) (now (headers .exit)) (now (informational .entry)) (now (informational .exit)) r ⌝ }
 {
     let mut i = from;
     let mut count: usize = 0;
     let mut base: usize = 0;
     loop {
-        let h = next_head(t, s, i, known, count, base, headers);
+        let h = next_head(t, s, i, form, count, base, headers);
         match h {
             HeadRead::Refused { number, place } => return HeadsRead::Refused { number, place },
             HeadRead::Final {

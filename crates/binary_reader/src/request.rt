@@ -2,11 +2,12 @@
 use crate::HeadAnswer;
 use crate::RestRead;
 use crate::rest::after_headers;
+use binary::Form;
 use binary_parts::ControlRead;
 use binary_parts::Section;
 use binary_parts::Span;
 use binary_parts::control::request_control;
-use binary_parts::lines::read_section;
+use binary_parts::lines::header_section;
 use messages::Authority;
 use messages::Counts;
 use messages::Notes;
@@ -106,7 +107,7 @@ fn request_outcome(
 fn after_head(
     t: &[u8; 256],
     s: &[u8],
-    known: bool,
+    form: Form,
     method: Span,
     scheme: u32,
     authority: Span,
@@ -120,7 +121,7 @@ fn after_head(
     requires { ⌜ (now t ≡ classes) × (end ≤ length (now s)) × (length (now s) < placesEnd)
         × Inside (now s) method × Inside (now s) authority × Inside (now s) path
         × (chunksRoom ≤ length (now chunks)) × (sectionRoom ≤ length (now trailers)) ⌝ }
-    ensures { λ r. ⌜ RequestRest (now (s .entry)) known (controlOf (now (s .entry)) method scheme authority path) end fields notes
+    ensures { λ r. ⌜ RequestRest (now (s .entry)) form (controlOf (now (s .entry)) method scheme authority path) end fields notes
         (now (chunks .entry)) (now (chunks .exit)) (now (trailers .entry)) (now (trailers .exit)) r ⌝ }
 {
     let f = notes.framing;
@@ -128,7 +129,7 @@ fn after_head(
     match j {
         HeadAnswer::Refused { number, place } => return Outcome::Refusal { number, place },
         HeadAnswer::Good { start, len } => {
-            let c = after_headers(t, s, end, known, true, f, chunks, trailers);
+            let c = after_headers(t, s, end, form, true, f, chunks, trailers);
             let found = Span { start, len };
             return request_outcome(c, s.len(), scheme, method, found, path, fields);
         }
@@ -139,7 +140,7 @@ fn after_head(
 fn after_control(
     t: &[u8; 256],
     s: &[u8],
-    known: bool,
+    form: Form,
     method: Span,
     scheme: u32,
     authority: Span,
@@ -152,16 +153,16 @@ fn after_control(
     requires { ⌜ (now t ≡ classes) × (from ≤ length (now s)) × (length (now s) < placesEnd)
         × Inside (now s) method × Inside (now s) authority × Inside (now s) path
         × (sectionRoom ≤ length (now headers)) × (chunksRoom ≤ length (now chunks)) × (sectionRoom ≤ length (now trailers)) ⌝ }
-    ensures { λ r. ⌜ Requested (afterControl known (controlOf (now (s .entry)) method scheme authority path) from (drop from (now (s .entry))))
+    ensures { λ r. ⌜ Requested (afterControl form (controlOf (now (s .entry)) method scheme authority path) from (drop from (now (s .entry))))
         (now (headers .entry)) (now (headers .exit)) (now (chunks .entry)) (now (chunks .exit)) (now (trailers .entry)) (now (trailers .exit)) r ⌝ }
 {
-    let h = read_section(t, s, from, known, false, 0, headers);
+    let h = header_section(t, s, from, form, false, 0, headers);
     match h {
         Section::Refused { number, place } => return Outcome::Refusal { number, place },
         Section::Done { end, kept, notes } => return after_head(
             t,
             s,
-            known,
+            form,
             method,
             scheme,
             authority,
@@ -180,14 +181,14 @@ pub(crate) fn request_in(
     t: &[u8; 256],
     s: &[u8],
     from: usize,
-    known: bool,
+    form: Form,
     headers: &mut [u32],
     chunks: &mut [u32],
     trailers: &mut [u32],
 ) -> Outcome
     requires { ⌜ (now t ≡ classes) × (length (now s) < placesEnd)
         × (sectionRoom ≤ length (now headers)) × (chunksRoom ≤ length (now chunks)) × (sectionRoom ≤ length (now trailers)) ⌝ }
-    ensures { λ r. ⌜ Requested (requestMessage known from (drop from (now (s .entry))))
+    ensures { λ r. ⌜ Requested (requestMessage form from (drop from (now (s .entry))))
         (now (headers .entry)) (now (headers .exit)) (now (chunks .entry)) (now (chunks .exit)) (now (trailers .entry)) (now (trailers .exit)) r ⌝ }
 {
     let c = request_control(t, s, from);
@@ -202,7 +203,7 @@ pub(crate) fn request_in(
         } => return after_control(
             t,
             s,
-            known,
+            form,
             method,
             scheme,
             authority,

@@ -4,6 +4,7 @@ use crate::HeadsRead;
 use crate::RestRead;
 use crate::heads::read_heads;
 use crate::rest::after_headers;
+use binary::Form;
 use messages::BodyAnswer;
 use messages::Counts;
 use messages::Framing;
@@ -92,7 +93,7 @@ fn after_final(
     t: &[u8; 256],
     s: &[u8],
     told: Told,
-    known: bool,
+    form: Form,
     status: u32,
     end: usize,
     heads: usize,
@@ -103,7 +104,7 @@ fn after_final(
 ) -> Outcome
     requires { ⌜ (now t ≡ classes) × (end ≤ length (now s)) × (length (now s) < placesEnd)
         × (chunksRoom ≤ length (now chunks)) × (sectionRoom ≤ length (now trailers)) ⌝ }
-    ensures { λ r. ⌜ FinalRead told (now (s .entry)) known status end heads fields notes
+    ensures { λ r. ⌜ FinalRead told (now (s .entry)) form status end heads fields notes
         (now (chunks .entry)) (now (chunks .exit)) (now (trailers .entry)) (now (trailers .exit)) r ⌝ }
 {
     let f = notes.framing;
@@ -115,7 +116,7 @@ fn after_final(
             framing,
             stated,
         } => {
-            let c = after_headers(t, s, end, known, body, framing, chunks, trailers);
+            let c = after_headers(t, s, end, form, body, framing, chunks, trailers);
             return response_outcome(c, stated, s.len(), status, heads, fields);
         }
     }
@@ -127,7 +128,7 @@ pub(crate) fn response_in(
     s: &[u8],
     told: Told,
     from: usize,
-    known: bool,
+    form: Form,
     headers: &mut [u32],
     informational: &mut [u32],
     chunks: &mut [u32],
@@ -136,11 +137,11 @@ pub(crate) fn response_in(
     requires { ⌜ (now t ≡ classes) × (length (now s) < placesEnd)
         × (headsRoom ≤ length (now headers)) × (informationalRoom ≤ length (now informational))
         × (chunksRoom ≤ length (now chunks)) × (sectionRoom ≤ length (now trailers)) ⌝ }
-    ensures { λ r. ⌜ Responded (messageAnswer (responseMessage told known from (drop from (now (s .entry)))))
+    ensures { λ r. ⌜ Responded (messageAnswer (responseMessage told form from (drop from (now (s .entry)))))
         (now (headers .entry)) (now (headers .exit)) (now (informational .entry)) (now (informational .exit))
         (now (chunks .entry)) (now (chunks .exit)) (now (trailers .entry)) (now (trailers .exit)) r ⌝ }
 {
-    let h = read_heads(t, s, from, known, headers, informational);
+    let h = read_heads(t, s, from, form, headers, informational);
     match h {
         HeadsRead::Refused { number, place } => return Outcome::Refusal { number, place },
         HeadsRead::Done {
@@ -153,7 +154,7 @@ pub(crate) fn response_in(
             t,
             s,
             told,
-            known,
+            form,
             status,
             end,
             heads,

@@ -1,6 +1,7 @@
 // What stands behind a header section: content, trailers, padding.
 use crate::RestRead;
 use crate::TrailersRead;
+use binary::Form;
 use binary_parts::ContentRead;
 use binary_parts::Padding;
 use binary_parts::Section;
@@ -39,17 +40,17 @@ fn read_trailers(
     t: &[u8; 256],
     s: &[u8],
     from: usize,
-    known: bool,
+    form: Form,
     body: bool,
     out: &mut [u32],
 ) -> TrailersRead
     requires { ⌜ (now t ≡ classes) × (from ≤ length (now s)) × (length (now s) < placesEnd) × (sectionRoom ≤ length (now out)) ⌝ }
-    ensures { λ r. ⌜ Trailed (now (s .entry)) (trailers known body from (drop from (now (s .entry)))) (now (out .entry)) (now (out .exit)) r ⌝ }
+    ensures { λ r. ⌜ Trailed (now (s .entry)) (trailers form body from (drop from (now (s .entry)))) (now (out .entry)) (now (out .exit)) r ⌝ }
 {
     if s.len() <= from {
         return TrailersRead::Done { end: from, kept: 0 };
     }
-    let h = read_section(t, s, from, known, false, 0, out);
+    let h = read_section(t, s, from, form, false, 0, out);
     match h {
         Section::Refused { number, place } => return TrailersRead::Refused { number, place },
         Section::Done { end, kept, notes } => {
@@ -69,20 +70,20 @@ fn after_content(
     t: &[u8; 256],
     s: &[u8],
     from: usize,
-    known: bool,
+    form: Form,
     body: bool,
     count: usize,
     total: usize,
     trailers: &mut [u32],
 ) -> RestRead
     requires { ⌜ (now t ≡ classes) × (from ≤ length (now s)) × (length (now s) < placesEnd) × (sectionRoom ≤ length (now trailers)) ⌝ }
-    ensures { λ r. ⌜ Behind (now (s .entry)) from known body count total (now (trailers .entry)) (now (trailers .exit)) r ⌝ }
+    ensures { λ r. ⌜ Behind (now (s .entry)) from form body count total (now (trailers .entry)) (now (trailers .exit)) r ⌝ }
 {
-    let h = read_trailers(t, s, from, known, body, trailers);
+    let h = read_trailers(t, s, from, form, body, trailers);
     match h {
         TrailersRead::Refused { number, place } => return RestRead::Refused { number, place },
         TrailersRead::Done { end, kept } => {
-            let z = check_padding(s, end);
+            let z = check_padding(s, end, form);
             match z {
                 Padding::Clean => return RestRead::Done {
                     chunks: count,
@@ -104,7 +105,7 @@ pub(crate) fn after_headers(
     t: &[u8; 256],
     s: &[u8],
     from: usize,
-    known: bool,
+    form: Form,
     body: bool,
     framing: Framing,
     chunks: &mut [u32],
@@ -112,9 +113,10 @@ pub(crate) fn after_headers(
 ) -> RestRead
     requires { ⌜ (now t ≡ classes) × (from ≤ length (now s)) × (length (now s) < placesEnd)
         × (chunksRoom ≤ length (now chunks)) × (sectionRoom ≤ length (now trailers)) ⌝ }
-    ensures { λ r. ⌜ Rested (now (s .entry)) from known body framing
+    ensures { λ r. ⌜ Rested (now (s .entry)) from form body framing
         (now (chunks .entry)) (now (chunks .exit)) (now (trailers .entry)) (now (trailers .exit)) r ⌝ }
 {
+    let known = form.known;
     let c = read_content(s, from, known, chunks);
     match c {
         ContentRead::Refused { number, place } => return RestRead::Refused { number, place },
@@ -124,7 +126,7 @@ pub(crate) fn after_headers(
             total,
         } => {
             if content_agrees(framing, body, total) {
-                return after_content(t, s, end, known, body, count, total, trailers);
+                return after_content(t, s, end, form, body, count, total, trailers);
             }
             return RestRead::Refused {
                 number: Refusals::BAD_LENGTH,

@@ -1,9 +1,11 @@
 // Whole messages, the framing indicator first.
 use crate::request::request_in;
 use crate::response::response_in;
+use binary::Form;
 use messages::Outcome;
 use messages::Reading;
 use messages::Told;
+use messages::call::is_edition;
 use numbers::Integer;
 use numbers::read_int;
 use octets::Limits;
@@ -15,9 +17,29 @@ ghost use Prim.Native.Nat.{_≤_, _<_};
 ghost use lib.ListN.{length, drop};
 ghost use Rattle.octets.specs.Table.{classes};
 ghost use Rattle.messages.specs.Answers.{readingOf};
-ghost use Rattle.binary.specs.Read.{afterIndicator, messageAnswer, readBinary};
+ghost use Rattle.binary.specs.Read.{formOf, afterIndicator, messageAnswer, readSized, readBinary};
 ghost use Rattle.ranges.specs.Ranges.{placesEnd, Responded};
 ghost use Rattle.messages.specs.Room.{sectionRoom, headsRoom, informationalRoom, chunksRoom};
+
+// What an edition allows, of messages of known or of indeterminate length.
+fn form_of(edition: u32, known: bool) -> Form
+    ensures { λ r. ⌜ r ≡ formOf edition known ⌝ }
+{
+    if edition == 0 {
+        return Form {
+            known,
+            empty: true,
+            padded: true,
+            headless: false,
+        };
+    }
+    Form {
+        known,
+        empty: false,
+        padded: false,
+        headless: true,
+    }
+}
 
 // What stands behind the framing indicator, which ends at `from`.
 fn after_indicator(
@@ -39,15 +61,17 @@ fn after_indicator(
         (now (chunks .entry)) (now (chunks .exit)) (now (trailers .entry)) (now (trailers .exit)) r ⌝ }
 {
     if indicator == 0 {
-        return request_in(t, s, from, true, headers, chunks, trailers);
+        let form = form_of(told.edition, true);
+        return request_in(t, s, from, form, headers, chunks, trailers);
     }
     if indicator == 1 {
+        let form = form_of(told.edition, true);
         return response_in(
             t,
             s,
             told,
             from,
-            true,
+            form,
             headers,
             informational,
             chunks,
@@ -55,15 +79,17 @@ fn after_indicator(
         );
     }
     if indicator == 2 {
-        return request_in(t, s, from, false, headers, chunks, trailers);
+        let form = form_of(told.edition, false);
+        return request_in(t, s, from, form, headers, chunks, trailers);
     }
     if indicator == 3 {
+        let form = form_of(told.edition, false);
         return response_in(
             t,
             s,
             told,
             from,
-            false,
+            form,
             headers,
             informational,
             chunks,
@@ -76,8 +102,8 @@ fn after_indicator(
     }
 }
 
-// The message that s is, as told: its outcome, and the ranges of an accepted one in the lent space.
-pub fn binary_in(
+// The message that s is in an edition: its outcome, and the ranges of an accepted one in the lent space.
+fn sized_in(
     t: &[u8; 256],
     s: &[u8],
     told: Told,
@@ -89,7 +115,7 @@ pub fn binary_in(
     requires { ⌜ (now t ≡ classes)
         × (headsRoom ≤ length (now headers)) × (informationalRoom ≤ length (now informational))
         × (chunksRoom ≤ length (now chunks)) × (sectionRoom ≤ length (now trailers)) ⌝ }
-    ensures { λ r. ⌜ Responded (readBinary told (now (s .entry)))
+    ensures { λ r. ⌜ Responded (readSized told (now (s .entry)))
         (now (headers .entry)) (now (headers .exit)) (now (informational .entry)) (now (informational .exit))
         (now (chunks .entry)) (now (chunks .exit)) (now (trailers .entry)) (now (trailers .exit)) r ⌝ }
 {
@@ -115,6 +141,32 @@ pub fn binary_in(
     }
     Outcome::Refusal {
         number: Refusals::TOO_LARGE,
+        place: 0,
+    }
+}
+
+// The message that s is, as told: its outcome, and the ranges of an accepted one in the lent space.
+pub fn binary_in(
+    t: &[u8; 256],
+    s: &[u8],
+    told: Told,
+    headers: &mut [u32],
+    informational: &mut [u32],
+    chunks: &mut [u32],
+    trailers: &mut [u32],
+) -> Outcome
+    requires { ⌜ (now t ≡ classes)
+        × (headsRoom ≤ length (now headers)) × (informationalRoom ≤ length (now informational))
+        × (chunksRoom ≤ length (now chunks)) × (sectionRoom ≤ length (now trailers)) ⌝ }
+    ensures { λ r. ⌜ Responded (readBinary told (now (s .entry)))
+        (now (headers .entry)) (now (headers .exit)) (now (informational .entry)) (now (informational .exit))
+        (now (chunks .entry)) (now (chunks .exit)) (now (trailers .entry)) (now (trailers .exit)) r ⌝ }
+{
+    if is_edition(told.edition) {
+        return sized_in(t, s, told, headers, informational, chunks, trailers);
+    }
+    Outcome::Refusal {
+        number: Refusals::BAD_EDITION,
         place: 0,
     }
 }

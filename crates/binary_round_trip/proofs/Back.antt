@@ -15,13 +15,14 @@ use Rattle.messages.specs.Message.{isResponse}
 use Rattle.messages.specs.Names.{keptTrailers}
 use Rattle.messages.specs.Meaning.{Control, request, response, controlMeans, Meaning, meaning}
 use Rattle.messages.specs.Control.{endsAtHead}
-use Rattle.messages.specs.Valid.{validControl, validBody, ofResponse, valid, suits}
+use Rattle.messages.specs.Valid.{validControl, validBody, ofResponse, valid, suitsControl, suits}
 use Rattle.messages.specs.declared.Told.{Told}
+use Rattle.messages.specs.Told.{isEdition, inEdition}
 use Rattle.messages.proofs.Valid.{section-fields, section-few, response-ok, meaning-ok}
 use Rattle.messages.proofs.Stating.{never-stated, stated-few, suited}
 use Rattle.messages.proofs.ValidLines.{content-back}
 use Rattle.binary.specs.Reader.{got, Reader, _>>=_, integer}
-use Rattle.binary.specs.Read.{afterIndicator, message, readBinary}
+use Rattle.binary.specs.Read.{formOf, afterIndicator, message, readSized, readBinary}
 use Rattle.binary_writer.specs.Write.{counted, sectionBytes, schemeBytes, informationalBytes, controlBytes, binaryOf, binaryFits}
 use Rattle.binary_round_trip.specs.RoundTrip.{startOf, headerOf, placedFrom, placedBinary, RoundTrip, RoundTripOfMeanings}
 use Rattle.binary_round_trip.proofs.Judgement.{Reads, reads-integer, reads-bind}
@@ -83,10 +84,12 @@ unfolding validBody
 body-told t w (request m s a p) e u = refl
 body-told t w (response hs s) e u = suited t w hs s e u .body
 
-control-back : (t : Told) (c : Control) (w : Meaning) → w .control ≡ c → suits t w ≡ true → validControl c ≡ true → TailOk (ofResponse c) (bodyTold t c) w
+-- told t otherwise, in the edition that is written
+control-back : (t : Told) (c : Control) (w : Meaning) → w .control ≡ c → suits (inEdition 0 t) w ≡ true → validControl c ≡ true
+    → TailOk (ofResponse c) (bodyTold (inEdition 0 t) c) w
     → length (controlRest c) ≤ binaryMost
-    → Reads (message t) 0 (intBytes (indicatorOf c) ++ (controlRest c ++ tailBytes w)) [] (placedFrom (startOf c) (1 + length (controlRest c)) w)
-unfolding message afterIndicator startOf
+    → Reads (message (inEdition 0 t)) 0 (intBytes (indicatorOf c) ++ (controlRest c ++ tailBytes w)) [] (placedFrom (startOf c) (1 + length (controlRest c)) w)
+unfolding message afterIndicator formOf startOf
 control-back t (request m s a p) w e u v ok h =
     reads-indicator 0 _ (lit< tt) (reads-request-message w m a p s 1 v ok (never-stated (w .stated) w (rw e) (ok .stated)))
 control-back t (response hs s) w e u v ok h =
@@ -95,7 +98,7 @@ control-back t (response hs s) w e u v ok h =
     let b = both-fit (informationalBytes hs) (intBytes s) h in
     rw (append-assoc (informationalBytes hs) (intBytes s) (tailBytes w))
     (reads-indicator 1 _ (lit< tt)
-    (reads-response t w hs s e (suited t w hs s e u) (o .status) (o .late) ok hs (suc informationalMost) 1 [] (o .heads) (omega arith) (omega arith) (b .0)))
+    (reads-response (inEdition 0 t) w hs s e (suited (inEdition 0 t) w hs s e u) (o .status) (o .late) ok hs (suc informationalMost) 1 [] (o .heads) (omega arith) (omega arith) (b .0)))
 
 -- ---- the message
 
@@ -125,20 +128,20 @@ fits-of m h =
     let f4 = both-fit (counted (m .content)) (sectionBytes (m .trailers)) (f3 .1) in
     record { control = f2 .0; headers = f3 .0; content = f4 .0; trailers = f4 .1 }
 
-message-back : (t : Told) (m : Meaning) → valid m ≡ true → suits t m ≡ true → length (binaryOf m) ≤ binaryMost
-    → Reads (message t) 0 (binaryOf m) [] (placedBinary m)
+message-back : (t : Told) (m : Meaning) → valid m ≡ true → suits (inEdition 0 t) m ≡ true → length (binaryOf m) ≤ binaryMost
+    → Reads (message (inEdition 0 t)) 0 (binaryOf m) [] (placedBinary m)
 unfolding placedBinary
 message-back t m v u h =
     let o = meaning-ok m v in
     let f = fits-of m h in
-    let k : TailOk (ofResponse (m .control)) (bodyTold t (m .control)) m = record {
+    let k : TailOk (ofResponse (m .control)) (bodyTold (inEdition 0 t) (m .control)) m = record {
       headers = o .headers;
       lines = stated-few m (section-few _ (m .headers) (o .headers)) (o .stated);
       headersFit = f .headers;
       content = o .content;
       trailers = o .trailers;
       trailersFit = f .trailers;
-      bodyRule = body-told t m (m .control) refl u;
+      bodyRule = body-told (inEdition 0 t) m (m .control) refl u;
       stated = o .stated;
     } in
     rw (binary-bytes m, ← control-length (m .control)) (control-back t (m .control) m refl u (o .control) k (f .control))
@@ -165,11 +168,21 @@ meaning-back m v =
 
 -- ---- the claims
 
+-- what a meaning suits has nothing to do with the edition
+suits-edition : (t : Told) (m : Meaning) → suits t m ≡ true → suits (inEdition 0 t) m ≡ true
+unfolding suits endsAtHead
+suits-edition t m u = on (m .control) u
+  where
+    on : (c : Control) → suitsControl t c m ≡ true → suitsControl (inEdition 0 t) c m ≡ true
+    on (request n s a p) h = h
+    on (response hs s) h = h
+
 pub round-trip : RoundTrip
-unfolding readBinary binaryFits
+unfolding readBinary readSized binaryFits isEdition
 round-trip = λ t m v u f.
     let h = leb-true (length (binaryOf m)) binaryMost f in
-    let r : message t 0 (binaryOf m) ≡ got (placedBinary m) (0 + length (binaryOf m)) [] = rw append-nil at (message-back t m v u h .go) in
+    let r : message (inEdition 0 t) 0 (binaryOf m) ≡ got (placedBinary m) (0 + length (binaryOf m)) [] =
+    rw append-nil at (message-back t m v (suits-edition t m u) h .go) in
     let e : 0 + length (binaryOf m) ≡ length (binaryOf m) = omega arith in
     (rw (f, r, e), meaning-back m v)
 

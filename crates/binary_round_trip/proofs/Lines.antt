@@ -19,7 +19,7 @@ use Rattle.messages.specs.Meaning.{Field}
 use Rattle.messages.proofs.Verdicts.{name-rule}
 use Rattle.messages.proofs.Stating.{LineOk, LinesOk}
 use Rattle.binary.specs.Reader.{Got, got}
-use Rattle.binary.specs.Read.{judgedLine, afterNameLength, knownLine, knownLines, onBody, bodyLines, knownSection, section}
+use Rattle.binary.specs.Read.{rfc9292, isLineValue, judgedLine, afterNameLength, knownLine, knownLines, onBody, bodyLines, knownSection, section}
 use Rattle.binary_writer.specs.Write.{counted, fieldBytes, fieldsBytes, sectionBytes}
 use Rattle.binary_round_trip.specs.RoundTrip.{lineAt, linesAt, sectionAt}
 use Rattle.binary_round_trip.proofs.Judgement.{Reads, reads-none, reads-give, reads-here, reads-ended, reads-tell, reads-integer, reads-octets, reads-bind, before, behind, reads-as}
@@ -36,8 +36,8 @@ unfolding counted
 counted-fits w h = both-fit (intBytes (length w)) w h .1
 
 line-good : (f : Field) (p i j : ℕ) → LineOk f
-    → judgedLine p (piece i (f .name)) (piece j (f .value)) ≡ good (record { name = piece i (f .name); value = piece j (f .value); place = p })
-unfolding judgedLine
+    → judgedLine (rfc9292 true) p (piece i (f .name)) (piece j (f .value)) ≡ good (record { name = piece i (f .name); value = piece j (f .value); place = p })
+unfolding judgedLine isLineValue
 line-good f p i j ok = rw (ok .name, ok .value)
 
 line-named : (f : Field) → LineOk f → eqb (length (f .name)) 0 ≡ false
@@ -45,7 +45,7 @@ unfolding isEmpty
 line-named f ok = not-empty (f .name) (name-rule (f .name) (ok .name) .0)
 
 reads-line : (f : Field) (at : ℕ) (rest : List ℕ) → LineOk f → length (fieldBytes f) ≤ binaryMost
-    → Reads knownLine at (fieldBytes f) rest (lineAt at f)
+    → Reads (knownLine (rfc9292 true)) at (fieldBytes f) rest (lineAt at f)
 unfolding knownLine afterNameLength fieldBytes counted
 reads-line f at rest ok h =
     let n : List ℕ = f .name in
@@ -82,7 +82,7 @@ none-left = refl
 
 reads-lines : (hs : List Field) (f at : ℕ) (fs : List FieldRead) → LinesOk hs → length hs < f
     → length fs + length hs ≤ linesMost → length (fieldsBytes hs) ≤ binaryMost
-    → Reads (knownLines f fs) at (fieldsBytes hs) [] (fs ++ linesAt at hs)
+    → Reads (knownLines (rfc9292 true) f fs) at (fieldsBytes hs) [] (fs ++ linesAt at hs)
 unfolding knownLines fieldsBytes linesAt
 reads-lines [] zero at fs v h g k = absurd (omega arith)
 reads-lines (x ∷ hs) zero at fs v h g k = absurd (omega arith)
@@ -101,12 +101,12 @@ reads-lines (x ∷ hs) (suc f) at fs v h g k =
 -- ---- a section
 
 pub reads-section : (fs : List Field) (at : ℕ) (rest : List ℕ) → LinesOk fs → length fs ≤ linesMost → length (sectionBytes fs) ≤ binaryMost
-    → Reads (section true) at (sectionBytes fs) rest (record { lines = sectionAt at fs; end = at + length (sectionBytes fs) })
+    → Reads (section (rfc9292 true)) at (sectionBytes fs) rest (record { lines = sectionAt at fs; end = at + length (sectionBytes fs) })
 unfolding section knownSection bodyLines sectionBytes
 reads-section fs at rest v q h =
     let b = counted-fits (fieldsBytes fs) h in
     let at2 : ℕ = at + length (intBytes (length (fieldsBytes fs))) in
     let r = reads-lines fs (suc linesMost) at2 [] v (omega arith) (omega arith) b in
-    let e : knownLines (suc linesMost) [] at2 (fieldsBytes fs) ≡ got (linesAt at2 fs) (at2 + length (fieldsBytes fs)) [] = rw append-nil at (r .go) in
+    let e : knownLines (rfc9292 true) (suc linesMost) [] at2 (fieldsBytes fs) ≡ got (linesAt at2 fs) (at2 + length (fieldsBytes fs)) [] = rw append-nil at (r .go) in
     behind _ (behind _ (reads-part at (fieldsBytes fs) rest (omega arith)) (reads-none (ap (λ (z : Got (List FieldRead)). onBody z (at + length (counted (fieldsBytes fs))) rest) e)))
     (before _ (reads-here _ _) (reads-give _ rest _))

@@ -30,8 +30,8 @@ use Rattle.messages.proofs.Valid.{section-fields, section-few, head-ok, request
 use Rattle.messages.proofs.Stating.{fields-ok, stated-lines, framingFor, stated-back, bodyless-good, Suited}
 use Rattle.messages.proofs.ValidLines.{content-back}
 use Rattle.binary.specs.Reader.{rule, integer}
-use Rattle.binary.specs.Read.{knownContent, content, contentAgrees, contentRule, trailersAgree, trailerRule, trailers, padding, afterContent, afterHeaders, afterHead, afterControl}
-use Rattle.binary.specs.Read.{section, requestMessage, afterFinal, afterFinalStatus, afterInformational, afterInformationalStatus, heads}
+use Rattle.binary.specs.Read.{rfc9292, knownContent, content, contentAgrees, contentRule, trailersAgree, trailerRule, trailers, padding, afterContent, afterHeaders, afterHead, afterControl}
+use Rattle.binary.specs.Read.{headerSection, requestMessage, afterFinal, afterFinalStatus, afterInformational, afterInformationalStatus, heads}
 use Rattle.binary_writer.specs.Write.{counted, fieldsBytes, sectionBytes, schemeBytes, informationalBytes}
 use Rattle.binary_round_trip.specs.RoundTrip.{countedAt, linesAt, sectionAt, headAt, headsAt, headerOf, placedFrom}
 use Rattle.binary_round_trip.proofs.Judgement.{Reads, reads-none, reads-give, reads-here, reads-ended, reads-tell, reads-integer, reads-bind, before, behind, reads-as}
@@ -93,7 +93,7 @@ unfolding trailerRule trailersAgree keptTrailers
 trailers-good body end at ts v h = rw (are-trailers ts _ v, kept-all false ts _ v, as-many ts _, agreed body (noFields ts) h)
 
 reads-trailers : (body : Bool) (ts : List Field) (at : ℕ) (rest : List ℕ) → validSection false ts ≡ true → length (sectionBytes ts) ≤ binaryMost
-    → (body || noFields ts) ≡ true → Reads (trailers true body) at (sectionBytes ts) rest (sectionAt at ts)
+    → (body || noFields ts) ≡ true → Reads (trailers (rfc9292 true) body) at (sectionBytes ts) rest (sectionAt at ts)
 unfolding trailers sectionBytes
 reads-trailers body ts at rest v h b =
     let f = counted-fits (fieldsBytes ts) h in
@@ -101,24 +101,27 @@ reads-trailers body ts at rest v h b =
     before _ (reads-ended at _ false (counted-some (fieldsBytes ts) rest (omega arith)))
     (behind _ (reads-section ts at rest (fields-ok false ts o) (section-few false ts v) h) (reads-tell _ rest _ _ (trailers-good body _ at ts o b)))
 
-reads-padding : (at : ℕ) → Reads padding at [] [] at
+reads-padding : (at : ℕ) → Reads (padding (rfc9292 true)) at [] [] at
 unfolding padding
 reads-padding at = reads-none refl
 
 module _ (host body : Bool) (m : Meaning) (ok : TailOk host body m) where
   -- the header section, and what is behind it
   reads-header : (at : ℕ) (rest : List ℕ)
-      → Reads (section true) at (sectionBytes (headerOf m)) rest (record { lines = sectionAt at (headerOf m); end = at + length (sectionBytes (headerOf m)) })
+      → Reads (headerSection (rfc9292 true)) at (sectionBytes (headerOf m)) rest (record { lines = sectionAt at (headerOf m); end = at + length (sectionBytes (headerOf m)) })
+  unfolding headerSection sectionBytes
   reads-header at rest =
       let l = fields-ok host (m .headers) (section-fields host (m .headers) (ok .headers)) in
-      reads-section (headerOf m) at rest (stated-lines (m .stated) (m .headers) l) (ok .lines) (ok .headersFit)
+      let f = counted-fits (fieldsBytes (headerOf m)) (ok .headersFit) in
+      before _ (reads-ended at _ false (counted-some (fieldsBytes (headerOf m)) rest (omega arith)))
+      (before _ (reads-here at _) (reads-section (headerOf m) at rest (stated-lines (m .stated) (m .headers) l) (ok .lines) (ok .headersFit)))
 
   reads-bare : m .stated ≡ Missing → (at : ℕ) (rest : List ℕ)
-      → Reads (section true) at (sectionBytes (m .headers)) rest (record { lines = sectionAt at (m .headers); end = at + length (sectionBytes (m .headers)) })
+      → Reads (headerSection (rfc9292 true)) at (sectionBytes (m .headers)) rest (record { lines = sectionAt at (m .headers); end = at + length (sectionBytes (m .headers)) })
   reads-bare e at rest = rw e at (reads-header at rest)
 
   reads-after : (x : StatedLength) (start : Start) (h : Section) (at : ℕ)
-      → Reads (afterHeaders true body x start h Unstated) at (counted (m .content) ++ sectionBytes (m .trailers)) []
+      → Reads (afterHeaders (rfc9292 true) body x start h Unstated) at (counted (m .content) ++ sectionBytes (m .trailers)) []
       (statingMessage x start (h .lines) (nonEmpty (countedAt at (m .content))) (sectionAt (at + length (counted (m .content))) (m .trailers)))
   unfolding afterHeaders afterContent
   reads-after x start h at =
@@ -155,7 +158,7 @@ requestAt at m s a p =
     (countedAt (at + length (counted m) + length (counted (schemeBytes s)) + length (counted a)) p)
 
 pub reads-request-message : (w : Meaning) (m a p : List ℕ) (s at : ℕ) → validControl (request m s a p) ≡ true → TailOk false true w → w .stated ≡ Missing
-    → Reads (requestMessage true) at (requestBytes m s a p ++ tailBytes w) [] (placedFrom (requestAt at m s a p) (at + length (requestBytes m s a p)) w)
+    → Reads (requestMessage (rfc9292 true)) at (requestBytes m s a p ++ tailBytes w) [] (placedFrom (requestAt at m s a p) (at + length (requestBytes m s a p)) w)
 unfolding requestMessage afterControl afterHead placedFrom
 reads-request-message w m a p s at v ok e =
     rw e
@@ -180,7 +183,7 @@ module _ (t : Told) (w : Meaning) (hs : List Informational) (n : ℕ) (c : w .co
 
 reads-final : (t : Told) (w : Meaning) (hs : List Informational) (is : List InformationalRead) (n at : ℕ) → w .control ≡ response hs n → Suited t n w
     → (b : Bool) → endsAtHead t n ≡ b → TailOk true (not b) w
-    → Reads (afterFinalStatus t true is n) at (tailBytes w) [] (placedFrom (responseStart is n) at w)
+    → Reads (afterFinalStatus t (rfc9292 true) is n) at (tailBytes w) [] (placedFrom (responseStart is n) at w)
 unfolding afterFinalStatus afterFinal placedFrom
 reads-final t w hs is n at c s true e ok =
     reads-bind _ (reads-header true false w ok at _)
@@ -201,7 +204,7 @@ status-good n p e = rw e
 pub reads-response : (t : Told) (w : Meaning) (all : List Informational) (n : ℕ) → w .control ≡ response all n → Suited t n w
     → statusVerdict n ≡ 0 → isInformational n ≡ false → TailOk true (not (endsAtHead t n)) w → (hs : List Informational) (f at : ℕ) (is : List InformationalRead) → validHeads hs ≡ true → length hs < f
     → length is + length hs ≤ informationalMost → length (informationalBytes hs) ≤ binaryMost
-    → Reads (heads t true f is) at (informationalBytes hs ++ (intBytes n ++ tailBytes w)) []
+    → Reads (heads t (rfc9292 true) f is) at (informationalBytes hs ++ (intBytes n ++ tailBytes w)) []
     (placedFrom (responseStart (is ++ headsAt at hs) n) (at + length (informationalBytes hs ++ intBytes n)) w)
 unfolding heads afterInformationalStatus afterInformational informationalBytes headsAt
 reads-response t w all n c s e late ok [] zero at is v h g k = absurd (omega arith)

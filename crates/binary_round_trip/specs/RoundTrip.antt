@@ -12,6 +12,7 @@ use Rattle.messages.specs.Message.{FieldRead, InformationalRead, Start, request
 use Rattle.messages.specs.Meaning.{Field, Informational, Control, request, response, Meaning, meaning, statedFields}
 use Rattle.messages.specs.Valid.{valid, suits}
 use Rattle.messages.specs.declared.Told.{Told}
+use Rattle.messages.specs.Told.{inEdition}
 use Rattle.binary.specs.Read.{readBinary}
 use Rattle.binary_writer.specs.Write.{counted, fieldBytes, fieldsBytes, sectionBytes, schemeBytes, controlBytes, binaryOf, binaryFits}
 
@@ -71,9 +72,10 @@ placedBinary m = placedFrom (startOf (m .control)) (length (controlBytes (m .con
 
 -- ---- the claims
 
--- a meaning that can be read, written within the size of a Binary input, is read to its last octet, told t, and the message read has that meaning
+-- we write RFC 9292, whatever edition was read (02, item 7): a meaning that can be read, written within the size of a Binary input, is read to its last octet,
+-- told t otherwise, and the message read has that meaning
 abbrev pub ReadsBack : Told → Meaning → Type 0
-ReadsBack t m = (readBinary t (binaryOf m) ≡ accepted (length (binaryOf m)) (placedBinary m)) × (meaning (placedBinary m) ≡ m)
+ReadsBack t m = (readBinary (inEdition 0 t) (binaryOf m) ≡ accepted (length (binaryOf m)) (placedBinary m)) × (meaning (placedBinary m) ≡ m)
 
 -- every meaning that can be read by a reader told so and fits is read back
 abbrev pub RoundTrip : Type 0
@@ -83,7 +85,7 @@ RoundTrip = (t : Told) (m : Meaning) → valid m ≡ true → suits t m ≡ true
 abbrev pub RoundTripOfMeanings : Type 0
 RoundTripOfMeanings =
     (t : Told) (m : Meaning) → valid m ≡ true → suits t m ≡ true → binaryFits m ≡ true
-    → means meaning (readBinary t (binaryOf m)) ≡ accepted (length (binaryOf m)) m
+    → means meaning (readBinary (inEdition 0 t) (binaryOf m)) ≡ accepted (length (binaryOf m)) m
 
 -- equal octets are equal meanings, whatever a reader of either is told: where one of them states a length, its line is in both, and no kept field is one
 abbrev pub Unique : Type 0

@@ -20,6 +20,7 @@ use Rattle.messages.specs.Valid.{noFields, validBody}
 use Rattle.messages.specs.declared.Framing.{Framing}
 use Rattle.messages.specs.declared.StatedLength.{StatedLength}
 use Rattle.binary.specs.Reader.{no}
+use Rattle.binary.specs.declared.Form.{Form}
 use Rattle.binary.specs.Read.{knownContent, openChunks, content, contentAgrees, contentRule, trailersAgree, trailerRule, trailers, padding, afterContent, afterHeaders}
 use Rattle.sound.proofs.Each.{content-snoc}
 use Rattle.sound.proofs.Parts.{ChunksAt, chunks-none, chunks-snoc, chunks-one}
@@ -105,27 +106,27 @@ module _ {s : List ℕ} {e : ℕ} where
       stops-if b (λ t. stops-give (chunks-none s)) λ t.
       stops-if known (λ u. every-known-content) (λ u. every-chunks (suc chunksMost) [] 0 (chunks-none s) refl))
 
-  every-trailers : {at : ℕ} (known body : Bool) → Every s e (λ n ts. LinesAt s ts × GoodTrailers body ts) at (trailers known body)
+  every-trailers : {at : ℕ} (form : Form) (body : Bool) → Every s e (λ n ts. LinesAt s ts × GoodTrailers body ts) at (trailers form body)
   unfolding trailers
-  every-trailers known body =
+  every-trailers form body =
       stops-bind _ (stops-ended λ b.
       stops-if b (λ t. stops-give (lines-none s, named-none body)) λ t.
-      stops-then _ (every-section known) λ i h g.
+      stops-then _ (every-section form) λ i h g.
       every-tell (trailerRule body h) λ ts q. let r = trailers-are body h ts q in (subst (LinesAt s) (r .0) g, subst (GoodTrailers body) (r .0) (r .1)))
 
   -- to the end of the input
-  padded : (at : ℕ) (l : List ℕ) → Stands s e at l → Gets (λ n i z. Stands s e n i × (n ≡ e)) (padding at l)
+  padded : (form : Form) (at : ℕ) (l : List ℕ) → Stands s e at l → Gets (λ n i z. Stands s e n i × (n ≡ e)) (padding form at l)
   unfolding padding
-  padded at [] y = (y, omega (arith, y .ends))
-  padded at (b ∷ l) y = on (eqb b 0) (padded (at + 1) l (stands-on 1 (omega arith) y))
+  padded form at [] y = (y, omega (arith, y .ends))
+  padded form at (b ∷ l) y = on (cond (form .padded) (eqb b 0) false) (padded form (at + 1) l (stands-on 1 (omega arith) y))
     where
-      on : (t : Bool) → Gets (λ n i z. Stands s e n i × (n ≡ e)) (padding (at + 1) l)
-          → Gets (λ n i z. Stands s e n i × (n ≡ e)) (cond t (padding (at + 1) l) (no badPadding at))
+      on : (t : Bool) → Gets (λ n i z. Stands s e n i × (n ≡ e)) (padding form (at + 1) l)
+          → Gets (λ n i z. Stands s e n i × (n ≡ e)) (cond t (padding form (at + 1) l) (no badPadding at))
       on true ih = ih
       on false ih = tt
 
-  every-padding : {at : ℕ} → Every s e (λ n z. n ≡ e) at padding
-  every-padding {at} = record { go = λ l y. padded at l y }
+  every-padding : {at : ℕ} (form : Form) → Every s e (λ n z. n ≡ e) at (padding form)
+  every-padding {at} form = record { go = λ l y. padded form at l y }
 
 -- ---- behind the header section
 
@@ -135,14 +136,14 @@ pub record TailAt (s : List ℕ) (body : Bool) (f : Framing) (cs : List Piece) (
   pub trailers : LinesAt s ts
   pub named : GoodTrailers body ts
 
-pub every-after : {s : List ℕ} {e : ℕ} {P : ℕ → Message → Type 0} {at : ℕ} (known body : Bool) (stated : StatedLength) (start : Start) (h : Section) (f : Framing)
+pub every-after : {s : List ℕ} {e : ℕ} {P : ℕ → Message → Type 0} {at : ℕ} (form : Form) (body : Bool) (stated : StatedLength) (start : Start) (h : Section) (f : Framing)
     → ((cs : List Piece) (ts : List FieldRead) → TailAt s body f cs ts → P e (statingMessage stated start (h .lines) cs ts))
-    → Every s e P at (afterHeaders known body stated start h f)
+    → Every s e P at (afterHeaders form body stated start h f)
 unfolding afterHeaders afterContent
-every-after {s} {e} {P} known body stated start h f k =
-    stops-then _ (every-content known) λ i cs a.
+every-after {s} {e} {P} form body stated start h f k =
+    stops-then _ (every-content (form .known)) λ i cs a.
     stops-bind _ (every-here (stops-bind _ (every-tell (contentRule body f _ cs) λ c q.
     let r = content-is body f _ cs c q in
-    stops-then _ (every-trailers known body) λ j ts b.
-    stops-then _ every-padding λ n z p.
+    stops-then _ (every-trailers form body) λ j ts b.
+    stops-then _ (every-padding form) λ n z p.
     stops-give (rw (← p, r .0) at (k cs ts (record { chunks = a; filled = r .1; trailers = b .0; named = b .1 }))))))

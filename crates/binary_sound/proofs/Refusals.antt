@@ -8,14 +8,14 @@ use lib.Dec.{ltb, leb, eqb, lit≤}
 use lib.ListN.{length}
 use Rattle.octets.specs.Ascii.{ascii}
 use Rattle.octets.specs.Limits.{methodMost, authorityMost, pathMost, linesMost, chunksMost, contentMost, binaryMost, informationalMost}
-use Rattle.octets.specs.Refusals.{badSyntax, notSupported, badLength, tooLarge, cutOff, badSection, badPadding}
+use Rattle.octets.specs.Refusals.{badSyntax, notSupported, badLength, tooLarge, cutOff, badSection, badPadding, badEdition}
 use Rattle.octets.specs.Text.{sameText}
 use Rattle.octets.proofs.Kit.{either, into}
 use Rattle.script.specs.Script.{refused, Settled}
 use Rattle.script.specs.Do.{Piece, piece, good, wrong}
 use Rattle.script.proofs.Places.{lies-all, lies-in}
 use Rattle.messages.specs.Message.{FieldRead, Section, InformationalRead, Start, Message}
-use Rattle.messages.specs.Control.{methodVerdict, pathVerdict, authorityVerdict, statusVerdict, isInformational, endsAtHead, isLowerName, isTrimmedValue}
+use Rattle.messages.specs.Control.{methodVerdict, pathVerdict, authorityVerdict, statusVerdict, isInformational, endsAtHead, isLowerName}
 use Rattle.messages.specs.Meaning.{contentOf}
 use Rattle.messages.specs.Names.{areTrailers, keptTrailers}
 use Rattle.messages.specs.Rules.{authorityIn, binaryFramingOf, nothingStated, bodylessRule, mayState, statedIn}
@@ -24,11 +24,13 @@ use Rattle.messages.specs.declared.Framing.the-variants.{Unstated}
 use Rattle.messages.specs.declared.StatedLength.{StatedLength}
 use Rattle.messages.specs.declared.StatedLength.the-variants.{Missing}
 use Rattle.messages.specs.declared.Told.{Told}
+use Rattle.messages.specs.Told.{isEdition}
 use Rattle.binary.specs.Reader.{Got, got, no, Reader}
-use Rattle.binary.specs.Read.{part, partWithin, ruledPart, schemeOf, schemePart, afterScheme, requestControl, judgedLine, cutNumber, cutPlace, afterNameLength, knownLine, knownLines, onBody, bodyLines, knownSection, openLines, section}
+use Rattle.binary.specs.declared.Form.{Form}
+use Rattle.binary.specs.Read.{part, partWithin, ruledPart, schemeOf, schemePart, afterScheme, requestControl, isLineValue, judgedLine, cutNumber, cutPlace, afterNameLength, knownLine, knownLines, onBody, bodyLines, knownSection, openLines, section, headerSection}
 use Rattle.binary.specs.Read.{knownContent, openChunks, content, contentAgrees, contentRule, trailersAgree, trailerRule, trailers, padding, afterContent, afterHeaders}
 use Rattle.binary.specs.Read.{afterHead, afterControl, requestMessage, afterFinal, afterFinalStatus, afterInformational, afterInformationalStatus, heads}
-use Rattle.binary.specs.Read.{afterIndicator, message, messageAnswer, readBinary}
+use Rattle.binary.specs.Read.{afterIndicator, message, messageAnswer, readSized, readBinary}
 use Rattle.sound.specs.Placed.{Each, Lying}
 use Rattle.sound.specs.Refusal.{Refusal}
 use Rattle.sound.proofs.Each.{each-snoc}
@@ -36,7 +38,7 @@ use Rattle.sound.proofs.Refusals.{Verdict, method-verdict, path-verdict, author
 use Rattle.sound.proofs.Refusals.{authority-judged, nothing-judged, may-judged, bodyless-judged}
 use Rattle.binary_sound.proofs.Judgement.{Stands, stands-on, Ends, Stops, stops-give, stops-refuse, stops-here, stops-ended, stops-tell, stops-rule, stops-if, stops-integer, stops-octets, stops-bind, stops-then}
 use Rattle.binary_sound.proofs.Lines.{no-wrong}
-use Rattle.binary_sound.specs.Sound.{binaryLast, BinaryRefused, BinarySettled}
+use Rattle.binary_sound.specs.Sound.{binaryLast, EditionRefused, OtherEdition, BinaryRefused, BinarySettled}
 
 -- ---- numbers of Binary HTTP
 
@@ -64,13 +66,19 @@ module _ {s : List ℕ} where
   bad-section = at-place (lit≤ tt) (lit≤ tt)
 
   -- of a line that is cut off in either kind of section
-  cut-name : (known : Bool) {p : ℕ} → p ≤ length s → Refusal binaryLast s (cutNumber known) p
-  cut-name true i = bad-section i
-  cut-name false i = cut-off i
+  cut-value : (form : Form) {p q : ℕ} → p ≤ length s → q ≤ length s → Refusal binaryLast s (cutNumber form) (cutPlace form p q)
+  cut-value form {p} {q} i j = on (form .known)
+    where
+      on : (known : Bool) → Refusal binaryLast s (cond known badSection cutOff) (cond known p q)
+      on true = bad-section i
+      on false = cut-off j
 
-  cut-value : (known : Bool) {p q : ℕ} → p ≤ length s → q ≤ length s → Refusal binaryLast s (cutNumber known) (cutPlace known p q)
-  cut-value true i j = bad-section i
-  cut-value false i j = cut-off j
+  cut-name : (form : Form) {p : ℕ} → p ≤ length s → Refusal binaryLast s (cutNumber form) p
+  cut-name form {p} i = on (form .known)
+    where
+      on : (known : Bool) → Refusal binaryLast s (cond known badSection cutOff) p
+      on true = bad-section i
+      on false = cut-off i
 
 -- ---- rules
 
@@ -81,19 +89,19 @@ module _ (s : List ℕ) (p : ℕ) (i : p ≤ length s) where
       either (Refuses binaryLast s) (sameText w (ascii "http")) (good 0) _ (λ a. tt)
       (λ a. either (Refuses binaryLast s) (sameText w (ascii "https")) (good 1) (wrong notSupported p) (λ b. tt) (λ b. at-place (lit≤ tt) (lit≤ tt) i))
 
-  line-judged : (n v : Piece) → Refuses binaryLast s (judgedLine p n v)
+  line-judged : (form : Form) (n v : Piece) → Refuses binaryLast s (judgedLine form p n v)
   unfolding judgedLine
-  line-judged n v =
+  line-judged form n v =
       either (Refuses binaryLast s) (isLowerName (n .text)) _ (wrong badSyntax p)
-      (λ a. either (Refuses binaryLast s) (isTrimmedValue (v .text)) _ (wrong badSyntax p) (λ b. tt) (λ b. bad-syntax i))
+      (λ a. either (Refuses binaryLast s) (isLineValue form (v .text)) _ (wrong badSyntax p) (λ b. tt) (λ b. bad-syntax i))
       (λ a. bad-syntax i)
 
   -- a good line's place is its own
-  line-placed : (n v : Piece) (f : FieldRead) → judgedLine p n v ≡ good f → NamedIn (length s) f
+  line-placed : (form : Form) (n v : Piece) (f : FieldRead) → judgedLine form p n v ≡ good f → NamedIn (length s) f
   unfolding judgedLine
-  line-placed n v f e =
+  line-placed form n v f e =
       let a = into no-wrong (isLowerName (n .text)) _ e in
-      let b = into no-wrong (isTrimmedValue (v .text)) _ (a .1) in
+      let b = into no-wrong (isLineValue form (v .text)) _ (a .1) in
       let r : FieldRead = record { name = n; value = v; place = p } in
       let z : r ≡ f = cc in
       subst (NamedIn (length s)) z i
@@ -161,62 +169,62 @@ module _ {s : List ℕ} {e : ℕ} where
 
   -- ---- sections
 
-  stops-name : {at : ℕ} (known : Bool) (p a : ℕ) → p ≤ length s → Refusing s e (λ n f. NamedIn (length s) f) at (afterNameLength known p a)
+  stops-name : {at : ℕ} (form : Form) (p a : ℕ) → p ≤ length s → Refusing s e (λ n f. NamedIn (length s) f) at (afterNameLength form p a)
   unfolding afterNameLength
-  stops-name known p a i =
-      stops-bind _ (stops-octets a _ _ (cut-name known i) λ w k y.
+  stops-name form p a i =
+      stops-bind _ (stops-octets a _ _ (cut-name form i) λ w k y.
       stops-bind _ (stops-here λ j.
-      stops-bind _ (stops-integer _ _ (cut-value known i j) λ l b.
-      stops-bind _ (stops-octets b _ _ (cut-value known i j) λ u m z.
-      stops-tell (judgedLine p _ _) (line-judged s p i _ _) λ x q. line-placed s p i _ _ x q))))
+      stops-bind _ (stops-integer _ _ (cut-value form i j) λ l b.
+      stops-bind _ (stops-octets b _ _ (cut-value form i j) λ u m z.
+      stops-tell (judgedLine form p _ _) (line-judged s p i form _ _) λ x q. line-placed s p i form _ _ x q))))
 
-  stops-known-line : {at : ℕ} → Refusing s e (λ n f. NamedIn (length s) f) at knownLine
+  stops-known-line : {at : ℕ} (form : Form) → Refusing s e (λ n f. NamedIn (length s) f) at (knownLine form)
   unfolding knownLine
-  stops-known-line =
+  stops-known-line form =
       stops-bind _ (stops-here λ p.
       stops-bind _ (stops-integer _ _ (bad-section p) λ j a.
-      stops-both (eqb a 0) (stops-refuse (bad-section p)) (stops-name true _ a p)))
+      stops-both (eqb a 0) (stops-refuse (bad-section p)) (stops-name form _ a p)))
 
-  stops-known-lines : (f : ℕ) {at : ℕ} (fs : List FieldRead) → Each (NamedIn (length s)) fs → Refusing s e (λ n h. Each (NamedIn (length s)) h) at (knownLines f fs)
+  stops-known-lines : (form : Form) (f : ℕ) {at : ℕ} (fs : List FieldRead) → Each (NamedIn (length s)) fs → Refusing s e (λ n h. Each (NamedIn (length s)) h) at (knownLines form f fs)
   unfolding knownLines
-  stops-known-lines zero fs g = stops-refuse (too-large (omega arith))
-  stops-known-lines (suc f) fs g =
+  stops-known-lines form zero fs g = stops-refuse (too-large (omega arith))
+  stops-known-lines form (suc f) fs g =
       stops-bind _ (stops-ended λ b.
       stops-bind _ (stops-here λ i.
       stops-both b (stops-give g)
       (stops-both (leb linesMost (length fs)) (stops-refuse (too-large i))
-      (stops-then _ stops-known-line λ j x z.
-      stops-known-lines f (fs ++ x ∷ []) (each-snoc (NamedIn (length s)) fs x g z)))))
+      (stops-then _ (stops-known-line form) λ j x z.
+      stops-known-lines form f (fs ++ x ∷ []) (each-snoc (NamedIn (length s)) fs x g z)))))
 
-  stops-open-lines : (f : ℕ) {at : ℕ} (fs : List FieldRead) → Each (NamedIn (length s)) fs → Refusing s e (λ n h. Each (NamedIn (length s)) h) at (openLines f fs)
+  stops-open-lines : (form : Form) (f : ℕ) {at : ℕ} (fs : List FieldRead) → Each (NamedIn (length s)) fs → Refusing s e (λ n h. Each (NamedIn (length s)) h) at (openLines form f fs)
   unfolding openLines
-  stops-open-lines zero fs g = stops-refuse (too-large (omega arith))
-  stops-open-lines (suc f) fs g =
+  stops-open-lines form zero fs g = stops-refuse (too-large (omega arith))
+  stops-open-lines form (suc f) fs g =
       stops-bind _ (stops-here λ p.
       stops-bind _ (stops-integer _ _ (cut-off p) λ j a.
       stops-both (eqb a 0) (stops-give g)
       (stops-both (leb linesMost (length fs)) (stops-refuse (too-large p))
-      (stops-then _ (stops-name false _ a p) λ k x z.
-      stops-open-lines f (fs ++ x ∷ []) (each-snoc (NamedIn (length s)) fs x g z)))))
+      (stops-then _ (stops-name form _ a p) λ k x z.
+      stops-open-lines form f (fs ++ x ∷ []) (each-snoc (NamedIn (length s)) fs x g z)))))
 
 -- the body is a part of the input: places inside it are places of the input
-stops-body : {s : List ℕ} {e at : ℕ} (b : Piece) → Lying s b → Refusing s e (λ n h. Each (NamedIn (length s)) h) at (bodyLines b)
+stops-body : {s : List ℕ} {e at : ℕ} (form : Form) (b : Piece) → Lying s b → Refusing s e (λ n h. Each (NamedIn (length s)) h) at (bodyLines form b)
 unfolding bodyLines
-stops-body {s} {e} {at} b y =
-    on (knownLines (suc linesMost) [] (b .place) (b .text))
-    (stops-known-lines {e = b .place + length (b .text)} (suc linesMost) [] tt .go (b .text) (record { lies = y; ends = refl }))
+stops-body {s} {e} {at} form b y =
+    on (knownLines form (suc linesMost) [] (b .place) (b .text))
+    (stops-known-lines {e = b .place + length (b .text)} form (suc linesMost) [] tt .go (b .text) (record { lies = y; ends = refl }))
   where
     on : (x : Got (List FieldRead)) → Ends (Refusal binaryLast s) (λ n i h. Stands s (b .place + length (b .text)) n i × Each (NamedIn (length s)) h) x
         → Refusing s e (λ n h. Each (NamedIn (length s)) h) at (onBody x)
     on (got fs n i) g = record { go = λ l z. (z, g .1) }
     on (no n p) g = record { go = λ l z. g }
 
-padded : (s : List ℕ) (e at : ℕ) (l : List ℕ) → Stands s e at l → Ends (Refusal binaryLast s) (λ n i z. Stands s e n i × Unit {0}) (padding at l)
+padded : (form : Form) (s : List ℕ) (e at : ℕ) (l : List ℕ) → Stands s e at l → Ends (Refusal binaryLast s) (λ n i z. Stands s e n i × Unit {0}) (padding form at l)
 unfolding padding
-padded s e at [] y = (y, tt)
-padded s e at (b ∷ l) y =
-    either (Ends (Refusal binaryLast s) (λ n i z. Stands s e n i × Unit {0})) (eqb b 0) (padding (at + 1) l) (no badPadding at)
-    (λ a. padded s e (at + 1) l (stands-on 1 (omega arith) y)) (λ a. at-place (lit≤ tt) (lit≤ tt) (omega (arith, lies-in (y .lies))))
+padded form s e at [] y = (y, tt)
+padded form s e at (b ∷ l) y =
+    either (Ends (Refusal binaryLast s) (λ n i z. Stands s e n i × Unit {0})) (cond (form .padded) (eqb b 0) false) (padding form (at + 1) l) (no badPadding at)
+    (λ a. padded form s e (at + 1) l (stands-on 1 (omega arith) y)) (λ a. at-place (lit≤ tt) (lit≤ tt) (omega (arith, lies-in (y .lies))))
 
 -- a section ends in the input, and its lines begin in it
 record SectionIn (s : List ℕ) (h : Section) : Type 0 where
@@ -224,15 +232,22 @@ record SectionIn (s : List ℕ) (h : Section) : Type 0 where
   lines : Each (NamedIn (length s)) (h .lines)
 
 module _ {s : List ℕ} {e : ℕ} where
-  stops-known-section : {at : ℕ} → Refusing s e (λ n h. Each (NamedIn (length s)) h) at knownSection
+  stops-known-section : {at : ℕ} (form : Form) → Refusing s e (λ n h. Each (NamedIn (length s)) h) at (knownSection form)
   unfolding knownSection
-  stops-known-section = stops-then _ stops-part λ i b y. stops-body b y
+  stops-known-section form = stops-then _ stops-part λ i b y. stops-body form b y
 
-  stops-section : {at : ℕ} (known : Bool) → Refusing s e (λ n h. SectionIn s h) at (section known)
+  stops-section : {at : ℕ} (form : Form) → Refusing s e (λ n h. SectionIn s h) at (section form)
   unfolding section
-  stops-section known =
-      stops-then _ (stops-both known stops-known-section (stops-open-lines (suc linesMost) [] tt)) λ i fs z.
+  stops-section form =
+      stops-then _ (stops-both (form .known) (stops-known-section form) (stops-open-lines form (suc linesMost) [] tt)) λ i fs z.
       stops-bind _ (stops-here λ j. stops-give (record { end = j; lines = z }))
+
+  stops-header : {at : ℕ} (form : Form) → Refusing s e (λ n h. SectionIn s h) at (headerSection form)
+  unfolding headerSection
+  stops-header form =
+      stops-bind _ (stops-ended λ b.
+      stops-bind _ (stops-here λ j.
+      stops-both (cond b (form .headless) false) (stops-give (record { end = j; lines = tt })) (stops-section form)))
 
   -- ---- content, trailers, padding
 
@@ -258,77 +273,77 @@ module _ {s : List ℕ} {e : ℕ} where
       stops-bind _ (stops-ended λ b.
       stops-both b (stops-give tt) (stops-both known stops-known-content (stops-chunks (suc chunksMost) [] 0)))
 
-  stops-trailers : {at : ℕ} (known body : Bool) → Refusing s e (λ n ts. Unit {0}) at (trailers known body)
+  stops-trailers : {at : ℕ} (form : Form) (body : Bool) → Refusing s e (λ n ts. Unit {0}) at (trailers form body)
   unfolding trailers
-  stops-trailers known body =
+  stops-trailers form body =
       stops-bind _ (stops-ended λ b.
       stops-both b (stops-give tt)
-      (stops-then _ (stops-section known) λ i h g.
+      (stops-then _ (stops-section form) λ i h g.
       stops-tell (trailerRule body h) (trailer-judged s body h (g .end)) λ x q. tt))
 
-  stops-padding : {at : ℕ} → Refusing s e (λ n z. Unit {0}) at padding
-  stops-padding {at} = record { go = λ l y. padded s e at l y }
+  stops-padding : {at : ℕ} (form : Form) → Refusing s e (λ n z. Unit {0}) at (padding form)
+  stops-padding {at} form = record { go = λ l y. padded form s e at l y }
 
-  stops-after : {at : ℕ} (known body : Bool) (stated : StatedLength) (start : Start) (h : Section) (f : Framing)
-      → Refusing s e (λ n m. Unit {0}) at (afterHeaders known body stated start h f)
+  stops-after : {at : ℕ} (form : Form) (body : Bool) (stated : StatedLength) (start : Start) (h : Section) (f : Framing)
+      → Refusing s e (λ n m. Unit {0}) at (afterHeaders form body stated start h f)
   unfolding afterHeaders afterContent
-  stops-after known body stated start h f =
-      stops-then _ (stops-content known) λ i cs z.
+  stops-after form body stated start h f =
+      stops-then _ (stops-content (form .known)) λ i cs z.
       stops-bind _ (stops-here λ j.
       stops-bind _ (stops-tell (contentRule body f _ cs) (content-judged s _ j body f cs) λ c q.
-      stops-then _ (stops-trailers known body) λ k ts y.
-      stops-then _ stops-padding λ n x w.
+      stops-then _ (stops-trailers form body) λ k ts y.
+      stops-then _ (stops-padding form) λ n x w.
       stops-give tt))
 
   -- ---- whole messages
 
-  stops-request : {at : ℕ} (known : Bool) → Refusing s e (λ n m. Unit {0}) at (requestMessage known)
+  stops-request : {at : ℕ} (form : Form) → Refusing s e (λ n m. Unit {0}) at (requestMessage form)
   unfolding requestMessage afterControl afterHead
-  stops-request known =
+  stops-request form =
       stops-then _ stops-control λ i q z.
-      stops-then _ (stops-section known) λ j h g.
+      stops-then _ (stops-header form) λ j h g.
       stops-bind _ (stops-tell (authorityIn (h .end) (q .authority) (h .lines)) (authority-judged binaryLast s wide (h .end) (g .end) (q .authority) (h .lines)) λ a r.
       stops-bind _ (stops-tell (mayState (h .end) (binaryFramingOf (h .lines))) (may-judged binaryLast s wide (h .end) (g .end) (binaryFramingOf (h .lines))) λ f q.
-      stops-after known true Missing _ h f))
+      stops-after form true Missing _ h f))
 
 module _ (t : Told) {s : List ℕ} {e : ℕ} where
-  stops-final : {at : ℕ} (known : Bool) (hs : List InformationalRead) (n : ℕ) → Refusing s e (λ i m. Unit {0}) at (afterFinalStatus t known hs n)
+  stops-final : {at : ℕ} (form : Form) (hs : List InformationalRead) (n : ℕ) → Refusing s e (λ i m. Unit {0}) at (afterFinalStatus t form hs n)
   unfolding afterFinalStatus afterFinal
-  stops-final known hs n =
-      stops-then _ (stops-section known) λ j h g.
+  stops-final form hs n =
+      stops-then _ (stops-header form) λ j h g.
       let f = binaryFramingOf (h .lines) in
       stops-both (endsAtHead t n)
       (stops-bind _ (stops-tell (bodylessRule t n (h .end) f) (bodyless-judged binaryLast s wide (h .end) (g .end) t n f (binary-framing-in (length s) (h .lines) (g .lines))) λ u q.
-      stops-after known false (statedIn t n f) _ h Unstated))
+      stops-after form false (statedIn t n f) _ h Unstated))
       (stops-bind _ (stops-tell (mayState (h .end) f) (may-judged binaryLast s wide (h .end) (g .end) f) λ v q.
-      stops-after known true Missing _ h v))
+      stops-after form true Missing _ h v))
 
-  stops-response : (f : ℕ) {at : ℕ} (known : Bool) (hs : List InformationalRead) → Refusing s e (λ i m. Unit {0}) at (heads t known f hs)
+  stops-response : (f : ℕ) {at : ℕ} (form : Form) (hs : List InformationalRead) → Refusing s e (λ i m. Unit {0}) at (heads t form f hs)
   unfolding heads afterInformationalStatus afterInformational
-  stops-response zero known hs = stops-refuse (too-large (omega arith))
-  stops-response (suc f) known hs =
+  stops-response zero form hs = stops-refuse (too-large (omega arith))
+  stops-response (suc f) form hs =
       stops-bind _ (stops-here λ p.
       stops-bind _ (stops-integer _ _ (cut-off p) λ j v.
       stops-bind _ (stops-rule (statusVerdict v) _ v (λ a. refusal wide (not-good (status-verdict v) a) p) λ a.
       stops-both (isInformational v)
       (stops-both (leb informationalMost (length hs)) (stops-refuse (too-large p))
-      (stops-then _ (stops-section known) λ k h g.
+      (stops-then _ (stops-section form) λ k h g.
       stops-bind _ (stops-tell (nothingStated (h .end) (binaryFramingOf (h .lines))) (nothing-judged binaryLast s wide (h .end) (g .end) (binaryFramingOf (h .lines))) λ u q.
-      stops-response f known _)))
-      (stops-final known hs v))))
+      stops-response f form _)))
+      (stops-final form hs v))))
 
   stops-message : {at : ℕ} → Refusing s e (λ n m. Unit {0}) at (message t)
   unfolding message afterIndicator
   stops-message =
       stops-bind _ (stops-integer _ _ (cut-off (omega arith)) λ i f.
-      stops-both (eqb f 0) (stops-request true)
-      (stops-both (eqb f 1) (stops-response (suc informationalMost) true [])
-      (stops-both (eqb f 2) (stops-request false)
-      (stops-both (eqb f 3) (stops-response (suc informationalMost) false []) (stops-refuse (at-place (lit≤ tt) (lit≤ tt) (omega arith)))))))
+      stops-both (eqb f 0) (stops-request _)
+      (stops-both (eqb f 1) (stops-response (suc informationalMost) _ [])
+      (stops-both (eqb f 2) (stops-request _)
+      (stops-both (eqb f 3) (stops-response (suc informationalMost) _ []) (stops-refuse (at-place (lit≤ tt) (lit≤ tt) (omega arith)))))))
 
-pub binary-refused : BinaryRefused
-unfolding readBinary
-binary-refused t s n p q = on (leb (length s) binaryMost) q
+sized-refused : (t : Told) (s : List ℕ) (n p : ℕ) → readSized t s ≡ refused n p → Refusal binaryLast s n p
+unfolding readSized
+sized-refused t s n p q = on (leb (length s) binaryMost) q
   where
     pick : (x : Got Message) → Ends (Refusal binaryLast s) (λ k l y. Stands s (length s) k l × Unit {0}) x → messageAnswer x ≡ refused n p → Refusal binaryLast s n p
     pick (got y k l) g z = let w : _≡_ {A = ℕ} 0 1 = cc in absurd (omega arith)
@@ -344,9 +359,34 @@ binary-refused t s n p q = on (leb (length s) binaryMost) q
         let b : 0 ≡ p = cc in
         at-place (omega arith) (omega arith) (omega arith)
 
-pub binary-settled : BinarySettled
+pub edition-refused : EditionRefused
 unfolding readBinary
-binary-settled t s = either Settled (leb (length s) binaryMost) (messageAnswer (message t 0 s)) (refused tooLarge 0) (λ a. on (message t 0 s)) (λ a. tt)
+edition-refused t s n p h q = let z : cond true (readSized t s) (refused badEdition 0) ≡ refused n p = rw h at q in sized-refused t s n p z
+
+pub other-edition : OtherEdition
+unfolding readBinary
+other-edition t s h = rw h
+
+-- the numbers of either edition are among all
+pub wider : {s : List ℕ} {n p : ℕ} → Refusal binaryLast s n p → Refusal badEdition s n p
+wider h = record { some = h .some; ofForm = omega (arith, h .ofForm); inside = h .inside }
+
+pub binary-refused : BinaryRefused
+unfolding readBinary
+binary-refused t s n p q = on (isEdition (t .edition)) q
+  where
+    on : (b : Bool) → cond b (readSized t s) (refused badEdition 0) ≡ refused n p → Refusal badEdition s n p
+    on true z = wider (sized-refused t s n p z)
+    on false z =
+        let a : badEdition ≡ n = cc in
+        let b : 0 ≡ p = cc in
+        record { some = omega arith; ofForm = omega arith; inside = omega arith }
+
+pub binary-settled : BinarySettled
+unfolding readBinary readSized
+binary-settled t s =
+    either Settled (isEdition (t .edition)) (readSized t s) (refused badEdition 0)
+    (λ a. either Settled (leb (length s) binaryMost) (messageAnswer (message t 0 s)) (refused tooLarge 0) (λ b. on (message t 0 s)) (λ b. tt)) (λ a. tt)
   where
     on : (x : Got Message) → Settled (messageAnswer x)
     on (got m n r) = tt

@@ -9,7 +9,7 @@ use borrow.Author.Tests.{leb-true, leb-false, ltb-true}
 use lib.Dec.{leb, eqb}
 use lib.ListN.{length, length-map}
 use Rattle.octets.specs.Limits.{binaryMost, informationalMost}
-use Rattle.octets.specs.Refusals.{tooLarge}
+use Rattle.octets.specs.Refusals.{tooLarge, badEdition}
 use Rattle.octets.specs.Text.{isEmpty}
 use Rattle.octets.proofs.Texts.{some}
 use Rattle.script.specs.Script.{accepted, refused}
@@ -29,12 +29,14 @@ use Rattle.messages.specs.declared.Kind.the-variants as kind
 use Rattle.messages.specs.declared.StatedLength.{StatedLength}
 use Rattle.messages.specs.declared.StatedLength.the-variants.{Missing}
 use Rattle.messages.specs.declared.Told.{Told}
+use Rattle.messages.specs.Told.{isEdition}
 use Rattle.messages.proofs.Verdicts.{host-made}
 use Rattle.messages.proofs.Valid.{host-ok}
 use Rattle.numbers.specs.Integer.{readInt}
 use Rattle.binary.specs.Reader.{Got, got, no, _>>=_, integer}
+use Rattle.binary.specs.declared.Form.{Form}
 use Rattle.binary.specs.Read.{RequestControl, afterHead, afterControl, requestMessage, afterFinal, afterFinalStatus, afterInformational}
-use Rattle.binary.specs.Read.{afterInformationalStatus, heads, afterIndicator, message, messageAnswer, readBinary}
+use Rattle.binary.specs.Read.{afterInformationalStatus, heads, afterIndicator, message, messageAnswer, readSized, readBinary}
 use Rattle.sound.specs.Placed.{Each, Lying}
 use Rattle.sound.specs.Sound.{StatesLength, ResponseLength}
 use Rattle.sound.proofs.Each.{each-snoc}
@@ -44,7 +46,7 @@ use Rattle.sound.proofs.Stated.{stated-few-binary, Bodyless, bodyless, content-
 use Rattle.binary_sound.specs.Sound.{GoodStart, LowerName, LowerNames, SoundBinary, BinarySound}
 use Rattle.binary_sound.proofs.Judgement.{Stands, Gets, Every, every-refuse, every-here, every-tell, every-rule, stops-if, every-integer, stops-bind, stops-then}
 use Rattle.binary_sound.proofs.Parts.{ControlAt, every-control}
-use Rattle.binary_sound.proofs.Lines.{LinesAt, every-section}
+use Rattle.binary_sound.proofs.Lines.{LinesAt, every-section, every-header}
 use Rattle.binary_sound.proofs.Content.{body-valid, TailAt, every-after}
 
 -- what is known of each message at its end, told t
@@ -199,66 +201,66 @@ module _ (t : Told) (s : List ℕ) (hs : List InformationalRead) (n : ℕ) (h : 
       (record { once = j .once; none = j .none; stated = refl; agrees = λ y. let z : _≡_ {A = ℕ} 0 1 = cc in absurd (omega arith) })
 
 module _ (t : Told) {s : List ℕ} {e : ℕ} where
-  every-request : {at : ℕ} (known : Bool) → Every s e (λ n m. MessageAt t s m × (n ≡ e)) at (requestMessage known)
+  every-request : {at : ℕ} (form : Form) → Every s e (λ n m. MessageAt t s m × (n ≡ e)) at (requestMessage form)
   unfolding requestMessage afterControl afterHead
-  every-request known =
+  every-request form =
       stops-then _ every-control λ i q c.
-      stops-then _ (every-section known) λ j h l.
+      stops-then _ (every-header form) λ j h l.
       stops-bind _ (every-tell (authorityIn (h .end) (q .authority) (h .lines)) λ a p.
       stops-bind _ (every-tell (mayState (h .end) (binaryFramingOf (h .lines))) λ f g.
       let o = authority-at s q (h .lines) a c (l .section) (isEmpty (q .authority .text)) refl (authority-is (h .end) (q .authority) (h .lines) a p) in
-      every-after known true Missing _ h f λ cs ts d. (request-at t s q h a f cs ts c l o (may-state (h .end) _ f g .0) d, refl)))
+      every-after form true Missing _ h f λ cs ts d. (request-at t s q h a f cs ts c l o (may-state (h .end) _ f g .0) d, refl)))
 
-  every-final : {at : ℕ} (known : Bool) (hs : List InformationalRead) (n : ℕ) → HeadsIn s hs → statusVerdict n ≡ 0 → isInformational n ≡ false
-      → Every s e (λ i m. MessageAt t s m × (i ≡ e)) at (afterFinalStatus t known hs n)
+  every-final : {at : ℕ} (form : Form) (hs : List InformationalRead) (n : ℕ) → HeadsIn s hs → statusVerdict n ≡ 0 → isInformational n ≡ false
+      → Every s e (λ i m. MessageAt t s m × (i ≡ e)) at (afterFinalStatus t form hs n)
   unfolding afterFinalStatus afterFinal response
-  every-final known hs n a v i =
-      stops-then _ (every-section known) λ j h l.
+  every-final form hs n a v i =
+      stops-then _ (every-header form) λ j h l.
       stops-if (endsAtHead t n)
       (λ q.
       stops-bind _ (every-tell (bodylessRule t n (h .end) (binaryFramingOf (h .lines))) λ b g.
-      every-after known false _ _ h Unstated λ cs ts d. (bodyless-at t s hs n h a v i l cs ts b q (bodyless t n (h .end) _ b g) d, refl)))
+      every-after form false _ _ h Unstated λ cs ts d. (bodyless-at t s hs n h a v i l cs ts b q (bodyless t n (h .end) _ b g) d, refl)))
       (λ q.
       stops-bind _ (every-tell (mayState (h .end) (binaryFramingOf (h .lines))) λ f g.
-      every-after known true Missing _ h f λ cs ts d. (content-at t s hs n h a v i l cs ts f q g d, refl)))
+      every-after form true Missing _ h f λ cs ts d. (content-at t s hs n h a v i l cs ts f q g d, refl)))
 
-  every-response : (f : ℕ) {at : ℕ} (known : Bool) (hs : List InformationalRead) → HeadsIn s hs
-      → Every s e (λ i m. MessageAt t s m × (i ≡ e)) at (heads t known f hs)
+  every-response : (f : ℕ) {at : ℕ} (form : Form) (hs : List InformationalRead) → HeadsIn s hs
+      → Every s e (λ i m. MessageAt t s m × (i ≡ e)) at (heads t form f hs)
   unfolding heads afterInformationalStatus afterInformational
-  every-response zero known hs a = every-refuse
-  every-response (suc f) known hs a =
+  every-response zero form hs a = every-refuse
+  every-response (suc f) form hs a =
       stops-bind _ (every-here (stops-bind _ (every-integer _ _ λ i n.
       stops-bind _ (every-rule (statusVerdict n) _ n λ v.
       stops-if (isInformational n)
       (λ b.
       stops-if (leb informationalMost (length hs)) (λ c. every-refuse) λ c.
-      stops-then _ (every-section known) λ j h l.
+      stops-then _ (every-section form) λ j h l.
       stops-bind _ (every-tell (nothingStated (h .end) (binaryFramingOf (h .lines))) λ u g.
-      every-response f known _ (one-more s hs n (h .lines) a v b l (nothing-stated (h .end) _ u g .0) (leb-false informationalMost (length hs) c))))
-      (λ b. every-final known hs n a v b)))))
+      every-response f form _ (one-more s hs n (h .lines) a v b l (nothing-stated (h .end) _ u g .0) (leb-false informationalMost (length hs) c))))
+      (λ b. every-final form hs n a v b)))))
 
   every-message : {at : ℕ} → Every s e (λ n m. MessageAt t s m × (n ≡ e)) at (message t)
   unfolding message afterIndicator
   every-message =
       let a : HeadsIn s [] = record { heads = heads-none s; lower = tt; unstated = tt } in
       stops-bind _ (every-integer _ _ λ i f.
-      stops-if (eqb f 0) (λ u. every-request true) λ u.
-      stops-if (eqb f 1) (λ v. every-response (suc informationalMost) true [] a) λ v.
-      stops-if (eqb f 2) (λ w. every-request false) λ w.
-      stops-if (eqb f 3) (λ x. every-response (suc informationalMost) false [] a) λ x. every-refuse)
+      stops-if (eqb f 0) (λ u. every-request _) λ u.
+      stops-if (eqb f 1) (λ v. every-response (suc informationalMost) _ [] a) λ v.
+      stops-if (eqb f 2) (λ w. every-request _) λ w.
+      stops-if (eqb f 3) (λ x. every-response (suc informationalMost) _ [] a) λ x. every-refuse)
 
 -- the framing is an integer: an input without octets is cut off
-not-none : (t : Told) (n : ℕ) (m : Message) → readBinary t [] ≡ accepted n m → ⊥
-unfolding readBinary message integer readInt _>>=_
+not-none : (t : Told) (n : ℕ) (m : Message) → readSized t [] ≡ accepted n m → ⊥
+unfolding readSized message integer readInt _>>=_
 not-none t n m q = let z : _≡_ {A = ℕ} 0 1 = cc in omega arith
 
-some-octets : (t : Told) (s : List ℕ) (n : ℕ) (m : Message) → readBinary t s ≡ accepted n m → 0 < length s
+some-octets : (t : Told) (s : List ℕ) (n : ℕ) (m : Message) → readSized t s ≡ accepted n m → 0 < length s
 some-octets t [] n m q = absurd (not-none t n m q)
 some-octets t (b ∷ s) n m q = omega arith
 
-pub binary-sound : BinarySound
-unfolding readBinary
-binary-sound t s n m q = on (leb (length s) binaryMost) refl q
+sized-sound : (t : Told) (s : List ℕ) (n : ℕ) (m : Message) → readSized t s ≡ accepted n m → SoundBinary t s n m
+unfolding readSized
+sized-sound t s n m q = on (leb (length s) binaryMost) refl q
   where
     pick : length s ≤ binaryMost → (x : Got Message) → Gets (λ k l y. Stands s (length s) k l × (MessageAt t s y × (k ≡ length s))) x
         → messageAnswer x ≡ accepted n m → SoundBinary t s n m
@@ -285,3 +287,11 @@ binary-sound t s n m q = on (leb (length s) binaryMost) refl q
         pick (leb-true (length s) binaryMost h) (message t 0 s)
         (every-message t {s = s} {e = length s} {at = 0} .go s (record { lies = lies-all s; ends = omega arith })) z
     on false h z = let w : _≡_ {A = ℕ} 0 1 = cc in absurd (omega arith)
+
+pub binary-sound : BinarySound
+unfolding readBinary
+binary-sound t s n m q = on (isEdition (t .edition)) q
+  where
+    on : (b : Bool) → cond b (readSized t s) (refused badEdition 0) ≡ accepted n m → SoundBinary t s n m
+    on true z = sized-sound t s n m z
+    on false z = let w : _≡_ {A = ℕ} 0 1 = cc in absurd (omega arith)

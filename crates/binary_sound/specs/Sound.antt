@@ -8,7 +8,7 @@ use mathlib.Core.List.{List}
 use lib.Dec.{eqb}
 use lib.ListN.{length}
 use Rattle.octets.specs.Limits.{binaryMost}
-use Rattle.octets.specs.Refusals.{cutOff}
+use Rattle.octets.specs.Refusals.{cutOff, badEdition}
 use Rattle.script.specs.Script.{accepted, refused, Settled}
 use Rattle.script.specs.Do.{Piece}
 use Rattle.messages.specs.Message.{FieldRead, InformationalRead, Start, requestStart, responseStart, Message}
@@ -17,7 +17,7 @@ use Rattle.messages.specs.Names.{linesOf}
 use Rattle.messages.specs.Rules.{binaryFramingOf}
 use Rattle.messages.specs.Meaning.{meaning}
 use Rattle.messages.specs.Valid.{suits}
-use Rattle.messages.specs.Told.{answering}
+use Rattle.messages.specs.Told.{isEdition, answering}
 use Rattle.messages.specs.declared.Told.{Told}
 use Rattle.messages.specs.declared.Framing.the-variants.{Unstated}
 use Rattle.messages.specs.declared.Kind.the-variants as kind
@@ -77,13 +77,21 @@ pub record SoundBinary (t : Told) (s : List ℕ) (n : ℕ) (m : Message) : Type 
 abbrev pub BinarySound : Type 0
 BinarySound = (t : Told) (s : List ℕ) (n : ℕ) (m : Message) → readBinary t s ≡ accepted n m → SoundBinary t s n m
 
--- the last of the numbers with which Binary HTTP is refused (01, "Numbers a call answers with")
+-- the last of the numbers with which Binary HTTP is refused in an edition (01, "Numbers a call answers with")
 abbrev pub binaryLast : ℕ
 binaryLast = 12
 
--- every refused input is refused with a number from 2 to 12, at a place of the input
+-- told an edition, every refused input is refused with a number from 2 to 12, at a place of the input
+abbrev pub EditionRefused : Type 0
+EditionRefused = (t : Told) (s : List ℕ) (n p : ℕ) → isEdition (t .edition) ≡ true → readBinary t s ≡ refused n p → Refusal binaryLast s n p
+
+-- told another number, every input is 17 at 0 (02, item 7)
+abbrev pub OtherEdition : Type 0
+OtherEdition = (t : Told) (s : List ℕ) → isEdition (t .edition) ≡ false → readBinary t s ≡ refused badEdition 0
+
+-- so the numbers are these and 17, whatever is told
 abbrev pub BinaryRefused : Type 0
-BinaryRefused = (t : Told) (s : List ℕ) (n p : ℕ) → readBinary t s ≡ refused n p → Refusal binaryLast s n p
+BinaryRefused = (t : Told) (s : List ℕ) (n p : ℕ) → readBinary t s ≡ refused n p → Refusal badEdition s n p
 
 -- the whole input is there: no more octets are asked for
 abbrev pub BinarySettled : Type 0

@@ -34,7 +34,7 @@ callIf false c cs = cs
 
 -- the call on the message of an entry
 abbrev pub callOn : Entry → Call
-callOn e = record { head = 0; input = e .text }
+callOn e = record { head = 0; input = e .text; edition = 0 }
 
 -- those on the entries that are requests, in order
 unfoldable pub requestsOf : List Entry → List Call

@@ -17,7 +17,7 @@ ghost use Rattle.octets.specs.Limits.{linesMost, informationalMost};
 ghost use Rattle.ranges.specs.Ranges.{placesEnd};
 ghost use Rattle.binary.specs.Read.{readBinary};
 ghost use Rattle.http1.specs.Read.{readRequest, readResponse};
-ghost use Rattle.messages.specs.Told.{plain, answering, closing};
+ghost use Rattle.messages.specs.Told.{plain, answering, closing, inEdition};
 ghost use Rattle.messages.specs.Room.{sectionRoom, headsRoom, informationalRoom, chunksRoom};
 ghost use Rattle.output.specs.Reply.{writes};
 ghost use Rattle.listing.specs.Listing.{listingOf};
@@ -80,6 +80,7 @@ pub extern "C" fn ospirnar_read_request(
             head: 0,
             closed: 0,
             former: 0,
+            edition: 0,
         },
         ranges,
         place,
@@ -175,6 +176,7 @@ pub extern "C" fn ospirnar_read_response(
             head,
             closed,
             former: 0,
+            edition: 0,
         },
         ranges,
         place,
@@ -220,15 +222,16 @@ fn enter_binary(
     }
 }
 
-// One Binary message, told whether it answers a HEAD: the whole input.
+// One Binary message, told whether it answers a HEAD and its edition: the whole input.
 #[no_mangle]
 pub extern "C" fn ospirnar_read_binary(
     input: &[u8],
     head: u32,
+    edition: u32,
     ranges: &mut [u32],
     place: &mut usize,
 ) -> u32
-    ensures { λ r. ⌜ Entered (readBinary (answering head (plain 0)) (now (input .entry))) (length (now (input .entry)))
+    ensures { λ r. ⌜ Entered (readBinary (inEdition edition (answering head (plain 0))) (now (input .entry))) (length (now (input .entry)))
         (now (ranges .entry)) (now (ranges .exit)) (now (place .exit)) r ⌝ }
 {
     let t = class_table();
@@ -244,6 +247,7 @@ pub extern "C" fn ospirnar_read_binary(
             head,
             closed: 0,
             former: 0,
+            edition,
         },
         ranges,
         place,

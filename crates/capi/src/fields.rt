@@ -6,7 +6,7 @@ use question::binary_found;
 use question::request_found;
 use question::response_found;
 ghost use mathlib.Core.Path.{_≡_};
-ghost use Rattle.messages.specs.Told.{plain, answering, closing};
+ghost use Rattle.messages.specs.Told.{plain, answering, closing, inEdition};
 ghost use Rattle.turn.specs.Question.{requestQuestion, responseQuestion, binaryQuestion};
 ghost use Rattle.question.specs.Asking.{askedOf};
 ghost use Rattle.capi.specs.Entries.{FieldEntered};
@@ -59,6 +59,7 @@ pub extern "C" fn ospirnar_request_field(
             head: 0,
             closed: 0,
             former: 0,
+            edition: 0,
         },
         name,
     );
@@ -88,24 +89,26 @@ pub extern "C" fn ospirnar_response_field(
             head,
             closed,
             former: 0,
+            edition: 0,
         },
         name,
     );
     give_field(a, number, place, start, len)
 }
 
-// The first kept header value of the name in a Binary message, told whether it answers a HEAD: the whole input.
+// The first kept header value of the name in a Binary message, told whether it answers a HEAD and its edition: the whole input.
 #[no_mangle]
 pub extern "C" fn ospirnar_binary_field(
     input: &[u8],
     head: u32,
+    edition: u32,
     name: &[u8],
     number: &mut u32,
     place: &mut usize,
     start: &mut usize,
     len: &mut usize,
 ) -> u32
-    ensures { λ r. ⌜ FieldEntered (askedOf (binaryQuestion (answering head (plain 0)) (now (name .entry)) (now (input .entry))))
+    ensures { λ r. ⌜ FieldEntered (askedOf (binaryQuestion (inEdition edition (answering head (plain 0))) (now (name .entry)) (now (input .entry))))
         (now (number .exit)) (now (place .exit)) (now (start .exit)) (now (len .exit)) r ⌝ }
 {
     let a = binary_found(
@@ -115,6 +118,7 @@ pub extern "C" fn ospirnar_binary_field(
             head,
             closed: 0,
             former: 0,
+            edition,
         },
         name,
     );

@@ -6,7 +6,7 @@ use turning::from_binary::binary_to_http1;
 use turning::to_binary::request_to_binary;
 use turning::to_binary::response_to_binary;
 ghost use mathlib.Core.Path.{_≡_};
-ghost use Rattle.messages.specs.Told.{plain, answering, closing, keeping};
+ghost use Rattle.messages.specs.Told.{plain, answering, closing, keeping, inEdition};
 ghost use Rattle.http1.specs.Read.{readRequest, readResponse};
 ghost use Rattle.turn.specs.Turn.{requestToBinary, responseToBinary, binaryToBinary, binaryToHttp1};
 ghost use Rattle.capi.specs.Entries.{EntryServed, EntryTaken};
@@ -30,6 +30,7 @@ pub extern "C" fn ospirnar_request_to_binary(
             head: 0,
             closed: 0,
             former: 0,
+            edition: 0,
         },
         output,
         taken,
@@ -58,6 +59,7 @@ pub extern "C" fn ospirnar_response_to_binary(
             head,
             closed,
             former: 0,
+            edition: 0,
         },
         output,
         taken,
@@ -65,15 +67,16 @@ pub extern "C" fn ospirnar_response_to_binary(
     give_written(w, place)
 }
 
-// A Binary message, told whether it answers a HEAD, anew as Binary.
+// A Binary message, told whether it answers a HEAD and its edition, anew as Binary.
 #[no_mangle]
 pub extern "C" fn ospirnar_binary_to_binary(
     input: &[u8],
     head: u32,
+    edition: u32,
     output: &mut [u8],
     place: &mut usize,
 ) -> u32
-    ensures { λ r. ⌜ EntryServed (binaryToBinary (answering head (plain 0)) (now (input .entry)))
+    ensures { λ r. ⌜ EntryServed (binaryToBinary (inEdition edition (answering head (plain 0))) (now (input .entry)))
         (now (output .entry)) (now (output .exit)) (now (place .exit)) r ⌝ }
 {
     let w = binary_to_binary(
@@ -83,24 +86,26 @@ pub extern "C" fn ospirnar_binary_to_binary(
             head,
             closed: 0,
             former: 0,
+            edition,
         },
         output,
     );
     give_written(w, place)
 }
 
-// A Binary message, told whether it answers a HEAD, as HTTP/1.1 on a connection of the scheme told, by the former rule on empty content or
-// not.
+// A Binary message, told whether it answers a HEAD and its edition, as HTTP/1.1 on a connection of the scheme told, by the former rule on
+// empty content or not.
 #[no_mangle]
 pub extern "C" fn ospirnar_binary_to_http1(
     input: &[u8],
     scheme: u32,
     head: u32,
     former: u32,
+    edition: u32,
     output: &mut [u8],
     place: &mut usize,
 ) -> u32
-    ensures { λ r. ⌜ EntryServed (binaryToHttp1 (keeping former (answering head (plain scheme))) (now (input .entry)))
+    ensures { λ r. ⌜ EntryServed (binaryToHttp1 (inEdition edition (keeping former (answering head (plain scheme)))) (now (input .entry)))
         (now (output .entry)) (now (output .exit)) (now (place .exit)) r ⌝ }
 {
     let w = binary_to_http1(
@@ -110,6 +115,7 @@ pub extern "C" fn ospirnar_binary_to_http1(
             head,
             closed: 0,
             former,
+            edition,
         },
         output,
     );

@@ -7,10 +7,11 @@ use mathlib.Core.List.{List}
 use native.Mathlib.Omega.{arith}
 use lib.Dec.{leb, lit≤}
 use lib.ListN.{length}
-use Rattle.octets.specs.Refusals.{moreNeeded, notSupported, tooLarge, noRoom, otherScheme}
+use Rattle.octets.specs.Refusals.{moreNeeded, notSupported, tooLarge, noRoom, otherScheme, badEdition}
 use Rattle.octets.proofs.Kit.{either}
 use Rattle.script.specs.Script.{Answer, accepted, refused, more}
 use Rattle.messages.specs.declared.Told.{Told}
+use Rattle.messages.specs.Told.{isEdition}
 use Rattle.messages.specs.Message.{Message}
 use Rattle.messages.specs.Meaning.{Meaning, meaning}
 use Rattle.messages.specs.Valid.{isScheme}
@@ -25,8 +26,7 @@ use Rattle.turn.specs.Turn.{replyFrom, requestToBinary, responseToBinary, binar
 use Rattle.sound.specs.Refusal.{Refusal}
 use Rattle.http1_sound.specs.Read.{http1Last}
 use Rattle.http1_sound.proofs.Refusals.{request-refused, response-refused}
-use Rattle.binary_sound.specs.Sound.{binaryLast}
-use Rattle.binary_sound.proofs.Refusals.{binary-refused, binary-settled}
+use Rattle.binary_sound.proofs.Refusals.{edition-refused, other-edition, binary-refused, binary-settled}
 use Rattle.demands.specs.Demand1.{RefusalWithin, readNumber, IsAccepted, ReadNumbers, turnLast, TurnNumbers, Demand1}
 use Rattle.demands.proofs.Demand2.{no}
 
@@ -125,14 +125,17 @@ response-turned t s = reply-wrongs s http1Last (lit≤ tt) (readResponse t s) (r
 
 binary-anew : (t : Told) (s : List ℕ) → Wrongs s (binaryToBinary t s)
 unfolding binaryToBinary
-binary-anew t s = reply-wrongs s binaryLast (lit≤ tt) (readBinary t s) (binary-refused t s) toBinary (binary-wrongs s)
+binary-anew t s = reply-wrongs s badEdition (lit≤ tt) (readBinary t s) (binary-refused t s) toBinary (binary-wrongs s)
 
 binary-turned : (t : Told) (s : List ℕ) → Wrongs s (binaryToHttp1 t s)
 unfolding binaryToHttp1
 binary-turned t s =
+    either (Wrongs s) (isEdition (t .edition)) (cond (isScheme (t .scheme)) (replyFrom (length s) (readBinary t s) (toHttp1 t)) (refuses notSupported 0)) (refuses badEdition 0)
+    (λ a.
     either (Wrongs s) (isScheme (t .scheme)) (replyFrom (length s) (readBinary t s) (toHttp1 t)) (refuses notSupported 0)
-    (λ a. reply-wrongs s binaryLast (lit≤ tt) (readBinary t s) (binary-refused t s) (toHttp1 t) (http1-wrongs t s))
-    (λ a. wrong-wrongs s notSupported 0 (lit≤ tt, lit≤ tt, omega arith))
+    (λ b. reply-wrongs s badEdition (lit≤ tt) (readBinary t s) (binary-refused t s) (toHttp1 t) (http1-wrongs t s))
+    (λ b. wrong-wrongs s notSupported 0 (lit≤ tt, lit≤ tt, omega arith)))
+    (λ a. wrong-wrongs s badEdition 0 (lit≤ tt, lit≤ tt, omega arith))
 
 -- ---- the claim
 
@@ -140,7 +143,9 @@ pub demand1 : Demand1
 demand1 = record {
   requests = λ t. read-numbers http1Last (readRequest t) (lit≤ tt) (request-refused t);
   responses = λ t. read-numbers http1Last (readResponse t) (lit≤ tt) (response-refused t);
-  binaries = λ t. read-numbers binaryLast (readBinary t) (lit≤ tt) (binary-refused t);
+  binaries = λ t. read-numbers badEdition (readBinary t) (lit≤ tt) (binary-refused t);
+  editions = λ t s k p i e. let h = edition-refused t s k p i e in (h .some, h .ofForm, h .inside);
+  otherEdition = other-edition;
   whole = binary-settled;
   requestsTurned = λ t. turn-numbers (requestToBinary t) (request-turned t);
   responsesTurned = λ t. turn-numbers (responseToBinary t) (response-turned t);

@@ -7,15 +7,16 @@ use native.Mathlib.Omega.{arith}
 use borrow.Author.Tests.{le-leb, lt-leb, leb-false, eq-eqb}
 use lib.Dec.{leb}
 use lib.ListN.{length, drop}
-use Rattle.octets.specs.Refusals.{notSupported, tooLarge, noRoom, otherScheme}
+use Rattle.octets.specs.Refusals.{notSupported, tooLarge, noRoom, otherScheme, badEdition}
 use Rattle.script.specs.Script.{Answer, accepted, refused, more, means, run}
 use Rattle.messages.specs.declared.Told.{Told}
+use Rattle.messages.specs.Told.{isEdition, inEdition}
 use Rattle.messages.specs.Message.{FieldRead, Start, requestStart, responseStart, Message}
 use Rattle.messages.specs.Meaning.{Control, request, response, Meaning, controlMeans, meaning}
 use Rattle.messages.specs.Valid.{isScheme, ofResponse, valid, suits}
 use Rattle.http1.specs.Read as script
 use Rattle.http1.specs.Read.{readRequest, readResponse}
-use Rattle.binary.specs.Read.{readBinary}
+use Rattle.binary.specs.Read.{readSized, readBinary}
 use Rattle.binary_writer.specs.Write.{binaryOf, binaryFits, toBinary}
 use Rattle.http1_writer.specs.Write.{http1Of, http1Fits, onConnection, toHttp1}
 use Rattle.output.specs.Splice.{splice}
@@ -81,12 +82,12 @@ lent (refuses j q) = wrong-lent j q
 module _ (w : Turning) (turn : List ℕ → Reply) (replies : (s : List ℕ) → turn s ≡ replyTo w s)
     (back : (s : List ℕ) (n : ℕ) (m : Message) → w .read s ≡ accepted n m → w .goes (meaning m) ≡ true → w .fits (meaning m) ≡ true
     → (rest : List ℕ) → means meaning (w .back (meaning m .control) (w .write (meaning m) ++ behind (w .streams) rest)) ≡ accepted (length (w .write (meaning m))) (meaning m)) where
-  is-turned : (s : List ℕ) (n : ℕ) (m : Message) → w .told ≡ true → w .read s ≡ accepted n m → w .goes (meaning m) ≡ true → w .fits (meaning m) ≡ true
+  is-turned : (s : List ℕ) (n : ℕ) (m : Message) → w .edition ≡ true → w .told ≡ true → w .read s ≡ accepted n m → w .goes (meaning m) ≡ true → w .fits (meaning m) ≡ true
       → turn s ≡ writes (w .write (meaning m))
-  is-turned s n m e r g f = replies s ∙ rw (e, r, g, f)
+  is-turned s n m i e r g f = replies s ∙ rw (i, e, r, g, f)
 
   is-kept : (s b : List ℕ) → turn s ≡ writes b → Kept w s b
-  is-kept s b e = first (w .told) (sym (replies s) ∙ e)
+  is-kept s b e = edition (w .edition) (sym (replies s) ∙ e)
     where
       on : (n : ℕ) (m : Message) → w .read s ≡ accepted n m → (g f : Bool) → w .goes (meaning m) ≡ g → w .fits (meaning m) ≡ f
           → cond g (cond f (writes (w .write (meaning m))) (refuses tooLarge 0)) (refuses otherScheme 0) ≡ writes b → Kept w s b
@@ -105,26 +106,30 @@ module _ (w : Turning) (turn : List ℕ → Reply) (replies : (s : List ℕ) →
       first true h = go (w .read s) refl h
       first false h = no cc
 
+      edition : (x : Bool) → cond x (cond (w .told) (replyFor w (length s) (w .read s)) (refuses notSupported 0)) (refuses badEdition 0) ≡ writes b → Kept w s b
+      edition true h = first (w .told) h
+      edition false h = no cc
+
   turns : Turns w turn
   turns = record { reply = replies; turned = is-turned; kept = is-kept; room = λ s. lent (turn s) }
 
 -- ---- into Binary
 
-binary-reply : (t : Told) (told : Bool) (read : List ℕ → Answer Message) (n : ℕ) (x : Answer Message) → turn.replyFrom n x toBinary ≡ replyFor (intoBinary t told read) n x
+binary-reply : (t : Told) (edition told : Bool) (read : List ℕ → Answer Message) (n : ℕ) (x : Answer Message) → turn.replyFrom n x toBinary ≡ replyFor (intoBinary t edition told read) n x
 unfolding toBinary
-binary-reply t told read n (accepted k m) = refl
-binary-reply t told read n (refused k p) = refl
-binary-reply t told read n more = refl
+binary-reply t edition told read n (accepted k m) = refl
+binary-reply t edition told read n (refused k p) = refl
+binary-reply t edition told read n more = refl
 
 -- from any reader whose messages are valid and suit what is told
-module _ (t : Told) (told : Bool) (read : List ℕ → Answer Message)
+module _ (t : Told) (edition told : Bool) (read : List ℕ → Answer Message)
     (sound : (s : List ℕ) (n : ℕ) (m : Message) → read s ≡ accepted n m → (valid (meaning m) ≡ true) × (suits t (meaning m) ≡ true)) where
   binary-back : (s : List ℕ) (n : ℕ) (m : Message) → read s ≡ accepted n m → true ≡ true → binaryFits (meaning m) ≡ true
-      → (rest : List ℕ) → means meaning (readBinary t (binaryOf (meaning m) ++ [])) ≡ accepted (length (binaryOf (meaning m))) (meaning m)
+      → (rest : List ℕ) → means meaning (readBinary (inEdition 0 t) (binaryOf (meaning m) ++ [])) ≡ accepted (length (binaryOf (meaning m))) (meaning m)
   binary-back s n m r g f rest = rw (append-nil (binaryOf (meaning m))) (round-trip-of-meanings t (meaning m) (sound s n m r .0) (sound s n m r .1) f)
 
-  binary-turns : (turn : List ℕ → Reply) → ((s : List ℕ) → turn s ≡ replyTo (intoBinary t told read) s) → Turns (intoBinary t told read) turn
-  binary-turns turn replies = turns (intoBinary t told read) turn replies binary-back
+  binary-turns : (turn : List ℕ → Reply) → ((s : List ℕ) → turn s ≡ replyTo (intoBinary t edition told read) s) → Turns (intoBinary t edition told read) turn
+  binary-turns turn replies = turns (intoBinary t edition told read) turn replies binary-back
 
 request-replies : (t : Told) (s : List ℕ) → requestToBinary t s ≡ replyTo (requestsAsBinary t) s
 unfolding requestToBinary readRequest
@@ -133,16 +138,22 @@ request-replies t s = go (isScheme (t .scheme)) (run (script.request t) 0 s)
     go : (b : Bool) (x : Answer Message)
         → turn.replyFrom (length s) (cond b x (refused notSupported 0)) toBinary
         ≡ cond b (replyFor (requestsAsBinary t) (length s) (cond b x (refused notSupported 0))) (refuses notSupported 0)
-    go true x = binary-reply t _ _ (length s) x
+    go true x = binary-reply t _ _ _ (length s) x
     go false x = refl
 
 response-replies : (t : Told) (s : List ℕ) → responseToBinary t s ≡ replyTo (responsesAsBinary t) s
 unfolding responseToBinary
-response-replies t s = binary-reply t _ _ (length s) (readResponse t s)
+response-replies t s = binary-reply t _ _ _ (length s) (readResponse t s)
 
 anew-replies : (t : Told) (s : List ℕ) → binaryToBinary t s ≡ replyTo (binaryAnew t) s
-unfolding binaryToBinary
-anew-replies t s = binary-reply t _ _ (length s) (readBinary t s)
+unfolding binaryToBinary readBinary
+anew-replies t s = go (isEdition (t .edition)) (readSized t s)
+  where
+    go : (b : Bool) (x : Answer Message)
+        → turn.replyFrom (length s) (cond b x (refused badEdition 0)) toBinary
+        ≡ cond b (replyFor (binaryAnew t) (length s) (cond b x (refused badEdition 0))) (refuses badEdition 0)
+    go true x = binary-reply t _ _ _ (length s) x
+    go false x = refl
 
 -- ---- into HTTP/1.1
 
@@ -157,7 +168,9 @@ http1-reply t n more = refl
 
 http1-replies : (t : Told) (s : List ℕ) → binaryToHttp1 t s ≡ replyTo (binaryAsHttp1 t) s
 unfolding binaryToHttp1
-http1-replies t s = ap (λ (y : Reply). cond (isScheme (t .scheme)) y (refuses notSupported 0)) (http1-reply t (length s) (readBinary t s))
+http1-replies t s =
+    ap (λ (y : Reply). cond (isEdition (t .edition)) (cond (isScheme (t .scheme)) y (refuses notSupported 0)) (refuses badEdition 0))
+    (http1-reply t (length s) (readBinary t s))
 
 -- a valid meaning that goes on the connection and fits is read back by the reader of its kind
 http1-meanings : (t : Told) (m : Meaning) (c : Control) → m .control ≡ c → valid m ≡ true → suits t m ≡ true → onConnection t c ≡ true → http1Fits t m ≡ true
@@ -192,8 +205,8 @@ demand2 = record {
   ofRequests = of-requests;
   ofResponses = of-responses;
   requests = λ t.
-      binary-turns t (isScheme (t .scheme)) (readRequest t) (λ s n m r. let h = request-sound t s n m r in (h .sound .valid, h .suits)) (requestToBinary t) (request-replies t);
-  responses = λ t. binary-turns t true (readResponse t) (λ s n m r. let h = response-sound t s n m r in (h .sound .valid, h .suits)) (responseToBinary t) (response-replies t);
-  binaries = λ t. binary-turns t true (readBinary t) (λ s n m r. let h = binary-sound t s n m r in (h .sound .valid, h .suits)) (binaryToBinary t) (anew-replies t);
+      binary-turns t true (isScheme (t .scheme)) (readRequest t) (λ s n m r. let h = request-sound t s n m r in (h .sound .valid, h .suits)) (requestToBinary t) (request-replies t);
+  responses = λ t. binary-turns t true true (readResponse t) (λ s n m r. let h = response-sound t s n m r in (h .sound .valid, h .suits)) (responseToBinary t) (response-replies t);
+  binaries = λ t. binary-turns t (isEdition (t .edition)) true (readBinary t) (λ s n m r. let h = binary-sound t s n m r in (h .sound .valid, h .suits)) (binaryToBinary t) (anew-replies t);
   http1 = http1-turns;
 }

@@ -30,7 +30,7 @@ use Rattle.output.specs.declared.Written.{Written}
 use Rattle.output.specs.declared.Written.the-variants.{Done, Refused}
 use Rattle.output.proofs.Serve.{after-tail}
 use Rattle.http1_round_trip.specs.RoundTrip.{isRequestOf, RequestOf}
-use Rattle.http1_round_trip.proofs.Back.{request-meanings, text-unused, fits-unused}
+use Rattle.http1_round_trip.proofs.Back.{request-meanings, text-unused, fits-unused, edition-text, edition-fits}
 use Rattle.demands.specs.Demand2.{binaryAsHttp1, Kept}
 use Rattle.demands.specs.Demand3.{Call, toldOf, replyOf, Space, fresh, lentIn, answerIn, longOf, call, entryIn, calls, entriesIn, spaceOf, streamOf, entriesOf, meaningsOf, NotResponse, NoResponse, readMeaning, Demand3}
 use Rattle.demands.proofs.Demand2.{no, binary-valid, lent, demand2}
@@ -114,12 +114,12 @@ data Step (t : Told) (c : Call) (front lent : List ℕ) : Type 0 where
       → call t (at front lent) c ≡ at (front ++ http1Of (toldOf t c) m) (drop (length (http1Of (toldOf t c) m)) lent)
       → entryIn t (at front lent) c ≡ (length (http1Of (toldOf t c) m), m) ∷ [] → Step t c front lent
 
--- a meaning, with what the call that wrote it was told of a HEAD
+-- a meaning, with the call that wrote it
 abbrev Wrote : Type 0
-Wrote = ℕ × Meaning
+Wrote = Call × Meaning
 
 abbrev textOf : Told → Wrote → List ℕ
-textOf t w = http1Of (answering (w .0) t) (w .1)
+textOf t w = http1Of (toldOf t (w .0)) (w .1)
 
 -- what is written of meanings, and the entry of each
 abbrev texts : Told → List Wrote → List ℕ
@@ -199,9 +199,16 @@ module _ (t : Told) where
       (ap₂ space (sym (append-assoc front b (drop (length b) lent))) (ap (λ (i : ℕ). length front + i) l ∙ sym (length-append front b)))
 
   -- of the connection a call is told the scheme alone
-  on-connection : (h : ℕ) (c : Control) → onConnection (answering h t) c ≡ onConnection t c
-  on-connection h (request m s a p) = refl
-  on-connection h (response hs s) = refl
+  on-connection : (k : Call) (c : Control) → onConnection (toldOf t k) c ≡ onConnection t c
+  on-connection k (request m s a p) = refl
+  on-connection k (response hs s) = refl
+
+  -- of a request what is told beside the scheme is not looked at in writing
+  text-told : (k : Call) (m : Meaning) → ofResponse (m .control) ≡ false → http1Of (toldOf t k) m ≡ http1Of t m
+  text-told k m n = edition-text (answering (k .head) t) (k .edition) m ∙ text-unused t (k .head) m n
+
+  fits-told : (k : Call) (m : Meaning) → ofResponse (m .control) ≡ false → http1Fits (toldOf t k) m ≡ http1Fits t m
+  fits-told k m n = edition-fits (answering (k .head) t) (k .edition) m ∙ fits-unused t (k .head) m n
 
   step : (c : Call) (front lent : List ℕ) → Step t c front lent
   step c front rest = go (answerIn t (at front rest) c) refl
@@ -217,14 +224,14 @@ module _ (t : Told) where
           let l = lent (replyOf t c) .done rest (a .kept .text) (a .kept .reply) room in
           let y = accepted-entry (at front rest) c n (k .message) (k .long) e (k .read) in
           let d = written-call front rest c n (a .kept .text) e (a .kept .long) (l .1) in
-          adds m (binary-valid (toldOf t c) (c .input) (k .long) (k .message) (k .read)) (k .fits) (sym (on-connection (c .head) (m .control)) ∙ k .goes) (rw z at room) (rw z at d)
+          adds m (binary-valid (toldOf t c) (c .input) (k .long) (k .message) (k .read)) (k .fits) (sym (on-connection c (m .control)) ∙ k .goes) (rw z at room) (rw z at d)
           (y ∙ ap (λ (i : ℕ). (i, m) ∷ []) (a .kept .long ∙ ap length z))
 
   -- ---- a list of calls
 
   -- what the writer turns
   abbrev Writable : Wrote → Type 0
-  Writable w = (valid (w .1) ≡ true) × (http1Fits (answering (w .0) t) (w .1) ≡ true) × (onConnection t (w .1 .control) ≡ true)
+  Writable w = (valid (w .1) ≡ true) × (http1Fits (toldOf t (w .0)) (w .1) ≡ true) × (onConnection t (w .1 .control) ≡ true)
 
   -- from the octets `front` on: what is then there are the meanings ws, written
   record Left (z : Space) (cs : List Call) (front rest : List ℕ) : Type 0 where
@@ -280,7 +287,7 @@ module _ (t : Told) where
       go : Step t c front rest → ((f r : List ℕ) → Left (at f r) cs f r) → Left (at front rest) (c ∷ cs) front rest
       go (skips d e) ih = left-same c cs front rest d e (ih front rest)
       go (adds m v f g r d e) ih =
-          let w : Wrote = (c .head, m) in
+          let w : Wrote = (c, m) in
           left-more w (v, f, g) c cs front rest r d e (ih (front ++ textOf t w) (drop (length (textOf t w)) rest))
 
   -- ---- where no response is among them
@@ -292,21 +299,21 @@ module _ (t : Told) where
   requests-of : (ws : List Wrote) → Each Writable ws → Each NotResponse (map (measured t) ws) → Each (RequestOf t) (meant ws)
   requests-of [] e h = tt
   requests-of (w ∷ ws) e h =
-      let f = fits-unused t (w .0) (w .1) (h .0) in
+      let f = fits-told (w .0) (w .1) (h .0) in
       ((e .0 .0, sym f ∙ e .0 .1, request-of (w .1 .control) (e .0 .2) (h .0)), requests-of ws (e .1) (h .1))
 
   stream-texts : (ws : List Wrote) → Each (RequestOf t) (meant ws) → Each NotResponse (map (measured t) ws) → stream (write t) (meant ws) ≡ texts t ws
   unfolding stream
   stream-texts [] h n = refl
   stream-texts (w ∷ ws) h n =
-      rw (write-is t (w .1) (h .0)) (ap₂ (λ (a b : List ℕ). a ++ b) (sym (text-unused t (w .0) (w .1) (n .0))) (stream-texts ws (h .1) (n .1)))
+      rw (write-is t (w .1) (h .0)) (ap₂ (λ (a b : List ℕ). a ++ b) (sym (text-told (w .0) (w .1) (n .0))) (stream-texts ws (h .1) (n .1)))
 
   entries-measured : (ws : List Wrote) → Each (RequestOf t) (meant ws) → Each NotResponse (map (measured t) ws) → entries (write t) (meant ws) ≡ map (measured t) ws
   unfolding entries
   entries-measured [] h n = refl
   entries-measured (w ∷ ws) h n =
       rw (write-is t (w .1) (h .0))
-      (ap₂ (λ (a : List ℕ) (k : List (ℕ × Meaning)). (length a, w .1) ∷ k) (sym (text-unused t (w .0) (w .1) (n .0))) (entries-measured ws (h .1) (n .1)))
+      (ap₂ (λ (a : List ℕ) (k : List (ℕ × Meaning)). (length a, w .1) ∷ k) (sym (text-told (w .0) (w .1) (n .0))) (entries-measured ws (h .1) (n .1)))
 
   -- ---- the calls in a fresh space
 

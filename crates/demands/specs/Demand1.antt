@@ -3,11 +3,13 @@
 use Prim.Native.Nat.{ℕ, _≤_}
 use mathlib.Core.Path.{_≡_}
 use mathlib.Core.Logic.{_↔_}
+use mathlib.Core.Bool.{true, false}
 use mathlib.Core.List.{List}
 use lib.ListN.{length}
-use Rattle.octets.specs.Refusals.{moreNeeded}
+use Rattle.octets.specs.Refusals.{moreNeeded, badEdition}
 use Rattle.script.specs.Script.{Answer, accepted, refused, more, Settled}
 use Rattle.messages.specs.declared.Told.{Told}
+use Rattle.messages.specs.Told.{isEdition}
 use Rattle.messages.specs.Message.{Message}
 use Rattle.messages.specs.Answers.{readingOf, numberOf}
 use Rattle.http1.specs.Read.{readRequest, readResponse}
@@ -41,9 +43,9 @@ pub record ReadNumbers (last : ℕ) (read : List ℕ → Answer Message) : Type 
 
 -- ---- turning
 
--- the last of all numbers: turning adds 13 and 14 to those of reading
+-- the last of all numbers: turning adds 13 and 14 to those of reading, and 17 is of what a call on Binary is told
 abbrev pub turnLast : ℕ
-turnLast = 14
+turnLast = 17
 
 -- what the numbers of a turning say
 pub record TurnNumbers (turn : List ℕ → Reply) : Type 0 where
@@ -61,8 +63,10 @@ pub record Demand1 : Type 0 where
   -- the readers of HTTP/1.1, whatever is told: 2 to 8
   pub requests : (t : Told) → ReadNumbers 8 (readRequest t)
   pub responses : (t : Told) → ReadNumbers 8 (readResponse t)
-  -- the reader of Binary HTTP: 2 to 12, and it never asks for more
-  pub binaries : (t : Told) → ReadNumbers 12 (readBinary t)
+  -- the reader of Binary HTTP: 17 at 0 where the number told is no edition's, else 2 to 12; and it never asks for more
+  pub binaries : (t : Told) → ReadNumbers 17 (readBinary t)
+  pub editions : (t : Told) (s : List ℕ) (k p : ℕ) → isEdition (t .edition) ≡ true → readBinary t s ≡ refused k p → RefusalWithin 2 12 s k p
+  pub otherEdition : (t : Told) (s : List ℕ) → isEdition (t .edition) ≡ false → readBinary t s ≡ refused badEdition 0
   pub whole : (t : Told) (s : List ℕ) → Settled (readBinary t s)
   -- the four turnings
   pub requestsTurned : (t : Told) → TurnNumbers (requestToBinary t)

@@ -1,5 +1,6 @@
 -- Demand 2 (00): "Turning a message from either form into the other keeps its meaning: control data, fields in order, content and trailers. The only
--- messages that can't be turned are those that document 01 numbers." A stated length is part of the meaning (02, item 5). One statement, `Turns`, of each of
+-- messages that can't be turned are those that document 01 numbers." A stated length is part of the meaning (02, item 5), and Binary is
+-- read in either edition (02, item 7). One statement, `Turns`, of each of
 -- the four turnings (01, "The two forms and the meaning between them", "Numbers a call answers with").
 use Prim.Native.Nat.{ℕ, _<_, _≤_}
 use mathlib.Core.Path.{_≡_}
@@ -7,9 +8,10 @@ use mathlib.Core.Bool.{Bool, true, false, cond}
 use mathlib.Core.Logic.{_↔_}
 use mathlib.Core.List.{List, [], _++_}
 use lib.ListN.{length, drop}
-use Rattle.octets.specs.Refusals.{moreNeeded, notSupported, tooLarge, noRoom, otherScheme}
+use Rattle.octets.specs.Refusals.{moreNeeded, notSupported, tooLarge, noRoom, otherScheme, badEdition}
 use Rattle.script.specs.Script.{Answer, accepted, refused, more, means}
 use Rattle.messages.specs.declared.Told.{Told}
+use Rattle.messages.specs.Told.{isEdition, inEdition}
 use Rattle.messages.specs.Message.{Message}
 use Rattle.messages.specs.Meaning.{Control, request, response, Meaning, meaning}
 use Rattle.messages.specs.Valid.{isScheme, ofResponse}
@@ -40,38 +42,41 @@ pub record Turning : Type 0 where
   pub back : Control → List ℕ → Answer Message
   -- the written form is read off a stream, so that octets may stand behind; a Binary input is one message
   pub streams : Bool
+  -- the number told is an edition's, or none is told
+  pub edition : Bool
 
 -- each reader takes its own kind of message
 abbrev pub http1Reader : Told → Control → List ℕ → Answer Message
 http1Reader t (request m s a p) = readRequest t
 http1Reader t (response hs s) = readResponse t
 
--- into Binary, from any reader: every message goes, if it fits
-abbrev pub intoBinary : Told → Bool → (List ℕ → Answer Message) → Turning
-intoBinary t told read =
+-- into Binary, from any reader: every message goes, if it fits. RFC 9292 is written, whatever edition was read
+abbrev pub intoBinary : Told → Bool → Bool → (List ℕ → Answer Message) → Turning
+intoBinary t edition told read =
     record {
       told = told;
       read = read;
       goes = λ m. true;
       fits = binaryFits;
       write = binaryOf;
-      back = λ c. readBinary t;
+      back = λ c. readBinary (inEdition 0 t);
       streams = false;
+      edition = edition;
     }
 
 -- the four turnings: requests as Binary
 abbrev pub requestsAsBinary : Told → Turning
-requestsAsBinary t = intoBinary t (isScheme (t .scheme)) (readRequest t)
+requestsAsBinary t = intoBinary t true (isScheme (t .scheme)) (readRequest t)
 
 -- responses as Binary
 abbrev pub responsesAsBinary : Told → Turning
-responsesAsBinary t = intoBinary t true (readResponse t)
+responsesAsBinary t = intoBinary t true true (readResponse t)
 
--- Binary written anew
+-- Binary of the edition told, written anew
 abbrev pub binaryAnew : Told → Turning
-binaryAnew t = intoBinary t true (readBinary t)
+binaryAnew t = intoBinary t (isEdition (t .edition)) true (readBinary t)
 
--- Binary as HTTP/1.1, on a connection of the scheme told
+-- Binary of the edition told as HTTP/1.1, on a connection of the scheme told
 abbrev pub binaryAsHttp1 : Told → Turning
 binaryAsHttp1 t =
     record {
@@ -82,6 +87,7 @@ binaryAsHttp1 t =
       write = http1Of t;
       back = http1Reader t;
       streams = true;
+      edition = isEdition (t .edition);
     }
 
 -- ---- what it replies
@@ -96,9 +102,9 @@ replyFor w n (accepted k m) = replyOn w (meaning m)
 replyFor w n (refused k p) = refuses k p
 replyFor w n more = refuses moreNeeded n
 
--- any call told a number that is no scheme's is 4 at 0, first
+-- any call told a number that is no edition's is 17 at 0, before all else, and one that is no scheme's 4 at 0, next
 abbrev pub replyTo : Turning → List ℕ → Reply
-replyTo w s = cond (w .told) (replyFor w (length s) (w .read s)) (refuses notSupported 0)
+replyTo w s = cond (w .edition) (cond (w .told) (replyFor w (length s) (w .read s)) (refuses notSupported 0)) (refuses badEdition 0)
 
 -- ---- what it keeps
 
@@ -138,7 +144,7 @@ pub record Turns (w : Turning) (turn : List ℕ → Reply) : Type 0 where
   -- the reply in every case of the reader's answer. A build that refuses everything, or what 01 does not number, is shut out; so is a constant answer
   pub reply : (s : List ℕ) → turn s ≡ replyTo w s
   -- whatever is accepted, goes on the connection and fits is turned: the same, said of one message
-  pub turned : (s : List ℕ) (n : ℕ) (m : Message) → w .told ≡ true → w .read s ≡ accepted n m → w .goes (meaning m) ≡ true → w .fits (meaning m) ≡ true
+  pub turned : (s : List ℕ) (n : ℕ) (m : Message) → w .edition ≡ true → w .told ≡ true → w .read s ≡ accepted n m → w .goes (meaning m) ≡ true → w .fits (meaning m) ≡ true
       → turn s ≡ writes (w .write (meaning m))
   -- what is written keeps the meaning. A build that says 0 and writes nothing, or something else, is shut out
   pub kept : (s b : List ℕ) → turn s ≡ writes b → Kept w s b

@@ -1,4 +1,4 @@
--- Demand 3 (00; 01, "Streams under one scheme"; 02, item 5): a list of calls of the HTTP/1.1 writer under one scheme, in one lent space, and what the request reader
+-- Demand 3 (00; 01, "Streams under one scheme"; 02, items 5 and 7): a list of calls of the HTTP/1.1 writer under one scheme, in one lent space, and what the request reader
 -- takes off the octets that they leave there. A single claim about the whole list: `Demand3`.
 use Prim.Native.Nat.{ℕ, _+_, _≤_}
 use mathlib.Core.Path.{_≡_}
@@ -8,7 +8,7 @@ use mathlib.Core.List.{List, [], _∷_, _++_, map}
 use lib.ListN.{length, take, drop}
 use Rattle.script.specs.Script.{Answer, accepted, refused, more, means}
 use Rattle.stream.specs.Taking.{waits, takeF, takeOff, resume, onto}
-use Rattle.messages.specs.Told.{answering}
+use Rattle.messages.specs.Told.{answering, inEdition}
 use Rattle.messages.specs.declared.Told.{Told}
 use Rattle.messages.specs.Message.{Message}
 use Rattle.messages.specs.Meaning.{Meaning, meaning}
@@ -26,14 +26,15 @@ use Rattle.turn.specs.Turn.{binaryToHttp1}
 
 -- ---- one call
 
--- a call: whether its message answers a HEAD, and its Binary input. The scheme is that of the whole list
+-- a call: whether its message answers a HEAD, its Binary input, and the edition of that. The scheme is that of the whole list
 pub record Call : Type 0 where
   pub head : ℕ
   pub input : List ℕ
+  pub edition : ℕ
 
 -- what it is told
 abbrev pub toldOf : Told → Call → Told
-toldOf t c = answering (c .head) t
+toldOf t c = inEdition (c .edition) (answering (c .head) t)
 
 -- what it is to write
 abbrev pub replyOf : Told → Call → Reply

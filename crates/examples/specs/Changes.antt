@@ -3,10 +3,10 @@ use Prim.Native.Nat.{ℕ}
 use mathlib.Core.List.{List, [], _∷_, _++_}
 use lib.ListN.{take}
 use Rattle.octets.specs.Ascii.{ascii}
-use Rattle.messages.specs.Told.{answering, closing, keeping}
+use Rattle.messages.specs.Told.{plain, answering, closing, keeping, inEdition}
 use Rattle.messages.specs.declared.StatedLength.the-variants.{Missing, Of}
 use Rattle.messages.specs.declared.Told.{Told}
-use Rattle.examples.specs.Examples.{http, Example, integer, http1, http1Reply, binaryReply, states, replyBecomes, goesAs, hex, AllHold}
+use Rattle.examples.specs.Examples.{http, Example, integer, http1, http1Reply, binaryReply, states, replyBecomes, goesAs, anewAs, turnedAway, figure13, hex, AllHold}
 
 -- item 4: the sample integers of RFC 9000, appendix A.1, one of each width, the last in a form that is not the shortest
 unfoldable pub widths : List Example
@@ -126,9 +126,93 @@ empties =
     ∷ goesAs (keeping 1 http) (emptyOf (hex "04" ++ ascii "POST")) (ascii "POST" ++ silentText)
     ∷ []
 
+-- told that the message is of the draft, and a number that is no edition's
+abbrev pub draft : Told
+draft = inEdition 1 http
+
+abbrev pub noEdition : Told
+noEdition = inEdition 2 http
+
+-- Figures 8, 9 and 11 of document 002
+unfoldable pub figure8 : List ℕ
+figure8 =
+    hex "00034745 54056874 74707300 0a2f6865 6c6c6f2e 74787440 6c0a7573 65722d61"
+    ++ hex "67656e74 34637572 6c2f372e 31362e33 206c6962 6375726c 2f372e31 362e3320"
+    ++ hex "4f70656e 53534c2f 302e392e 376c207a 6c69622f 312e322e 3304686f 73740f77"
+    ++ hex "77772e65 78616d70 6c652e63 6f6d0f61 63636570 742d6c61 6e677561 67650665"
+    ++ hex "6e2c206d 690000"
+
+unfoldable pub figure9 : List ℕ
+figure9 =
+    hex "02034745 54056874 74707300 0a2f6865 6c6c6f2e 7478740a 75736572 2d616765"
+    ++ hex "6e743463 75726c2f 372e3136 2e33206c 69626375 726c2f37 2e31362e 33204f70"
+    ++ hex "656e5353 4c2f302e 392e376c 207a6c69 622f312e 322e3304 686f7374 0f777777"
+    ++ hex "2e657861 6d706c65 2e636f6d 0f616363 6570742d 6c616e67 75616765 06656e2c"
+    ++ hex "206d6900 0000"
+
+unfoldable pub figure11 : List ℕ
+figure11 =
+    hex "03406607 72756e6e 696e670a 22736c65 65702031 35220040 67046c69 6e6b233c"
+    ++ hex "2f737479 6c652e63 73733e3b 2072656c 3d707265 6c6f6164 3b206173 3d737479"
+    ++ hex "6c65046c 696e6b24 3c2f7363 72697074 2e6a733e 3b207265 6c3d7072 656c6f61"
+    ++ hex "643b2061 733d7363 72697074 0040c804 64617465 1d4d6f6e 2c203237 204a756c"
+    ++ hex "20323030 39203132 3a32383a 35332047 4d540673 65727665 72064170 61636865"
+    ++ hex "0d6c6173 742d6d6f 64696669 65641d57 65642c20 3232204a 756c2032 30303920"
+    ++ hex "31393a31 353a3536 20474d54 04657461 67142233 34616133 38372d64 2d313536"
+    ++ hex "38656230 30220d61 63636570 742d7261 6e676573 05627974 65730e63 6f6e7465"
+    ++ hex "6e742d6c 656e6774 68023531 04766172 790f4163 63657074 2d456e63 6f64696e"
+    ++ hex "670c636f 6e74656e 742d7479 70650a74 6578742f 706c6169 6e003348 656c6c6f"
+    ++ hex "20576f72 6c642120 4d792063 6f6e7465 6e742069 6e636c75 64657320 61207472"
+    ++ hex "61696c69 6e672043 524c462e 0d0a0000"
+
+-- a POST to the authority that is named, up to its control data's end
+abbrev pub postTo : List ℕ → List ℕ
+postTo authority = hex "00 04504f5354 0468747470" ++ authority ++ hex "022f73"
+
+-- the same with a field x without a value, and with no more than a host line without one
+unfoldable pub emptyValue : List ℕ
+emptyValue = postTo (hex "0161") ++ hex "03 0178 00 00 00"
+
+unfoldable pub emptyHost : List ℕ
+emptyHost = postTo (hex "00") ++ hex "06 04686f7374 00 00 00"
+
+-- item 7
+unfoldable pub editions : List Example
+editions =
+    -- the draft's own figures
+    binaryReply draft figure8 0 135
+    ∷ binaryReply draft figure9 0 134
+    ∷ binaryReply draft figure11 0 368
+    ∷ binaryReply draft figure13 0 48
+    -- a value can't be empty: 2 at its line, an empty host too
+    ∷ binaryReply http emptyValue 0 22
+    ∷ binaryReply draft emptyValue 2 17
+    ∷ binaryReply http emptyHost 6 22
+    ∷ binaryReply draft emptyHost 2 16
+    -- an octet behind the trailers
+    ∷ binaryReply http (figure13 ++ hex "00") 0 49
+    ∷ binaryReply draft (figure13 ++ hex "00") 12 48
+    -- a message ends before its final header section: its rules are judged
+    ∷ binaryReply http (postTo (hex "0161")) 9 16
+    ∷ binaryReply draft (postTo (hex "0161")) 0 16
+    ∷ binaryReply draft (postTo (hex "00")) 6 15
+    ∷ binaryReply draft (hex "01 40c8") 0 3
+    -- an informational head has its section, and a final status behind it
+    ∷ binaryReply draft (hex "01 4064") 9 3
+    ∷ binaryReply draft (hex "01 4064 00") 9 4
+    -- RFC 9292 is written
+    ∷ anewAs draft (postTo (hex "0161")) (postTo (hex "0161") ++ hex "00 00 00")
+    -- another number is 17 at 0, before a scheme's 4 too
+    ∷ binaryReply noEdition figure13 17 0
+    ∷ binaryReply (inEdition 4294967295 http) [] 17 0
+    ∷ turnedAway (inEdition 2 (plain 2)) figure13 17 0
+    ∷ turnedAway (inEdition 1 (plain 2)) figure13 4 0
+    ∷ []
+
 -- the statement: every row holds
 pub record Statement : Type 0 where
   pub item4 : AllHold widths
   pub item5 : AllHold replies
+  pub item7 : AllHold editions
   pub item9 : AllHold empties
   pub item10 : AllHold closings

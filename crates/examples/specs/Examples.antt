@@ -70,6 +70,10 @@ pub data Example : Type 0 where
   anew : List ℕ → List ℕ → Example
   -- so many octets
   long : List ℕ → ℕ → Example
+  -- a Binary message, as told, is written anew as these octets
+  anewAs : Told → List ℕ → List ℕ → Example
+  -- a Binary message, as told, does not become HTTP/1.1: number and place
+  turnedAway : Told → List ℕ → ℕ → ℕ → Example
 
 -- a call told http, that its message answers no HEAD, and that the connection is open
 abbrev pub http : Told
@@ -105,6 +109,8 @@ Holds (binaryHas s c t) = Counts (readingOf (readBinary http s) .outcome) c t
 Holds (becomes s b) = requestToBinary http s ≡ writes b
 Holds (anew s b) = binaryToBinary http s ≡ writes b
 Holds (long s n) = length s ≡ n
+Holds (anewAs t s b) = binaryToBinary t s ≡ writes b
+Holds (turnedAway t s k p) = binaryToHttp1 t s ≡ refuses k p
 
 -- each row of a list holds
 abbrev pub AllHold : List Example → Type 0

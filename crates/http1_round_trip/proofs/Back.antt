@@ -13,7 +13,7 @@ use Rattle.octets.proofs.Kit.{and-split}
 use Rattle.script.specs.Script.{Answer, accepted, refused, more, means}
 use Rattle.script.specs.Do.{piece, Reads}
 use Rattle.script.proofs.Do.{reads}
-use Rattle.messages.specs.Told.{answering, closing, endingOf}
+use Rattle.messages.specs.Told.{answering, closing, endingOf, inEdition}
 use Rattle.messages.specs.declared.Ending.{Ending}
 use Rattle.messages.specs.declared.StatedLength.{StatedLength}
 use Rattle.messages.specs.declared.StatedLength.the-variants.{Missing, Of}
@@ -31,7 +31,7 @@ use Rattle.http1.specs.Read.{readRequest, readResponse}
 use Rattle.http1_writer.specs.Write.{sectionText, requestLine, statusLine, informationalText, unmeasured, lineFor, lengthLine, headLines, headText, bodyText, http1Of, isSilent}
 use Rattle.http1_writer.specs.Write.{http1Fits, onConnection, toHttp1}
 use Rattle.http1_round_trip.specs.RoundTrip.{isRequestOf, RequestOf, ResponseOf, ReadsBack, RequestsBack, ResponsesBack}
-use Rattle.http1_round_trip.specs.RoundTrip.{RequestMeanings, ResponseMeanings, RequestsApart, ResponsesApart, RequestsHeadUnused, ClosedUnused}
+use Rattle.http1_round_trip.specs.RoundTrip.{RequestMeanings, ResponseMeanings, RequestsApart, ResponsesApart, RequestsHeadUnused, ClosedUnused, EditionUnused}
 use Rattle.http1_round_trip.proofs.Placed.{placedFrom, placedAt}
 use Rattle.http1_round_trip.proofs.Sections.{reads-from, reads-as}
 use Rattle.http1_round_trip.proofs.Keeping.{fields-back, heads-back, requestLines, request-kept, response-kept}
@@ -255,3 +255,22 @@ closed-unused t c m = written-alike t (closing c t) m (go (m .control)) refl
     go : (k : Control) → unmeasured (closing c t) k (m .content) ≡ unmeasured t k (m .content)
     go (request q s a p) = refl
     go (response hs s) = refl
+
+-- the edition that was read
+module _ (t : Told) (e : ℕ) (m : Meaning) where
+  edition-alike : unmeasured (inEdition e t) (m .control) (m .content) ≡ unmeasured t (m .control) (m .content)
+  unfolding endsAtHead isSilent
+  edition-alike = go (m .control)
+    where
+      go : (k : Control) → unmeasured (inEdition e t) k (m .content) ≡ unmeasured t k (m .content)
+      go (request q s a p) = refl
+      go (response hs s) = refl
+
+  pub edition-text : http1Of (inEdition e t) m ≡ http1Of t m
+  edition-text = text-alike t (inEdition e t) m edition-alike
+
+  pub edition-fits : http1Fits (inEdition e t) m ≡ http1Fits t m
+  edition-fits = fits-alike t (inEdition e t) m edition-alike
+
+pub edition-unused : EditionUnused
+edition-unused t e m = written-alike t (inEdition e t) m (edition-alike t e m) refl

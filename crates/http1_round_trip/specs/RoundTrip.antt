@@ -9,7 +9,7 @@ use Prim.Native.Nat.{ℕ}
 use lib.Dec.{eqb}
 use lib.ListN.{length}
 use Rattle.script.specs.Script.{Answer, accepted, means}
-use Rattle.messages.specs.Told.{answering, closing}
+use Rattle.messages.specs.Told.{answering, closing, inEdition}
 use Rattle.messages.specs.declared.Told.{Told}
 use Rattle.messages.specs.Message.{Message}
 use Rattle.messages.specs.Meaning.{Control, request, response, Meaning, meaning}
@@ -80,3 +80,7 @@ RequestsHeadUnused = (t : Told) (h : ℕ) (m : Meaning) → ofResponse (m .contr
 -- whether the connection has closed means nothing to the writer (02, item 10)
 abbrev pub ClosedUnused : Type 0
 ClosedUnused = (t : Told) (c : ℕ) (m : Meaning) → toHttp1 (closing c t) m ≡ toHttp1 t m
+
+-- nor does the edition that a Binary message was read in (02, item 7)
+abbrev pub EditionUnused : Type 0
+EditionUnused = (t : Told) (e : ℕ) (m : Meaning) → toHttp1 (inEdition e t) m ≡ toHttp1 t m

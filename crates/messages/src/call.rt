@@ -2,7 +2,7 @@
 use crate::Ending;
 use crate::Told;
 ghost use mathlib.Core.Path.{_≡_};
-ghost use Rattle.messages.specs.Told.{isYes, endingOf, plain as toldPlain};
+ghost use Rattle.messages.specs.Told.{isYes, isEdition, endingOf, plain as toldPlain};
 
 // What a yes or no says that a call is told.
 pub fn is_yes(n: u32) -> bool
@@ -20,7 +20,15 @@ pub fn plain(scheme: u32) -> Told
         head: 0,
         closed: 0,
         former: 0,
+        edition: 0,
     }
+}
+
+// Whether the number told is an edition's.
+pub fn is_edition(n: u32) -> bool
+    ensures { λ r. ⌜ r ≡ isEdition n ⌝ }
+{
+    n < 2
 }
 
 // Where a stream of n octets ends, as told.

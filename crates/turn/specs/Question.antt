@@ -46,6 +46,6 @@ requestQuestion t name s = questionOf name (length s) (readRequest t s)
 unfoldable pub responseQuestion : Told → List ℕ → List ℕ → Question
 responseQuestion t name s = questionOf name (length s) (readResponse t s)
 
--- of a Binary message
+-- of a Binary message of the edition told
 unfoldable pub binaryQuestion : Told → List ℕ → List ℕ → Question
 binaryQuestion t name s = questionOf name (length s) (readBinary t s)

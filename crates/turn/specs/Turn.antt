@@ -1,13 +1,14 @@
 -- Turning each form into the other, and writing Binary anew (01, "The two forms and the meaning between them", "How we write"). The order of refusals in
--- writing ("Numbers a call answers with"; 02, item 5): the reader's here, 14 and 8 at 0 in toHttp1 and toBinary, 13 in output/specs/Reply.
+-- writing ("Numbers a call answers with"; 02, items 5 and 7): the reader's here, 14 and 8 at 0 in toHttp1 and toBinary, 13 in output/specs/Reply.
 use Prim.Native.Nat.{ℕ}
 use mathlib.Core.Path.{_≡_}
 use mathlib.Core.Bool.{Bool, true, false, cond}
 use mathlib.Core.List.{List, [], _∷_}
 use lib.ListN.{length}
-use Rattle.octets.specs.Refusals.{moreNeeded, notSupported}
+use Rattle.octets.specs.Refusals.{moreNeeded, notSupported, badEdition}
 use Rattle.script.specs.Script.{Answer, accepted, refused, more}
 use Rattle.messages.specs.declared.Told.{Told}
+use Rattle.messages.specs.Told.{isEdition}
 use Rattle.messages.specs.Message.{Message}
 use Rattle.messages.specs.Meaning.{Meaning, meaning}
 use Rattle.messages.specs.Valid.{isScheme}
@@ -51,6 +52,9 @@ responseToBinary t s = replyFrom (length s) (readResponse t s) toBinary
 unfoldable pub binaryToBinary : Told → List ℕ → Reply
 binaryToBinary t s = replyFrom (length s) (readBinary t s) toBinary
 
--- Binary as HTTP/1.1 on a connection of the scheme told; told another number it is 4 at 0, first
+-- Binary as HTTP/1.1 on a connection of the scheme told; told a number that is no edition's it is 17 at 0, before all else, and one that is no scheme's 4 at 0, next
 unfoldable pub binaryToHttp1 : Told → List ℕ → Reply
-binaryToHttp1 t s = cond (isScheme (t .scheme)) (replyFrom (length s) (readBinary t s) (toHttp1 t)) (refuses notSupported 0)
+binaryToHttp1 t s =
+    cond (isEdition (t .edition))
+    (cond (isScheme (t .scheme)) (replyFrom (length s) (readBinary t s) (toHttp1 t)) (refuses notSupported 0))
+    (refuses badEdition 0)

@@ -5,6 +5,7 @@ use mathlib.Core.Bool.{true}
 use mathlib.Core.List.{List}
 use Rattle.script.specs.Script.{accepted}
 use Rattle.messages.specs.declared.Told.{Told}
+use Rattle.messages.specs.Told.{inEdition}
 use Rattle.messages.specs.Message.{Message}
 use Rattle.messages.specs.Meaning.{Meaning, meaning}
 use Rattle.binary.specs.Read.{readBinary}
@@ -30,14 +31,14 @@ fits-written : (w : Meaning) → binaryFits w ≡ true → toBinary w ≡ writes
 unfolding toBinary
 fits-written w f = rw f
 
-anew-once : (t : Told) (s b : List ℕ) → binaryToBinary t s ≡ writes b → binaryToBinary t b ≡ writes b
+anew-once : (t : Told) (s b : List ℕ) → binaryToBinary t s ≡ writes b → binaryToBinary (inEdition 0 t) b ≡ writes b
 anew-once t s b e =
     let k = kept t s b e in
     let w : Meaning = meaning (k .message) in
     let h = binary-sound t s (k .long) (k .message) (k .read) in
     let r = round-trip t w (h .sound .valid) (h .suits) (k .fits) in
     let z : b ≡ binaryOf w = k .written in
-    rw z (written-of t (binaryOf w) _ _ (r .0) ∙ ap toBinary (r .1) ∙ fits-written w (k .fits))
+    rw z (written-of (inEdition 0 t) (binaryOf w) _ _ (r .0) ∙ ap toBinary (r .1) ∙ fits-written w (k .fits))
 
 anew-apart : (t u : Told) (r s b : List ℕ) (k n : ℕ) (l m : Message) → readBinary t r ≡ accepted k l → readBinary u s ≡ accepted n m
     → binaryToBinary t r ≡ writes b → binaryToBinary u s ≡ writes b → meaning l ≡ meaning m

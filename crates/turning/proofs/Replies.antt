@@ -4,7 +4,7 @@ use mathlib.Core.Path.{_≡_, refl, sym, ap, subst, _∙_}
 use mathlib.Core.Bool.{true, false}
 use mathlib.Core.List.{List}
 use lib.ListN.{length}
-use Rattle.octets.specs.Refusals.{moreNeeded, notSupported}
+use Rattle.octets.specs.Refusals.{moreNeeded, notSupported, badEdition}
 use Rattle.script.specs.Script.{Answer, accepted, refused, more}
 use Rattle.messages.specs.Message.{Start, requestStart, responseStart, Message}
 use Rattle.messages.specs.Answers.{recordFrom, recordOf}
@@ -14,6 +14,7 @@ use Rattle.output.specs.declared.Written.{Written}
 use Rattle.output.specs.declared.Written.the-variants.{Done, Refused}
 use Rattle.output.proofs.Serve.{serve-wrong}
 use Rattle.messages.specs.declared.Told.{Told}
+use Rattle.messages.specs.Told.{isEdition}
 use Rattle.messages.specs.Room.{sectionRoom, headsRoom, informationalRoom, chunksRoom}
 use Rattle.messages.specs.Valid.{isScheme}
 use Rattle.messages.specs.declared.Record.{Record}
@@ -67,12 +68,18 @@ pub binary-held : (t : Told) (s : List ℕ) {hs hs′ ns ns′ cs cs′ ts ts′
     → o ≡ outcome.Message r → headsRoom ≤ length hs → informationalRoom ≤ length ns → chunksRoom ≤ length cs → sectionRoom ≤ length ts → IsHeld (readBinary t s) s r hs′ ns′ cs′ ts′
 binary-held t s h e = held s h e (λ n m q. binary-sound t s n m q .sound)
 
--- ---- the scheme that is told
+-- ---- the edition and the scheme that are told
 
-pub told-scheme : (t : Told) (s : List ℕ) {o o′ : List ℕ} {w : Written} → isScheme (t .scheme) ≡ true → Served (readToHttp1 t s) o o′ w → Served (binaryToHttp1 t s) o o′ w
-unfolding binaryToHttp1 readToHttp1
-told-scheme t s e h = rw e h
+module _ (t : Told) (s : List ℕ) where
+  pub told-edition : (o : List ℕ) → isEdition (t .edition) ≡ false → Served (binaryToHttp1 t s) o o (Refused badEdition 0)
+  unfolding binaryToHttp1
+  told-edition o e = rw e (serve-wrong o badEdition 0)
 
-pub told-other : (t : Told) (s o : List ℕ) → isScheme (t .scheme) ≡ false → Served (binaryToHttp1 t s) o o (Refused notSupported 0)
-unfolding binaryToHttp1
-told-other t s o e = rw e (serve-wrong o notSupported 0)
+  module _ (i : isEdition (t .edition) ≡ true) where
+    pub told-scheme : {o o′ : List ℕ} {w : Written} → isScheme (t .scheme) ≡ true → Served (readToHttp1 t s) o o′ w → Served (binaryToHttp1 t s) o o′ w
+    unfolding binaryToHttp1 readToHttp1
+    told-scheme e h = rw (i, e) h
+
+    pub told-other : (o : List ℕ) → isScheme (t .scheme) ≡ false → Served (binaryToHttp1 t s) o o (Refused notSupported 0)
+    unfolding binaryToHttp1
+    told-other o e = rw (i, e) (serve-wrong o notSupported 0)

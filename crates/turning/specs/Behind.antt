@@ -1,4 +1,4 @@
--- What the code of the turnings promises behind a judgement: in terms of `binaryToHttp1`, once the scheme told is judged, and of `takenFrom`, once the message
+-- What the code of the turnings promises behind a judgement: in terms of `binaryToHttp1`, once edition and scheme told are judged, and of `takenFrom`, once the message
 -- is accepted (turn/specs/Turn; 01, "How we write").
 use mathlib.Core.List.{List}
 use Prim.Native.Nat.{ℕ}
@@ -11,7 +11,7 @@ use Rattle.output.specs.declared.Written.{Written}
 use Rattle.output.specs.declared.Written.the-variants.{Done, Refused}
 use Rattle.turn.specs.Turn.{replyFrom}
 
--- a Binary input as HTTP/1.1, behind the judgement of the scheme that is told
+-- a Binary input as HTTP/1.1, behind the judgement of the edition and the scheme that are told
 unfoldable pub readToHttp1 : Told → List ℕ → Reply
 readToHttp1 t s = replyFrom (length s) (readBinary t s) (toHttp1 t)
 

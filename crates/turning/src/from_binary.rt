@@ -2,6 +2,7 @@
 use binary_reader::whole::binary_in;
 use messages::Outcome;
 use messages::Told;
+use messages::call::is_edition;
 use messages::parts::is_scheme;
 use octets::Refusals;
 use octets::class_table;
@@ -109,25 +110,31 @@ fn turn_http1(
 pub fn binary_to_http1(input: &[u8], told: Told, out: &mut [u8]) -> Written
     ensures { λ r. ⌜ Served (binaryToHttp1 told (now (input .entry))) (now (out .entry)) (now (out .exit)) r ⌝ }
 {
-    if is_scheme(told.scheme) {
-        let t = class_table();
-        let mut headers = [0u32; 1280];
-        let mut heads = [0u32; 8];
-        let mut chunks = [0u32; 512];
-        let mut trailers = [0u32; 256];
-        return turn_http1(
-            &t,
-            input,
-            told,
-            out,
-            &mut headers,
-            &mut heads,
-            &mut chunks,
-            &mut trailers,
-        );
+    if is_edition(told.edition) {
+        if is_scheme(told.scheme) {
+            let t = class_table();
+            let mut headers = [0u32; 1280];
+            let mut heads = [0u32; 8];
+            let mut chunks = [0u32; 512];
+            let mut trailers = [0u32; 256];
+            return turn_http1(
+                &t,
+                input,
+                told,
+                out,
+                &mut headers,
+                &mut heads,
+                &mut chunks,
+                &mut trailers,
+            );
+        }
+        return Written::Refused {
+            number: Refusals::NOT_SUPPORTED,
+            place: 0,
+        };
     }
     Written::Refused {
-        number: Refusals::NOT_SUPPORTED,
+        number: Refusals::BAD_EDITION,
         place: 0,
     }
 }

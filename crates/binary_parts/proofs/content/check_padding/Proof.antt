@@ -8,40 +8,45 @@ use Rattle.binary_parts.proofs.content.check_padding.Statement.{stateme
 use Rattle.binary_parts.proofs.content.check_padding.Tie as tie
 use Rattle.binary_parts.proofs.content.check_padding.Reads as reads
 use Rattle.binary_parts.proofs.content.check_padding.Lts as lts
+use Rattle.binary_parts.proofs.content.is_padding.Reads as is-padding-reads
 
 abbrev Inv-loop : tie.InvT-loop
-Inv-loop s from i₀ i = (i ≤ length s) × (padding from (drop from s) ≡ padding i (drop i s))
+Inv-loop s from form i₀ i = (i ≤ length s) × (padding form from (drop from s) ≡ padding form i (drop i s))
 
 abbrev μ-loop : tie.MeasureT-loop
-μ-loop s from i₀ i = length s - i
+μ-loop s from form i₀ i = length s - i
 
--- src/content.rt:29:5
+-- src/content.rt:42:5
 loop-holds : tie.Need-loop-holds Inv-loop μ-loop
-loop-holds c = (c .pre, refl)
+loop-holds c = (c .before .pre, refl)
 
--- src/content.rt:30:12
-shared-slice-read-if1 : tie.Need-shared-slice-read-if1 Inv-loop μ-loop
-shared-slice-read-if1 c = omega arith
+-- src/content.rt:43:29
+shared-slice-read-is-padding : tie.Need-shared-slice-read-is-padding Inv-loop μ-loop
+shared-slice-read-is-padding c = omega arith
 
--- src/content.rt:31:13
+-- src/content.rt:43:12
+is-padding-requires : tie.Need-is-padding-requires Inv-loop μ-loop
+is-padding-requires c κs = tt
+
+-- src/content.rt:44:13
 add-i : tie.Need-add-i Inv-loop μ-loop
 add-i c = omega arith
 
--- src/content.rt:29:5
+-- src/content.rt:42:5
 loop-less : tie.Need-loop-less Inv-loop μ-loop
 loop-less c = omega arith
 
--- src/content.rt:29:5
+-- src/content.rt:42:5
 loop-again : tie.Need-loop-again Inv-loop μ-loop
-loop-again c = (omega arith, padding-zero (c .before .before .before .before .args .s .now) (c .before .before .before .loop .i) (c .before .before .before .loop .inv .1) (c .before .before .loop-test .taken) (c .if1 .taken))
+loop-again c = (omega arith, padding-zero _ (c .before .before .before .before .before .before .args .s .now) (c .before .before .before .before .loop .i) (c .before .before .before .before .loop .inv .1) (c .before .before .before .loop-test .taken) (c .before .is-padding .ensures) (c .if1 .taken))
 
--- src/content.rt:33:13
+-- src/content.rt:46:13
 returns : tie.Need-returns Inv-loop μ-loop
-returns c = padding-other (c .before .before .before .before .args .s .now) (c .before .before .before .loop .i) (c .before .before .before .loop .inv .1) (c .before .before .loop-test .taken) (c .if1 .left)
+returns c = padding-other _ (c .before .before .before .before .before .before .args .s .now) (c .before .before .before .before .loop .i) (c .before .before .before .before .loop .inv .1) (c .before .before .before .loop-test .taken) (c .before .is-padding .ensures) (c .if1 .left)
 
--- src/content.rt:24:1
+-- src/content.rt:37:1
 returns-2 : tie.Need-returns-2 Inv-loop μ-loop
-returns-2 c = padding-end (c .before .before .args .s .now) (c .before .loop .i) (c .before .loop .inv .1) (c .before .loop .inv .0) (c .loop-test .left)
+returns-2 c = padding-end _ (c .before .before .before .args .s .now) (c .before .loop .i) (c .before .loop .inv .1) (c .before .loop .inv .0) (c .loop-test .left)
 
 pub check-padding-spec : {M : Type 1} → statement M
 check-padding-spec =
@@ -50,7 +55,8 @@ check-padding-spec =
     Inv-loop
     μ-loop
     loop-holds
-    shared-slice-read-if1
+    shared-slice-read-is-padding
+    is-padding-requires
     add-i
     loop-less
     loop-again

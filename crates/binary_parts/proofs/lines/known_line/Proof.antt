@@ -23,10 +23,10 @@ enum-told : tie.Need-enum-told
 enum-told c = search needs
 
 returns : tie.Need-returns
-returns c = lined-no (known-cut _ (c .before .before .before .before .before .args .s .now) _ (sym (c .before .before .read-int .ensures .0) ∙ c .enum-told .given .1)) refl
+returns c = lined-no (known-cut _ _ (c .before .before .before .before .before .args .s .now) _ (sym (c .before .before .read-int .ensures .0) ∙ c .enum-told .given .1)) refl
 
 returns-2 : tie.Need-returns-2
-returns-2 c = lined-no (known-none _ (c .before .before .before .before .before .before .before .args .s .now) _ (sym (c .before .before .before .before .read-int .ensures .0) ∙ c .before .before .n .given .1) (c .if1 .taken)) refl
+returns-2 c = lined-no (known-none _ _ (c .before .before .before .before .before .before .before .args .s .now) _ (sym (c .before .before .before .before .read-int .ensures .0) ∙ c .before .before .n .given .1) (c .if1 .taken)) refl
 
 after-name-length-requires : tie.Need-after-name-length-requires
 after-name-length-requires c κs = (c .before .before .before .before .before .before .before .before .pre .0, omega (arith, int-within (c .before .before .before .before .before .before .before .before .args .s .now) (c .before .before .before .before .before .before .before .before .args .at) (sym (c .before .before .before .before .before .read-int .ensures .0) ∙ c .before .before .before .n .given .1)), c .before .before .before .before .before .before .before .before .pre .2, c .before .before .before .before .before .before .before .before .pre .3)
@@ -35,7 +35,7 @@ same-length : tie.Need-same-length
 same-length c = search needs
 
 returns-3 : tie.Need-returns-3
-returns-3 c = lined-as (known-rest _ (c .before .before .before .before .before .before .before .before .before .before .before .args .s .now) _ (sym (c .before .before .before .before .before .before .before .before .read-int .ensures .0) ∙ c .before .before .before .before .before .before .n .given .1) (c .before .before .before .before .if1 .left)) (c .before .before .after-name-length .ensures)
+returns-3 c = lined-as (known-rest _ _ (c .before .before .before .before .before .before .before .before .before .before .before .args .s .now) _ (sym (c .before .before .before .before .before .before .before .before .read-int .ensures .0) ∙ c .before .before .before .before .before .before .n .given .1) (c .before .before .before .before .if1 .left)) (c .before .before .after-name-length .ensures)
 
 pub known-line-spec : {M : Type 1} → statement M
 known-line-spec =

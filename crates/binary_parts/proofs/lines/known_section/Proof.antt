@@ -1,3 +1,4 @@
+use borrow.Author.Needs.{needs}
 use native.Mathlib.Omega.{arith}
 use Prim.Native.Nat.{_+_}
 use mathlib.Core.Path.{_≡_, refl, sym, ap, _∙_}
@@ -5,65 +6,49 @@ use lib.ListN.{length, take, drop}
 use Rattle.numbers.proofs.IntegerLaws.{int-within}
 use Rattle.binary_parts.proofs.Rest.{part-short}
 use Rattle.binary_parts.proofs.Sections.{sectioned-as, section-cut, section-short, section-body}
-use borrow.Author.Needs.{needs}
 use Rattle.binary_parts.proofs.lines.known_section.Statement.{statement}
 use Rattle.binary_parts.proofs.lines.known_section.Tie as tie
 use Rattle.binary_parts.proofs.lines.known_section.Reads as reads
 use Rattle.binary_parts.proofs.lines.known_section.Lts as lts
-use Rattle.numbers.proofs.read_int.Reads as read-int-reads
-use Rattle.binary_parts.proofs.lines.known_lines.Reads as known-lines-reads
 
--- src/lines.rt:229:45
 read-int-requires : tie.Need-read-int-requires
 read-int-requires c κs = search needs
 
--- src/lines.rt:229:33
 enum-known-n : tie.Need-enum-known-n
 enum-known-n c = search needs
 
--- src/lines.rt:230:9
 enum-told : tie.Need-enum-told
 enum-told c = search needs
 
--- src/lines.rt:230:9
 returns : tie.Need-returns
-returns c = sectioned-as (section-cut (c .before .before .before .before .before .args .s .now) _ (sym (c .before .before .read-int .ensures .0) ∙ c .enum-told .given .1)) refl
+returns c = sectioned-as (section-cut _ (c .before .before .before .before .before .pre .4) (c .before .before .before .before .before .args .s .now) _ (sym (c .before .before .read-int .ensures .0) ∙ c .enum-told .given .1)) refl
 
--- src/lines.rt:235:8
 sub-if1 : tie.Need-sub-if1
 sub-if1 c = omega (arith, int-within (c .before .before .before .before .before .before .args .s .now) (c .before .before .before .before .before .before .args .from) (sym (c .before .before .before .read-int .ensures .0) ∙ c .before .n .given .1))
 
--- src/lines.rt:236:9
 returns-2 : tie.Need-returns-2
-returns-2 c = sectioned-as (section-short (c .before .before .before .before .before .before .before .args .s .now) _ (sym (c .before .before .before .before .read-int .ensures .0) ∙ c .before .before .n .given .1) (c .if1 .taken)) refl
+returns-2 c = sectioned-as (section-short _ (c .before .before .before .before .before .before .before .pre .4) (c .before .before .before .before .before .before .before .args .s .now) _ (sym (c .before .before .before .before .read-int .ensures .0) ∙ c .before .before .n .given .1) (c .if1 .taken)) refl
 
--- src/lines.rt:241:29
 add-known-lines : tie.Need-add-known-lines
-add-known-lines c = search needs
+add-known-lines c = omega (arith, int-within (c .before .before .before .before .before .before .before .args .s .now) (c .before .before .before .before .before .before .before .args .from) (sym (c .before .before .before .before .read-int .ensures .0) ∙ c .before .before .n .given .1))
 
--- src/lines.rt:241:20
 sub-known-lines : tie.Need-sub-known-lines
 sub-known-lines c = search needs
 
--- src/lines.rt:241:20
 part-known-lines-start : tie.Need-part-known-lines-start
 part-known-lines-start c = search needs
 
--- src/lines.rt:241:20
 part-known-lines-end : tie.Need-part-known-lines-end
 part-known-lines-end c = omega (arith, int-within (c .before .before .before .before .before .before .before .args .s .now) (c .before .before .before .before .before .before .before .args .from) (sym (c .before .before .before .before .read-int .ensures .0) ∙ c .before .before .n .given .1))
 
--- src/lines.rt:241:5
 known-lines-requires : tie.Need-known-lines-requires
 known-lines-requires c κs = (c .before .before .before .before .before .before .before .before .before .pre .0, omega (arith, part-short (c .before .before .before .before .before .before .before .before .before .args .s .now) (c .before .before .before .before .n .given .0 .1 .0) (c .before .before .before .before .n .given .0 .1 .0 + c .before .before .before .before .n .given .0 .0), int-within (c .before .before .before .before .before .before .before .before .before .args .s .now) (c .before .before .before .before .before .before .before .before .before .args .from) (sym (c .before .before .before .before .before .before .read-int .ensures .0) ∙ c .before .before .before .before .n .given .1)), c .before .before .before .before .before .before .before .before .before .pre .3)
 
--- src/lines.rt:225:1
 same-length : tie.Need-same-length
 same-length c = search needs
 
--- src/lines.rt:225:1
 returns-3 : tie.Need-returns-3
-returns-3 c = section-body (c .before .before .before .before .before .before .before .before .before .before .before .before .args .s .now) _ (sym (c .before .before .before .before .before .before .before .before .before .read-int .ensures .0) ∙ c .before .before .before .before .before .before .before .n .given .1) (c .before .before .before .before .before .if1 .left) (c .before .before .known-lines .ensures)
+returns-3 c = section-body _ (c .before .before .before .before .before .before .before .before .before .before .before .before .pre .4) (c .before .before .before .before .before .before .before .before .before .before .before .before .args .s .now) _ (sym (c .before .before .before .before .before .before .before .before .before .read-int .ensures .0) ∙ c .before .before .before .before .before .before .before .n .given .1) (c .before .before .before .before .before .if1 .left) (c .before .before .known-lines .ensures)
 
 pub known-section-spec : {M : Type 1} → statement M
 known-section-spec =

@@ -5,8 +5,8 @@ use Rattle.binary_reader.proofs.heads.after_final_status.Tie as tie
 use Rattle.binary_reader.proofs.heads.after_final_status.Reads as reads
 use Rattle.binary_reader.proofs.heads.after_final_status.Lts as lts
 
-read-section-requires : tie.Need-read-section-requires
-read-section-requires c κs = (c .before .before .before .pre .0, c .before .before .before .pre .1, c .before .before .before .pre .2, c .before .before .before .pre .3)
+header-section-requires : tie.Need-header-section-requires
+header-section-requires c κs = (c .before .before .before .pre .0, c .before .before .before .pre .1, c .before .before .before .pre .2, c .before .before .before .pre .3)
 
 enum-known-h : tie.Need-enum-known-h
 enum-known-h c = search needs
@@ -15,7 +15,7 @@ same-length : tie.Need-same-length
 same-length c = search needs
 
 returns : tie.Need-returns
-returns c = final-no (c .before .before .before .before .before .before .before .before .before .args .s .now) _ _ _ (c .before .before .before .before .before .read-section .ensures) (c .before .h .given .1)
+returns c = final-no (c .before .before .before .before .before .before .before .before .before .args .s .now) _ _ _ (c .before .before .before .before .before .header-section .ensures) (c .before .h .given .1)
 
 enum-known-h-2 : tie.Need-enum-known-h-2
 enum-known-h-2 c = search needs
@@ -24,13 +24,13 @@ same-length-2 : tie.Need-same-length-2
 same-length-2 c = search needs
 
 returns-2 : tie.Need-returns-2
-returns-2 c = final-ends (c .before .before .before .before .before .before .before .before .before .args .s .now) _ _ _ (c .before .before .before .before .before .read-section .ensures) (c .before .before .before .before .before .before .before .before .before .pre .1) (c .before .h2 .given .1) (c .before .before .before .before .before .before .before .before .before .pre .4)
+returns-2 c = final-ends (c .before .before .before .before .before .before .before .before .before .args .s .now) _ _ _ (c .before .before .before .before .before .header-section .ensures) (c .before .before .before .before .before .before .before .before .before .pre .1) (c .before .h2 .given .1) (c .before .before .before .before .before .before .before .before .before .pre .4)
 
 pub after-final-status-spec : {M : Type 1} → statement M
 after-final-status-spec =
     tie.close
     (tie.spec
-    read-section-requires
+    header-section-requires
     enum-known-h
     same-length
     returns

@@ -13,11 +13,11 @@ use Rattle.binary_reader.proofs.heads.next_head.Reads as next-head-read
 use Rattle.ranges.proofs.store.Reads as store-reads
 
 abbrev Inv-loop : tie.InvT-loop
-Inv-loop t s from known headers₀ informational₀ i₀ count₀ base₀ headers informational i count base =
-    (t ≡ classes) × (length headers ≡ length headers₀) × (length informational ≡ length informational₀) × HeadsTo (λ told. responseMessage told known from (drop from s)) known s headers₀ headers informational₀ informational i count base
+Inv-loop t s from form headers₀ informational₀ i₀ count₀ base₀ headers informational i count base =
+    (t ≡ classes) × (length headers ≡ length headers₀) × (length informational ≡ length informational₀) × HeadsTo (λ told. responseMessage told form from (drop from s)) form s headers₀ headers informational₀ informational i count base
 
 abbrev μ-loop : tie.MeasureT-loop
-μ-loop t s from known headers₀ informational₀ i₀ count₀ base₀ headers informational i count base =
+μ-loop t s from form headers₀ informational₀ i₀ count₀ base₀ headers informational i count base =
     5 - count
 
 -- src/heads.rt:135:5

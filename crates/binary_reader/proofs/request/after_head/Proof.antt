@@ -1,6 +1,5 @@
 use borrow.Author.Needs.{needs}
 use native.Mathlib.Omega.{arith}
-use mathlib.Core.Bool.{true}
 use Rattle.binary_reader.proofs.RequestLaws.{rest-wrong, head-lies, rest-good}
 use Rattle.binary_reader.proofs.request.after_head.Statement.{statement}
 use Rattle.binary_reader.proofs.request.after_head.Tie as tie
@@ -23,7 +22,7 @@ after-headers-requires : tie.Need-after-headers-requires
 after-headers-requires c κs = (c .before .before .before .before .before .before .before .before .before .pre .0, c .before .before .before .before .before .before .before .before .before .pre .1, c .before .before .before .before .before .before .before .before .before .pre .2, c .before .before .before .before .before .before .before .before .before .pre .6, c .before .before .before .before .before .before .before .before .before .pre .7)
 
 request-outcome-requires : tie.Need-request-outcome-requires
-request-outcome-requires c κs = (omega (arith, c .before .before .before .before .before .before .before .before .before .before .before .before .before .before .pre .2, c .before .before .before .before .before .before .before .before .before .before .before .before .before .before .pre .3), omega (arith, c .before .before .before .before .before .before .before .before .before .before .before .before .before .before .pre .2, head-lies (c .before .before .before .before .before .before .before .before .before .before .before .before .before .before .args .s .now) true (c .before .before .before .before .before .before .before .before .before .before .before .before .before .before .args .method) (c .before .before .before .before .before .before .before .before .before .before .before .before .before .before .args .authority) (c .before .before .before .before .before .before .before .before .before .before .before .before .before .before .args .path) 0 _ 0 _ (c .before .before .before .before .before .before .before .before .before .before .judge-head .ensures) (c .before .before .before .before .before .before .before .before .j2 .given .1)), omega (arith, c .before .before .before .before .before .before .before .before .before .before .before .before .before .before .pre .2, c .before .before .before .before .before .before .before .before .before .before .before .before .before .before .pre .5))
+request-outcome-requires c κs = (omega (arith, c .before .before .before .before .before .before .before .before .before .before .before .before .before .before .pre .2, c .before .before .before .before .before .before .before .before .before .before .before .before .before .before .pre .3), omega (arith, c .before .before .before .before .before .before .before .before .before .before .before .before .before .before .pre .2, head-lies (c .before .before .before .before .before .before .before .before .before .before .before .before .before .before .args .s .now) (c .before .before .before .before .before .before .before .before .before .before .before .before .before .before .args .form) (c .before .before .before .before .before .before .before .before .before .before .before .before .before .before .args .method) (c .before .before .before .before .before .before .before .before .before .before .before .before .before .before .args .authority) (c .before .before .before .before .before .before .before .before .before .before .before .before .before .before .args .path) 0 _ 0 _ (c .before .before .before .before .before .before .before .before .before .before .judge-head .ensures) (c .before .before .before .before .before .before .before .before .j2 .given .1)), omega (arith, c .before .before .before .before .before .before .before .before .before .before .before .before .before .before .pre .2, c .before .before .before .before .before .before .before .before .before .before .before .before .before .before .pre .5))
 
 same-length : tie.Need-same-length
 same-length c = search needs
