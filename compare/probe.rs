@@ -524,7 +524,7 @@ fn stream(told: u32, room: usize, tail: &[u8], inputs: &[Vec<u8>]) -> Result<Str
     for input in inputs {
         let before = space.all.clone();
         let (pointer, left) = (space.all[written..].as_mut_ptr(), room - written);
-        let answer = ask(|place| unsafe { entries::ospirnar_binary_to_http1(input.as_ptr(), input.len(), told, 0, 0, pointer, left, place) });
+        let answer = ask(|place| unsafe { entries::ospirnar_binary_to_http1(input.as_ptr(), input.len(), told, 0, 0, 0, pointer, left, place) });
         let used = if answer.number == 0 { answer.place } else { 0 };
         if used > left {
             return Err("range");
