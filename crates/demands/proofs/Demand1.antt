@@ -51,12 +51,17 @@ response-from = (lit≤ tt, (lit≤ tt, (lit≤ tt, (lit≤ tt, (lit≤ tt, (lit
 binary-from : From 2 binaryNumbers
 binary-from = (lit≤ tt, (lit≤ tt, (lit≤ tt, (lit≤ tt, (lit≤ tt, (lit≤ tt, (lit≤ tt, (lit≤ tt, (lit≤ tt, (lit≤ tt, tt))))))))))
 
+-- so none that is one of them
+above : (least : ℕ) (ns : List ℕ) → From least ns → (k : ℕ) → isOneOf ns k ≡ true → least ≤ k
+above least ns h k e = one-of (λ i. least ≤ i) ns h k e
+
+-- so no refusal of Binary HTTP
+pub binary-above : {s : List ℕ} {k p : ℕ} → Refusal binaryNumbers s k p → 2 ≤ k
+binary-above {s} {k} r = above 2 binaryNumbers binary-from k (r .ofForm)
+
 -- one number more
 later : (j : ℕ) (ns : List ℕ) → Among ns (j ∷ ns)
 later j ns = record { has = λ k e. either (λ b. b ≡ true) (eqb j k) true (isOneOf ns k) (λ a. refl) (λ a. e) }
-
-above : (least : ℕ) (ns : List ℕ) → From least ns → (k : ℕ) → isOneOf ns k ≡ true → least ≤ k
-above least ns h k e = one-of (λ i. least ≤ i) ns h k e
 
 -- ---- reading
 
