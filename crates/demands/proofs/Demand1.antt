@@ -39,20 +39,20 @@ use Rattle.demands.proofs.Demand2.{no, lent}
 -- ---- sets
 
 -- none of these is below so many
-abbrev From : ℕ → List ℕ → Type 0
+abbrev pub From : ℕ → List ℕ → Type 0
 From least ns = Each (λ k. least ≤ k) ns
 
-request-from : From 2 requestNumbers
+pub request-from : From 2 requestNumbers
 request-from = (lit≤ tt, (lit≤ tt, (lit≤ tt, (lit≤ tt, (lit≤ tt, (lit≤ tt, tt))))))
 
-response-from : From 2 responseNumbers
+pub response-from : From 2 responseNumbers
 response-from = (lit≤ tt, (lit≤ tt, (lit≤ tt, (lit≤ tt, (lit≤ tt, (lit≤ tt, tt))))))
 
-binary-from : From 2 binaryNumbers
+pub binary-from : From 2 binaryNumbers
 binary-from = (lit≤ tt, (lit≤ tt, (lit≤ tt, (lit≤ tt, (lit≤ tt, (lit≤ tt, (lit≤ tt, (lit≤ tt, (lit≤ tt, (lit≤ tt, tt))))))))))
 
 -- so none that is one of them
-above : (least : ℕ) (ns : List ℕ) → From least ns → (k : ℕ) → isOneOf ns k ≡ true → least ≤ k
+pub above : (least : ℕ) (ns : List ℕ) → From least ns → (k : ℕ) → isOneOf ns k ≡ true → least ≤ k
 above least ns h k e = one-of (λ i. least ≤ i) ns h k e
 
 -- so no refusal of Binary HTTP
@@ -60,7 +60,7 @@ pub binary-above : {s : List ℕ} {k p : ℕ} → Refusal binaryNumbers s k p �
 binary-above {s} {k} r = above 2 binaryNumbers binary-from k (r .ofForm)
 
 -- one number more
-later : (j : ℕ) (ns : List ℕ) → Among ns (j ∷ ns)
+pub later : (j : ℕ) (ns : List ℕ) → Among ns (j ∷ ns)
 later j ns = record { has = λ k e. either (λ b. b ≡ true) (eqb j k) true (isOneOf ns k) (λ a. refl) (λ a. e) }
 
 -- ---- reading
@@ -96,11 +96,11 @@ read-numbers ns read w h = record {
 
 -- ---- turning
 
-abbrev Wrongs : List ℕ → List ℕ → Reply → Type 0
+abbrev pub Wrongs : List ℕ → List ℕ → Reply → Type 0
 Wrongs ns s y = (k p : ℕ) → y ≡ refuses k p → RefusalOf ns s k p
 
 module _ (ns s : List ℕ) where
-  octets-wrongs : (b : List ℕ) → Wrongs ns s (writes b)
+  pub octets-wrongs : (b : List ℕ) → Wrongs ns s (writes b)
   octets-wrongs b k p e = no cc
 
   wrong-wrongs : (j q : ℕ) → isOneOf ns j ≡ true → q ≤ length s → Wrongs ns s (refuses j q)
@@ -153,7 +153,7 @@ not-done : (y : Reply) (o : List ℕ) (r : Written) → writtenOf y (length o) �
 not-done y o (Done n) e h = absurd (h refl)
 not-done y o (Refused k p) e h = lent y .unaltered o k p e
 
-turn-numbers : (ns : List ℕ) → From 1 ns → (turn : List ℕ → Reply) → ((s : List ℕ) → Wrongs ns s (turn s)) → TurnNumbers ns turn
+pub turn-numbers : (ns : List ℕ) → From 1 ns → (turn : List ℕ → Reply) → ((s : List ℕ) → Wrongs ns s (turn s)) → TurnNumbers ns turn
 turn-numbers ns w turn h = record {
   refusals = h;
   inRoom = λ s room k p e. in-room ns s (turn s) (h s) room k p e;

@@ -38,7 +38,7 @@ no z = absurd (omega arith)
 
 -- ---- room
 
-splice-front : (o b : List ℕ) → length b ≤ length o → splice o 0 b ≡ b ++ drop (length b) o
+pub splice-front : (o b : List ℕ) → length b ≤ length o → splice o 0 b ≡ b ++ drop (length b) o
 splice-front o b h =
     let z : 0 + length b ≡ length b = omega arith in
     splice-is o 0 b (omega arith) ∙ ap (λ (n : ℕ). b ++ drop n o) z
