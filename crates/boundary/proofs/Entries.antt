@@ -32,15 +32,15 @@ use Rattle.output.specs.Reply.{Reply, writes, refuses, writtenOf, writtenNumber
 use Rattle.output.specs.declared.Written.{Written}
 use Rattle.output.specs.declared.Written.the-variants.{Done, Refused}
 use Rattle.turn.specs.Turn.{takenFrom, requestToBinary, responseToBinary}
-use Rattle.turn.specs.Question.{Question, requestQuestion, responseQuestion, binaryQuestion}
-use Rattle.question.specs.Asking.{foundOf, askedOf}
+use Rattle.turn.specs.Question.{Question, valueOr, requestQuestion, responseQuestion, binaryQuestion}
+use Rattle.question.specs.Asking.{foundOf, askedOf, pointsTo}
 use Rattle.listing.specs.Listing.{listingOf}
 use Rattle.demands.specs.Demand1.{RefusalOf, readNumber, TurnNumbers, AskNumbers}
 use Rattle.demands.proofs.Demand1.{From, request-from, response-from, binary-from, above, later, octets-wrongs, turn-numbers, demand1}
 use Rattle.demands.proofs.Demand2.{no, splice-front, lent, demand2}
 use Rattle.capi.specs.Entries.{recordNumbers, entryNumbers, Entered, EntryServed, EntryTaken, FieldEntered}
 use Rattle.capi.proofs.Giving.{record-size}
-use Rattle.boundary.specs.Entries.{rangesMost, EntryReads, EntryWrites, EntryTakes, EntryAsks, Boundary}
+use Rattle.boundary.specs.Entries.{rangesMost, EntryReads, EntryWrites, EntryTakes, EntryAsks, SliceAsks, Boundary}
 
 -- ---- room for the numbers of a message
 
@@ -247,6 +247,13 @@ entry-asks ns ask d = record {
         go (some w) g h = absurd (e (h .answers))
         go none g h = (g, h .answers, h .starts, h .lengths)
 
+slice-asks : (ns : List ℕ) (ask : List ℕ → List ℕ → Question) → AskNumbers ns ask → SliceAsks ns ask
+slice-asks ns ask d = record {
+  numbered = λ name s default ma da octets at number place h. let r = d .receives name s in (rw (h .number) (r .0), omega (arith, h .place, r .1));
+  found = λ name s default ma da octets at number place h w e. (h .value ∙ ap (valueOr default) e, h .slice ∙ ap (λ (f : Option Piece). pointsTo (foundOf f) ma da) e);
+  default = λ name s default ma da octets at number place h e. (h .value ∙ ap (valueOr default) e, h .slice ∙ ap (λ (f : Option Piece). pointsTo (foundOf f) ma da) e);
+}
+
 -- ---- the claim
 
 pub boundary : Boundary
@@ -268,4 +275,7 @@ boundary = record {
   requestsAsked = λ t. entry-asks (1 ∷ requestNumbers) (requestQuestion t) (demand1 .requestsAsked t);
   responsesAsked = λ t. entry-asks (1 ∷ responseNumbers) (responseQuestion t) (demand1 .responsesAsked t);
   binariesAsked = λ t. entry-asks binaryNumbers (binaryQuestion t) (demand1 .binariesAsked t);
+  requestSlices = λ t. slice-asks (1 ∷ requestNumbers) (requestQuestion t) (demand1 .requestsAsked t);
+  responseSlices = λ t. slice-asks (1 ∷ responseNumbers) (responseQuestion t) (demand1 .responsesAsked t);
+  binarySlices = λ t. slice-asks binaryNumbers (binaryQuestion t) (demand1 .binariesAsked t);
 }

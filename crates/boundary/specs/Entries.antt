@@ -1,7 +1,7 @@
 -- The C entries under demand 1 (00: "It can be given arbitrary input and lent space .. A refusal names its number and the byte where it arose, and not one byte of the space
 -- lent for output is altered"). What a call of an entry answers and leaves is what its promise says (capi/Entries: `Entered`, `EntryServed`, `EntryTaken`, `FieldEntered`); here
 -- that is said in the demands' words, of every input and every lent space: `Boundary`.
-use Prim.Native.Nat.{ℕ, _≤_}
+use Prim.Native.Nat.{ℕ, _+_, _≤_}
 use mathlib.Core.Path.{_≡_}
 use mathlib.Core.Bool.{true}
 use mathlib.Core.Option.{none, some}
@@ -18,7 +18,7 @@ use Rattle.binary_sound.specs.Sound.{binaryNumbers}
 use Rattle.output.specs.Reply.{Reply, writes}
 use Rattle.turn.specs.Turn.{requestToBinary, responseToBinary, binaryToBinary, binaryToHttp1}
 use Rattle.turn.specs.Question.{Question, requestQuestion, responseQuestion, binaryQuestion}
-use Rattle.question.specs.Asking.{askedOf}
+use Rattle.question.specs.Asking.{askedOf, Answered}
 use Rattle.listing.specs.Listing.{listingOf}
 use Rattle.demands.specs.Demand1.{RefusalOf, readNumber}
 use Rattle.capi.specs.Entries.{entryNumbers, Entered, EntryServed, EntryTaken, FieldEntered}
@@ -67,6 +67,16 @@ pub record EntryAsks (numbers : List ℕ) (ask : List ℕ → List ℕ → Quest
   pub default : (name s : List ℕ) (number place start len answer : ℕ) → FieldEntered (askedOf (ask name s)) number place start len answer → (answer ≡ 1 → ⊥)
       → (ask name s .found ≡ none) × (answer ≡ 0) × (start ≡ 0) × (len ≡ 0)
 
+-- the same in Rust, which is handed a slice: where nothing is found it is the default, else the part of the message, octets and place in memory
+pub record SliceAsks (numbers : List ℕ) (ask : List ℕ → List ℕ → Question) : Type 0 where
+  pub numbered : (name s default : List ℕ) (message-at default-at : ℕ × ℕ) (octets : List ℕ) (at : ℕ × ℕ) (number place : ℕ)
+      → Answered (ask name s) default message-at default-at octets at number place → RefusalOf (0 ∷ numbers) s number place
+  pub found : (name s default : List ℕ) (message-at default-at : ℕ × ℕ) (octets : List ℕ) (at : ℕ × ℕ) (number place : ℕ)
+      → Answered (ask name s) default message-at default-at octets at number place → (w : Piece) → ask name s .found ≡ some w
+      → (octets ≡ w .text) × (at ≡ (message-at .0, w .place + message-at .1))
+  pub default : (name s default : List ℕ) (message-at default-at : ℕ × ℕ) (octets : List ℕ) (at : ℕ × ℕ) (number place : ℕ)
+      → Answered (ask name s) default message-at default-at octets at number place → ask name s .found ≡ none → (octets ≡ default) × (at ≡ default-at)
+
 -- ---- the claim
 
 -- of each entry, whatever it is told
@@ -85,3 +95,6 @@ pub record Boundary : Type 0 where
   pub requestsAsked : (t : Told) → EntryAsks (1 ∷ requestNumbers) (requestQuestion t)
   pub responsesAsked : (t : Told) → EntryAsks (1 ∷ responseNumbers) (responseQuestion t)
   pub binariesAsked : (t : Told) → EntryAsks binaryNumbers (binaryQuestion t)
+  pub requestSlices : (t : Told) → SliceAsks (1 ∷ requestNumbers) (requestQuestion t)
+  pub responseSlices : (t : Told) → SliceAsks (1 ∷ responseNumbers) (responseQuestion t)
+  pub binarySlices : (t : Told) → SliceAsks binaryNumbers (binaryQuestion t)
