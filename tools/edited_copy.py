@@ -99,3 +99,19 @@ class Copy:
 def errors(output):
     """The errors of a run: file, line, column, and what is said."""
     return [(m[1], int(m[2]), int(m[3]), m[4]) for m in re.finditer(r"^(\S+\.antt|\S+\.rt):(\d+):(\d+): error: (.*)$", output, re.M)]
+
+
+def row_at(copy, line):
+    """The example (P1 to P13) whose row of the table is proved at a line of examples/proofs/Table.antt: both list the rows in one order."""
+    proof = copy.read("crates/examples/proofs/Table.antt").split("\n")[:line]
+    count = sum(1 for text in proof if re.match(r"\s*(refl|\(refl, refl\)),$|examples = \(refl", text))
+    table = copy.read("crates/examples/specs/Examples.antt")
+    table = table[table.index("\ntable =") :]
+    row, rows = "", []
+    for text in table.split("\n"):
+        named = re.match(r"\s*-- (P\d+(?: to P\d+)?)", text)
+        if named:
+            row = named[1]
+        elif row and re.match(r"\s*(∷ )?\w+ [\w(\[]", text):
+            rows.append(row)
+    return rows[count - 1] if 0 < count <= len(rows) else "no row"

@@ -4,7 +4,7 @@ use mathlib.Core.Path.{_≡_, refl, subst}
 use mathlib.Core.Bool.{Bool, true, false, cond}
 use mathlib.Core.List.{List, [], _∷_, _++_}
 use native.Mathlib.Omega.{arith}
-use lib.Dec.{ltb, leb, eqb, lit≤}
+use lib.Dec.{ltb, leb, eqb}
 use lib.ListN.{length}
 use Rattle.octets.specs.Ascii.{ascii}
 use Rattle.octets.specs.Limits.{methodMost, authorityMost, pathMost, linesMost, chunksMost, contentMost, binaryMost, informationalMost}
@@ -32,68 +32,71 @@ use Rattle.binary.specs.Read.{knownContent, openChunks, content, contentAgrees,
 use Rattle.binary.specs.Read.{afterHead, afterControl, requestMessage, afterFinal, afterFinalStatus, afterInformational, afterInformationalStatus, heads}
 use Rattle.binary.specs.Read.{afterIndicator, message, messageAnswer, readSized, readBinary}
 use Rattle.sound.specs.Placed.{Each, Lying}
-use Rattle.sound.specs.Refusal.{Refusal}
+use Rattle.sound.specs.Refusal.{isOneOf, Refusal}
 use Rattle.sound.proofs.Each.{each-snoc}
-use Rattle.sound.proofs.Refusals.{Verdict, method-verdict, path-verdict, authority-verdict, status-verdict, not-good, NamedIn, binary-framing-in, Refuses, refusal}
+use Rattle.sound.proofs.Refusals.{Among, among, commonNumbers, statusNumbers, Verdict, method-verdict, path-verdict, authority-verdict, status-verdict, not-good, NamedIn, binary-framing-in, Refuses, refusal}
 use Rattle.sound.proofs.Refusals.{authority-judged, nothing-judged, may-judged, bodyless-judged}
 use Rattle.binary_sound.proofs.Judgement.{Stands, stands-on, Ends, Stops, stops-give, stops-refuse, stops-here, stops-ended, stops-tell, stops-rule, stops-if, stops-integer, stops-octets, stops-bind, stops-then}
 use Rattle.binary_sound.proofs.Lines.{no-wrong}
-use Rattle.binary_sound.specs.Sound.{binaryLast, EditionRefused, OtherEdition, BinaryRefused, BinarySettled}
+use Rattle.binary_sound.specs.Sound.{editionNumbers, binaryNumbers, EditionRefused, OtherEdition, BinaryRefused, BinarySettled}
 
 -- ---- numbers of Binary HTTP
 
 -- the numbers that both forms have are among them
-wide : 8 ≤ binaryLast
-wide = lit≤ tt
+wide : Among commonNumbers editionNumbers
+wide = among commonNumbers editionNumbers (refl, (refl, (refl, (refl, tt))))
+
+status-wide : Among statusNumbers editionNumbers
+status-wide = among statusNumbers editionNumbers (refl, (refl, tt))
 
 module _ {s : List ℕ} where
-  at-place : {n p : ℕ} → 2 ≤ n → n ≤ binaryLast → p ≤ length s → Refusal binaryLast s n p
-  at-place a b i = record { some = a; ofForm = b; inside = i }
+  at-place : {n p : ℕ} → isOneOf editionNumbers n ≡ true → p ≤ length s → Refusal editionNumbers s n p
+  at-place h i = record { ofForm = h; inside = i }
 
-  bad-syntax : {p : ℕ} → p ≤ length s → Refusal binaryLast s badSyntax p
-  bad-syntax = at-place (lit≤ tt) (lit≤ tt)
+  bad-syntax : {p : ℕ} → p ≤ length s → Refusal editionNumbers s badSyntax p
+  bad-syntax = at-place refl
 
-  bad-length : {p : ℕ} → p ≤ length s → Refusal binaryLast s badLength p
-  bad-length = at-place (lit≤ tt) (lit≤ tt)
+  bad-length : {p : ℕ} → p ≤ length s → Refusal editionNumbers s badLength p
+  bad-length = at-place refl
 
-  too-large : {p : ℕ} → p ≤ length s → Refusal binaryLast s tooLarge p
-  too-large = at-place (lit≤ tt) (lit≤ tt)
+  too-large : {p : ℕ} → p ≤ length s → Refusal editionNumbers s tooLarge p
+  too-large = at-place refl
 
-  cut-off : {p : ℕ} → p ≤ length s → Refusal binaryLast s cutOff p
-  cut-off = at-place (lit≤ tt) (lit≤ tt)
+  cut-off : {p : ℕ} → p ≤ length s → Refusal editionNumbers s cutOff p
+  cut-off = at-place refl
 
-  bad-section : {p : ℕ} → p ≤ length s → Refusal binaryLast s badSection p
-  bad-section = at-place (lit≤ tt) (lit≤ tt)
+  bad-section : {p : ℕ} → p ≤ length s → Refusal editionNumbers s badSection p
+  bad-section = at-place refl
 
   -- of a line that is cut off in either kind of section
-  cut-value : (form : Form) {p q : ℕ} → p ≤ length s → q ≤ length s → Refusal binaryLast s (cutNumber form) (cutPlace form p q)
+  cut-value : (form : Form) {p q : ℕ} → p ≤ length s → q ≤ length s → Refusal editionNumbers s (cutNumber form) (cutPlace form p q)
   cut-value form {p} {q} i j = on (form .known)
     where
-      on : (known : Bool) → Refusal binaryLast s (cond known badSection cutOff) (cond known p q)
+      on : (known : Bool) → Refusal editionNumbers s (cond known badSection cutOff) (cond known p q)
       on true = bad-section i
       on false = cut-off j
 
-  cut-name : (form : Form) {p : ℕ} → p ≤ length s → Refusal binaryLast s (cutNumber form) p
+  cut-name : (form : Form) {p : ℕ} → p ≤ length s → Refusal editionNumbers s (cutNumber form) p
   cut-name form {p} i = on (form .known)
     where
-      on : (known : Bool) → Refusal binaryLast s (cond known badSection cutOff) p
+      on : (known : Bool) → Refusal editionNumbers s (cond known badSection cutOff) p
       on true = bad-section i
       on false = cut-off i
 
 -- ---- rules
 
 module _ (s : List ℕ) (p : ℕ) (i : p ≤ length s) where
-  scheme-judged : (w : List ℕ) → Refuses binaryLast s (schemeOf w p)
+  scheme-judged : (w : List ℕ) → Refuses editionNumbers s (schemeOf w p)
   unfolding schemeOf
   scheme-judged w =
-      either (Refuses binaryLast s) (sameText w (ascii "http")) (good 0) _ (λ a. tt)
-      (λ a. either (Refuses binaryLast s) (sameText w (ascii "https")) (good 1) (wrong notSupported p) (λ b. tt) (λ b. at-place (lit≤ tt) (lit≤ tt) i))
+      either (Refuses editionNumbers s) (sameText w (ascii "http")) (good 0) _ (λ a. tt)
+      (λ a. either (Refuses editionNumbers s) (sameText w (ascii "https")) (good 1) (wrong notSupported p) (λ b. tt) (λ b. at-place refl i))
 
-  line-judged : (form : Form) (n v : Piece) → Refuses binaryLast s (judgedLine form p n v)
+  line-judged : (form : Form) (n v : Piece) → Refuses editionNumbers s (judgedLine form p n v)
   unfolding judgedLine
   line-judged form n v =
-      either (Refuses binaryLast s) (isLowerName (n .text)) _ (wrong badSyntax p)
-      (λ a. either (Refuses binaryLast s) (isLineValue form (v .text)) _ (wrong badSyntax p) (λ b. tt) (λ b. bad-syntax i))
+      either (Refuses editionNumbers s) (isLowerName (n .text)) _ (wrong badSyntax p)
+      (λ a. either (Refuses editionNumbers s) (isLineValue form (v .text)) _ (wrong badSyntax p) (λ b. tt) (λ b. bad-syntax i))
       (λ a. bad-syntax i)
 
   -- a good line's place is its own
@@ -106,22 +109,22 @@ module _ (s : List ℕ) (p : ℕ) (i : p ≤ length s) where
       let z : r ≡ f = cc in
       subst (NamedIn (length s)) z i
 
-  content-judged : (body : Bool) (f : Framing) (cs : List Piece) → Refuses binaryLast s (contentRule body f p cs)
+  content-judged : (body : Bool) (f : Framing) (cs : List Piece) → Refuses editionNumbers s (contentRule body f p cs)
   unfolding contentRule
   content-judged body f cs =
-      either (Refuses binaryLast s) (contentAgrees f body (length (contentOf cs))) (good cs) (wrong badLength p) (λ a. tt) (λ a. bad-length i)
+      either (Refuses editionNumbers s) (contentAgrees f body (length (contentOf cs))) (good cs) (wrong badLength p) (λ a. tt) (λ a. bad-length i)
 
-trailer-judged : (s : List ℕ) (body : Bool) (h : Section) → h .end ≤ length s → Refuses binaryLast s (trailerRule body h)
+trailer-judged : (s : List ℕ) (body : Bool) (h : Section) → h .end ≤ length s → Refuses editionNumbers s (trailerRule body h)
 unfolding trailerRule
 trailer-judged s body h i =
-    either (Refuses binaryLast s) (trailersAgree (areTrailers (h .lines)) body (length (keptTrailers (h .lines)))) (good (h .lines)) (wrong badLength (h .end))
+    either (Refuses editionNumbers s) (trailersAgree (areTrailers (h .lines)) body (length (keptTrailers (h .lines)))) (good (h .lines)) (wrong badLength (h .end))
     (λ a. tt) (λ a. bad-length i)
 
 -- ---- parts and control data
 
 -- a reader refuses the input s with nothing but numbers of Binary HTTP, at places of the input, and gets nothing but what P holds of
 abbrev Refusing : {A : Type 0} → List ℕ → ℕ → (ℕ → A → Type 0) → ℕ → Reader A → Type 0
-Refusing s e P at r = Stops s e (Refusal binaryLast s) P at r
+Refusing s e P at r = Stops s e (Refusal editionNumbers s) P at r
 
 module _ {s : List ℕ} {e : ℕ} where
   -- on both sides of a test
@@ -149,7 +152,7 @@ module _ {s : List ℕ} {e : ℕ} where
   stops-ruled most verdict h =
       stops-bind _ (stops-here λ i.
       stops-then _ (stops-within most) λ j w z.
-      stops-rule (verdict (w .text)) _ w (λ a. refusal wide (not-good (h (w .text)) a) i) λ a. tt)
+      stops-rule (verdict (w .text)) _ w (λ a. refusal wide (not-good commonNumbers (h (w .text)) a) i) λ a. tt)
 
   stops-scheme : {at : ℕ} → Refusing s e (λ n v. Unit {0}) at schemePart
   unfolding schemePart
@@ -214,17 +217,17 @@ stops-body {s} {e} {at} form b y =
     on (knownLines form (suc linesMost) [] (b .place) (b .text))
     (stops-known-lines {e = b .place + length (b .text)} form (suc linesMost) [] tt .go (b .text) (record { lies = y; ends = refl }))
   where
-    on : (x : Got (List FieldRead)) → Ends (Refusal binaryLast s) (λ n i h. Stands s (b .place + length (b .text)) n i × Each (NamedIn (length s)) h) x
+    on : (x : Got (List FieldRead)) → Ends (Refusal editionNumbers s) (λ n i h. Stands s (b .place + length (b .text)) n i × Each (NamedIn (length s)) h) x
         → Refusing s e (λ n h. Each (NamedIn (length s)) h) at (onBody x)
     on (got fs n i) g = record { go = λ l z. (z, g .1) }
     on (no n p) g = record { go = λ l z. g }
 
-padded : (form : Form) (s : List ℕ) (e at : ℕ) (l : List ℕ) → Stands s e at l → Ends (Refusal binaryLast s) (λ n i z. Stands s e n i × Unit {0}) (padding form at l)
+padded : (form : Form) (s : List ℕ) (e at : ℕ) (l : List ℕ) → Stands s e at l → Ends (Refusal editionNumbers s) (λ n i z. Stands s e n i × Unit {0}) (padding form at l)
 unfolding padding
 padded form s e at [] y = (y, tt)
 padded form s e at (b ∷ l) y =
-    either (Ends (Refusal binaryLast s) (λ n i z. Stands s e n i × Unit {0})) (cond (form .padded) (eqb b 0) false) (padding form (at + 1) l) (no badPadding at)
-    (λ a. padded form s e (at + 1) l (stands-on 1 (omega arith) y)) (λ a. at-place (lit≤ tt) (lit≤ tt) (omega (arith, lies-in (y .lies))))
+    either (Ends (Refusal editionNumbers s) (λ n i z. Stands s e n i × Unit {0})) (cond (form .padded) (eqb b 0) false) (padding form (at + 1) l) (no badPadding at)
+    (λ a. padded form s e (at + 1) l (stands-on 1 (omega arith) y)) (λ a. at-place refl (omega (arith, lies-in (y .lies))))
 
 -- a section ends in the input, and its lines begin in it
 record SectionIn (s : List ℕ) (h : Section) : Type 0 where
@@ -302,8 +305,8 @@ module _ {s : List ℕ} {e : ℕ} where
   stops-request form =
       stops-then _ stops-control λ i q z.
       stops-then _ (stops-header form) λ j h g.
-      stops-bind _ (stops-tell (authorityIn (h .end) (q .authority) (h .lines)) (authority-judged binaryLast s wide (h .end) (g .end) (q .authority) (h .lines)) λ a r.
-      stops-bind _ (stops-tell (mayState (h .end) (binaryFramingOf (h .lines))) (may-judged binaryLast s wide (h .end) (g .end) (binaryFramingOf (h .lines))) λ f q.
+      stops-bind _ (stops-tell (authorityIn (h .end) (q .authority) (h .lines)) (authority-judged editionNumbers s wide (h .end) (g .end) refl (q .authority) (h .lines)) λ a r.
+      stops-bind _ (stops-tell (mayState (h .end) (binaryFramingOf (h .lines))) (may-judged editionNumbers s wide (h .end) (g .end) (binaryFramingOf (h .lines))) λ f q.
       stops-after form true Missing _ h f))
 
 module _ (t : Told) {s : List ℕ} {e : ℕ} where
@@ -313,9 +316,9 @@ module _ (t : Told) {s : List ℕ} {e : ℕ} where
       stops-then _ (stops-header form) λ j h g.
       let f = binaryFramingOf (h .lines) in
       stops-both (endsAtHead t n)
-      (stops-bind _ (stops-tell (bodylessRule t n (h .end) f) (bodyless-judged binaryLast s wide (h .end) (g .end) t n f (binary-framing-in (length s) (h .lines) (g .lines))) λ u q.
+      (stops-bind _ (stops-tell (bodylessRule t n (h .end) f) (bodyless-judged editionNumbers s wide (h .end) (g .end) t n f (binary-framing-in (length s) (h .lines) (g .lines))) λ u q.
       stops-after form false (statedIn t n f) _ h Unstated))
-      (stops-bind _ (stops-tell (mayState (h .end) f) (may-judged binaryLast s wide (h .end) (g .end) f) λ v q.
+      (stops-bind _ (stops-tell (mayState (h .end) f) (may-judged editionNumbers s wide (h .end) (g .end) f) λ v q.
       stops-after form true Missing _ h v))
 
   stops-response : (f : ℕ) {at : ℕ} (form : Form) (hs : List InformationalRead) → Refusing s e (λ i m. Unit {0}) at (heads t form f hs)
@@ -324,11 +327,11 @@ module _ (t : Told) {s : List ℕ} {e : ℕ} where
   stops-response (suc f) form hs =
       stops-bind _ (stops-here λ p.
       stops-bind _ (stops-integer _ _ (cut-off p) λ j v.
-      stops-bind _ (stops-rule (statusVerdict v) _ v (λ a. refusal wide (not-good (status-verdict v) a) p) λ a.
+      stops-bind _ (stops-rule (statusVerdict v) _ v (λ a. at-place (status-wide .has (statusVerdict v) (not-good statusNumbers (status-verdict v) a)) p) λ a.
       stops-both (isInformational v)
       (stops-both (leb informationalMost (length hs)) (stops-refuse (too-large p))
       (stops-then _ (stops-section form) λ k h g.
-      stops-bind _ (stops-tell (nothingStated (h .end) (binaryFramingOf (h .lines))) (nothing-judged binaryLast s wide (h .end) (g .end) (binaryFramingOf (h .lines))) λ u q.
+      stops-bind _ (stops-tell (nothingStated (h .end) (binaryFramingOf (h .lines))) (nothing-judged editionNumbers s wide (h .end) (g .end) (binaryFramingOf (h .lines))) λ u q.
       stops-response f form _)))
       (stops-final form hs v))))
 
@@ -339,25 +342,25 @@ module _ (t : Told) {s : List ℕ} {e : ℕ} where
       stops-both (eqb f 0) (stops-request _)
       (stops-both (eqb f 1) (stops-response (suc informationalMost) _ [])
       (stops-both (eqb f 2) (stops-request _)
-      (stops-both (eqb f 3) (stops-response (suc informationalMost) _ []) (stops-refuse (at-place (lit≤ tt) (lit≤ tt) (omega arith)))))))
+      (stops-both (eqb f 3) (stops-response (suc informationalMost) _ []) (stops-refuse (at-place refl (omega arith)))))))
 
-sized-refused : (t : Told) (s : List ℕ) (n p : ℕ) → readSized t s ≡ refused n p → Refusal binaryLast s n p
+sized-refused : (t : Told) (s : List ℕ) (n p : ℕ) → readSized t s ≡ refused n p → Refusal editionNumbers s n p
 unfolding readSized
 sized-refused t s n p q = on (leb (length s) binaryMost) q
   where
-    pick : (x : Got Message) → Ends (Refusal binaryLast s) (λ k l y. Stands s (length s) k l × Unit {0}) x → messageAnswer x ≡ refused n p → Refusal binaryLast s n p
+    pick : (x : Got Message) → Ends (Refusal editionNumbers s) (λ k l y. Stands s (length s) k l × Unit {0}) x → messageAnswer x ≡ refused n p → Refusal editionNumbers s n p
     pick (got y k l) g z = let w : _≡_ {A = ℕ} 0 1 = cc in absurd (omega arith)
     pick (no k j) g z =
         let a : k ≡ n = cc in
         let b : j ≡ p = cc in
         rw (a, b) at g
 
-    on : (b : Bool) → cond b (messageAnswer (message t 0 s)) (refused tooLarge 0) ≡ refused n p → Refusal binaryLast s n p
+    on : (b : Bool) → cond b (messageAnswer (message t 0 s)) (refused tooLarge 0) ≡ refused n p → Refusal editionNumbers s n p
     on true z = pick (message t 0 s) (stops-message t {s = s} {e = length s} {at = 0} .go s (record { lies = lies-all s; ends = omega arith })) z
     on false z =
         let a : tooLarge ≡ n = cc in
         let b : 0 ≡ p = cc in
-        at-place (omega arith) (omega arith) (omega arith)
+        at-place (rw (← a) refl) (omega arith)
 
 pub edition-refused : EditionRefused
 unfolding readBinary
@@ -368,19 +371,19 @@ unfolding readBinary
 other-edition t s h = rw h
 
 -- the numbers of either edition are among all
-pub wider : {s : List ℕ} {n p : ℕ} → Refusal binaryLast s n p → Refusal badEdition s n p
-wider h = record { some = h .some; ofForm = omega (arith, h .ofForm); inside = h .inside }
+wider : {s : List ℕ} {n p : ℕ} → Refusal editionNumbers s n p → Refusal binaryNumbers s n p
+wider {n = n} h = record { ofForm = either (λ (b : Bool). b ≡ true) (eqb badEdition n) true (isOneOf editionNumbers n) (λ a. refl) (λ a. h .ofForm); inside = h .inside }
 
 pub binary-refused : BinaryRefused
 unfolding readBinary
 binary-refused t s n p q = on (isEdition (t .edition)) q
   where
-    on : (b : Bool) → cond b (readSized t s) (refused badEdition 0) ≡ refused n p → Refusal badEdition s n p
+    on : (b : Bool) → cond b (readSized t s) (refused badEdition 0) ≡ refused n p → Refusal binaryNumbers s n p
     on true z = wider (sized-refused t s n p z)
     on false z =
         let a : badEdition ≡ n = cc in
         let b : 0 ≡ p = cc in
-        record { some = omega arith; ofForm = omega arith; inside = omega arith }
+        record { ofForm = rw (← a) refl; inside = omega arith }
 
 pub binary-settled : BinarySettled
 unfolding readBinary readSized

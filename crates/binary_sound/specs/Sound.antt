@@ -4,7 +4,7 @@ use Prim.Native.Nat.{ℕ, _<_, _≤_}
 use mathlib.Core.Path.{_≡_}
 use mathlib.Core.Bool.{true, false}
 use mathlib.Core.Logic.{_⊎_}
-use mathlib.Core.List.{List}
+use mathlib.Core.List.{List, [], _∷_}
 use lib.Dec.{eqb}
 use lib.ListN.{length}
 use Rattle.octets.specs.Limits.{binaryMost}
@@ -77,21 +77,24 @@ pub record SoundBinary (t : Told) (s : List ℕ) (n : ℕ) (m : Message) : Type 
 abbrev pub BinarySound : Type 0
 BinarySound = (t : Told) (s : List ℕ) (n : ℕ) (m : Message) → readBinary t s ≡ accepted n m → SoundBinary t s n m
 
--- the last of the numbers with which Binary HTTP is refused in an edition (01, "Numbers a call answers with")
-abbrev pub binaryLast : ℕ
-binaryLast = 12
+-- the numbers with which Binary HTTP is refused in an edition: 2 to 12 but 3, which is a version's (01, "Numbers a call answers with")
+abbrev pub editionNumbers : List ℕ
+editionNumbers = 2 ∷ 4 ∷ 5 ∷ 6 ∷ 7 ∷ 8 ∷ 9 ∷ 10 ∷ 11 ∷ 12 ∷ []
 
--- told an edition, every refused input is refused with a number from 2 to 12, at a place of the input
+-- told an edition, every refused input is refused with one of them, at a place of the input
 abbrev pub EditionRefused : Type 0
-EditionRefused = (t : Told) (s : List ℕ) (n p : ℕ) → isEdition (t .edition) ≡ true → readBinary t s ≡ refused n p → Refusal binaryLast s n p
+EditionRefused = (t : Told) (s : List ℕ) (n p : ℕ) → isEdition (t .edition) ≡ true → readBinary t s ≡ refused n p → Refusal editionNumbers s n p
 
 -- told another number, every input is 17 at 0 (02, item 7)
 abbrev pub OtherEdition : Type 0
 OtherEdition = (t : Told) (s : List ℕ) → isEdition (t .edition) ≡ false → readBinary t s ≡ refused badEdition 0
 
 -- so the numbers are these and 17, whatever is told
+abbrev pub binaryNumbers : List ℕ
+binaryNumbers = 17 ∷ editionNumbers
+
 abbrev pub BinaryRefused : Type 0
-BinaryRefused = (t : Told) (s : List ℕ) (n p : ℕ) → readBinary t s ≡ refused n p → Refusal badEdition s n p
+BinaryRefused = (t : Told) (s : List ℕ) (n p : ℕ) → readBinary t s ≡ refused n p → Refusal binaryNumbers s n p
 
 -- the whole input is there: no more octets are asked for
 abbrev pub BinarySettled : Type 0

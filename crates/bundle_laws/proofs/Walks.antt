@@ -21,6 +21,7 @@ use Rattle.messages.specs.Told.{plain}
 use Rattle.binary.specs.Read.{readBinary}
 use Rattle.binary_sound.proofs.Sound.{binary-sound}
 use Rattle.binary_sound.proofs.Refusals.{binary-refused}
+use Rattle.demands.proofs.Demand1.{binary-above}
 use Rattle.binary_writer.specs.Write.{binaryOf, binaryFits, toBinary}
 use Rattle.output.specs.Reply.{Reply, writes, refuses}
 use Rattle.bundle.specs.Bundle.{wordOf, flockOf, kindOf, lengthOf, isFlock, Entry, entryOctets, entriesOctets, readMessage, kindNumber, isWritten, verdictOn, messageVerdict, judged, textOf, headed, nextAt, Walk, endsAt, follows, entryAt, onward, walkFrom, walk}
@@ -68,7 +69,7 @@ verdict-zero kind w e = go (readBinary (plain 0) w) refl e
           same = eqb-true kind (kindNumber (isResponse (m .start))) (a .0);
           form = is-written (meaning m) w (b .0);
         }
-    go (refused k p) q v = let h = binary-refused (plain 0) w k p q .some in no-zero (omega (arith, h)) v
+    go (refused k p) q v = let h = binary-above (binary-refused (plain 0) w k p q) in no-zero (omega (arith, h)) v
     go more q v = no-zero (omega arith) v
 
 pub zero-verdict : (kind : ℕ) (w : List ℕ) (m : Message) → length w ≤ binaryMost → readMessage w ≡ accepted (length w) m → kind ≡ kindNumber (isResponse (m .start))

@@ -31,6 +31,7 @@ use Rattle.binary_sound.proofs.Sound.{binary-sound}
 use Rattle.binary_round_trip.proofs.Back.{round-trip-of-meanings}
 use Rattle.http1_round_trip.specs.RoundTrip.{isRequestOf}
 use Rattle.http1_round_trip.proofs.Back.{request-meanings, response-meanings}
+use Rattle.demands.proofs.Accepting.{accepting}
 use Rattle.demands.specs.Demand2.{Turning, http1Reader, intoBinary, requestsAsBinary, responsesAsBinary, binaryAnew, binaryAsHttp1, replyFor, replyTo, behind, Kept, Lent, Turns, Demand2}
 
 pub no : {A : Type 0} → _≡_ {A = ℕ} 0 1 → A
@@ -38,7 +39,7 @@ no z = absurd (omega arith)
 
 -- ---- room
 
-splice-front : (o b : List ℕ) → length b ≤ length o → splice o 0 b ≡ b ++ drop (length b) o
+pub splice-front : (o b : List ℕ) → length b ≤ length o → splice o 0 b ≡ b ++ drop (length b) o
 splice-front o b h =
     let z : 0 + length b ≡ length b = omega arith in
     splice-is o 0 b (omega arith) ∙ ap (λ (n : ℕ). b ++ drop n o) z
@@ -209,4 +210,5 @@ demand2 = record {
   responses = λ t. binary-turns t true true (readResponse t) (λ s n m r. let h = response-sound t s n m r in (h .sound .valid, h .suits)) (responseToBinary t) (response-replies t);
   binaries = λ t. binary-turns t (isEdition (t .edition)) true (readBinary t) (λ s n m r. let h = binary-sound t s n m r in (h .sound .valid, h .suits)) (binaryToBinary t) (anew-replies t);
   http1 = http1-turns;
+  accepting = accepting;
 }

@@ -1,3 +1,4 @@
+pub mod Accepting
 pub mod Demand2
 pub mod Demand1
 pub mod Demand3

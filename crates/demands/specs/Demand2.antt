@@ -23,6 +23,7 @@ use Rattle.output.specs.Reply.{Reply, writes, refuses, writtenOf, lentAfter}
 use Rattle.output.specs.declared.Written.the-variants.{Done, Refused}
 use Rattle.http1_round_trip.specs.RoundTrip.{isRequestOf}
 use Rattle.turn.specs.Turn.{requestToBinary, responseToBinary, binaryToBinary, binaryToHttp1}
+use Rattle.demands.specs.Accepting.{Accepting}
 
 -- ---- what a turning is
 
@@ -151,7 +152,7 @@ pub record Turns (w : Turning) (turn : List ℕ → Reply) : Type 0 where
   -- what is answered and left where there is so much room
   pub room : (s : List ℕ) → Lent (turn s)
 
--- demand 2: `Turns` of each of the four turnings, whatever is told
+-- demand 2: `Turns` of each of the four turnings, whatever is told, and that something is accepted
 pub record Demand2 : Type 0 where
   -- what a reader of HTTP/1.1 accepts is of its kind, and a request's scheme is the one told
   pub ofRequests : (t : Told) (s : List ℕ) (n : ℕ) (m : Message) → readRequest t s ≡ accepted n m → isRequestOf t (meaning m .control) ≡ true
@@ -161,3 +162,5 @@ pub record Demand2 : Type 0 where
   pub responses : (t : Told) → Turns (responsesAsBinary t) (responseToBinary t)
   pub binaries : (t : Told) → Turns (binaryAnew t) (binaryToBinary t)
   pub http1 : (t : Told) → Turns (binaryAsHttp1 t) (binaryToHttp1 t)
+  -- valid meanings are accepted, and there are some. A build that refuses everything is shut out, its definitions too
+  pub accepting : Accepting

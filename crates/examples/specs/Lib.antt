@@ -1,3 +1,5 @@
 pub mod Examples
 pub mod Computing
 pub mod Changes
+pub mod Numbers
+pub mod Rows

@@ -1,11 +1,11 @@
 -- What the two readers of HTTP/1.1 refuse with, and where.
 use Prim.Native.Nat.{ℕ, zero, suc, _+_, _≤_}
-use mathlib.Core.Path.{_≡_}
+use mathlib.Core.Path.{_≡_, refl}
 use mathlib.Core.Bool.{Bool, true, false, cond}
 use mathlib.Core.List.{List, [], _∷_, _++_}
 use native.Mathlib.Omega.{arith}
 use borrow.Author.Tests.{eqb-false}
-use lib.Dec.{eqb, leb, ltb, lit≤}
+use lib.Dec.{eqb, leb, ltb}
 use lib.ListN.{length, take, drop, length-append}
 use Rattle.octets.specs.Limits.{headMost, trailerMost, chunkLineMost, linesMost, chunksMost, contentMost, informationalMost}
 use Rattle.octets.specs.Refusals.{badSyntax, badVersion, notSupported, tooLarge}
@@ -34,26 +34,36 @@ use Rattle.http1.specs.declared.FieldLine.the-variants as field
 use Rattle.http1.specs.declared.ChunkLine.{ChunkLine}
 use Rattle.http1.specs.declared.ChunkLine.the-variants as chunk
 use Rattle.sound.specs.Placed.{Each}
-use Rattle.sound.specs.Refusal.{Refusal}
+use Rattle.sound.specs.Refusal.{isOneOf, Refusal}
 use Rattle.sound.proofs.Each.{each-snoc}
-use Rattle.sound.proofs.Refusals.{Common, method-verdict, path-verdict, status-verdict, not-good, NamedIn, framing-in, Refuses, refusal, authority-judged, nothing-judged, request-judged, response-judged}
-use Rattle.http1_sound.specs.Read.{http1Last, RequestsRefused, ResponsesRefused}
+use Rattle.sound.proofs.Refusals.{Among, among, commonNumbers, Common, statusNumbers, method-verdict, path-verdict, status-verdict, not-good, NamedIn, framing-in, Refuses, refusal, authority-judged, nothing-judged, request-judged, response-judged}
+use Rattle.http1_sound.specs.Read.{requestNumbers, responseNumbers, RequestsRefused, ResponsesRefused}
 
--- the numbers that both forms have are among them
-wide : 8 ≤ http1Last
-wide = lit≤ tt
+-- the numbers that both readers have
+request-wide : Among commonNumbers requestNumbers
+request-wide = among commonNumbers requestNumbers (refl, (refl, (refl, (refl, tt))))
+
+response-wide : Among commonNumbers responseNumbers
+response-wide = among commonNumbers responseNumbers (refl, (refl, (refl, (refl, tt))))
+
+-- those of a start line: of a request's, and of a response's
+abbrev requestLineNumbers : List ℕ
+requestLineNumbers = badVersion ∷ commonNumbers
+
+abbrev statusLineNumbers : List ℕ
+statusLineNumbers = badSyntax ∷ badVersion ∷ statusNumbers
 
 -- ---- lines
 
 abbrev OfRequest : RequestLine → Type 0
 OfRequest (request.Of m p) = Unit {0}
-OfRequest (request.Bad n) = Common n
+OfRequest (request.Bad n) = isOneOf requestLineNumbers n ≡ true
+
+common-line : Among commonNumbers requestLineNumbers
+common-line = among commonNumbers requestLineNumbers (refl, (refl, (refl, (refl, tt))))
 
 syntax-number : Common badSyntax
-syntax-number = (lit≤ tt, lit≤ tt)
-
-version-number : Common badVersion
-version-number = (lit≤ tt, lit≤ tt)
+syntax-number = refl
 
 request-parts : (w : List ℕ) (m p : ℕ) → OfRequest (requestParts w m p)
 unfolding requestParts
@@ -61,25 +71,28 @@ request-parts w m p =
     either OfRequest (eqb (methodVerdict (take m w)) 0) _ _
     (λ a.
     either OfRequest (eqb (pathVerdict (take p (drop (m + 1) w))) 0) _ _ (λ b. tt)
-    (λ b. not-good (path-verdict (take p (drop (m + 1) w))) (eqb-false (pathVerdict (take p (drop (m + 1) w))) 0 b)))
-    (λ a. not-good (method-verdict (take m w)) (eqb-false (methodVerdict (take m w)) 0 a))
+    (λ b. common-line .has (pathVerdict (take p (drop (m + 1) w))) (not-good commonNumbers (path-verdict (take p (drop (m + 1) w))) (eqb-false (pathVerdict (take p (drop (m + 1) w))) 0 b))))
+    (λ a. common-line .has (methodVerdict (take m w)) (not-good commonNumbers (method-verdict (take m w)) (eqb-false (methodVerdict (take m w)) 0 a)))
 
 request-version : (w : List ℕ) (m e : ℕ) → OfRequest (requestVersion w m e)
 unfolding requestVersion
 request-version w m e =
     either OfRequest (eqb (e + 1 + spanLen (isOther 32) (drop (e + 1) w)) (length w)) _ _
-    (λ a. either OfRequest (sameText (drop (e + 1) w) version) _ _ (λ b. request-parts w m _) (λ b. version-number))
-    (λ a. syntax-number)
+    (λ a. either OfRequest (sameText (drop (e + 1) w) version) _ _ (λ b. request-parts w m _) (λ b. refl))
+    (λ a. refl)
 
 request-lens : (w : List ℕ) → OfRequest (requestLens w)
 unfolding requestLens requestTarget
 request-lens w =
-    either OfRequest (leb (length w) (spanLen (isOther 32) w)) _ _ (λ a. syntax-number)
-    (λ a. either OfRequest (leb (length w) _) _ _ (λ b. syntax-number) (λ b. request-version w _ _))
+    either OfRequest (leb (length w) (spanLen (isOther 32) w)) _ _ (λ a. refl)
+    (λ a. either OfRequest (leb (length w) _) _ _ (λ b. refl) (λ b. request-version w _ _))
 
 abbrev OfStatus : StatusLine → Type 0
 OfStatus (status.Of n) = Unit {0}
-OfStatus (status.Bad n) = Common n
+OfStatus (status.Bad n) = isOneOf statusLineNumbers n ≡ true
+
+status-in-line : Among statusNumbers statusLineNumbers
+status-in-line = among statusNumbers statusLineNumbers (refl, (refl, tt))
 
 status-lens : (w : List ℕ) → OfStatus (statusLens w)
 unfolding statusLens statusVersion
@@ -90,156 +103,160 @@ status-lens w =
     either OfStatus (sameText (take v w) version) _ _
     (λ b.
     either OfStatus (eqb (statusVerdict (statusAt w (v + 1))) 0) _ _ (λ c. tt)
-    (λ c. not-good (status-verdict (statusAt w (v + 1))) (eqb-false (statusVerdict (statusAt w (v + 1))) 0 c)))
-    (λ b. version-number))
-    (λ a. syntax-number)
-
-module _ {s : List ℕ} where
-  -- a number that both forms have, at a place of the input
-  at-place : {n p : ℕ} → Common n → p ≤ length s → Refusal http1Last s n p
-  at-place h i = refusal wide h i
-
-  -- the size passed, at a place of the input
-  too-large : {p : ℕ} → p ≤ length s → Refusal http1Last s tooLarge p
-  too-large i = at-place (lit≤ tt, lit≤ tt) i
+    (λ c. status-in-line .has (statusVerdict (statusAt w (v + 1))) (not-good statusNumbers (status-verdict (statusAt w (v + 1))) (eqb-false (statusVerdict (statusAt w (v + 1))) 0 c))))
+    (λ b. refl))
+    (λ a. refl)
 
 module _ (s : List ℕ) (l : Piece) (i : l .place ≤ length s) where
-  request-line : Refuses http1Last s (requestOf l)
+  request-line : Refuses requestNumbers s (requestOf l)
   unfolding requestOf
   request-line = on (requestLens (l .text)) (request-lens (l .text))
     where
-      on : (x : RequestLine) → OfRequest x → Refuses http1Last s (onRequest l x)
+      on : (x : RequestLine) → OfRequest x → Refuses requestNumbers s (onRequest l x)
       on (request.Of m p) h = tt
-      on (request.Bad n) h = at-place h i
+      on (request.Bad n) h = record { ofForm = among requestLineNumbers requestNumbers (refl, (refl, (refl, (refl, (refl, tt))))) .has n h; inside = i }
 
-  status-line : Refuses http1Last s (statusOf l)
+  status-line : Refuses responseNumbers s (statusOf l)
   unfolding statusOf
   status-line = on (statusLens (l .text)) (status-lens (l .text))
     where
-      on : (x : StatusLine) → OfStatus x → Refuses http1Last s (onStatus l x)
+      on : (x : StatusLine) → OfStatus x → Refuses responseNumbers s (onStatus l x)
       on (status.Of n) h = tt
-      on (status.Bad n) h = at-place h i
+      on (status.Bad n) h = record { ofForm = among statusLineNumbers responseNumbers (refl, (refl, (refl, (refl, tt)))) .has n h; inside = i }
 
-  field-line : Judges (Refusal http1Last s) (NamedIn (length s)) (fieldOf l)
+-- ---- what both readers read alike, whatever the numbers
+
+module _ {ns s : List ℕ} (wide : Among commonNumbers ns) where
+  -- a number that both have, at a place of the input
+  at-place : {n p : ℕ} → Common n → p ≤ length s → Refusal ns s n p
+  at-place h i = refusal wide h i
+
+  -- the size passed, at a place of the input
+  too-large : {p : ℕ} → p ≤ length s → Refusal ns s tooLarge p
+  too-large i = at-place refl i
+
+module _ {ns : List ℕ} (wide : Among commonNumbers ns) (s : List ℕ) (l : Piece) (i : l .place ≤ length s) where
+  field-line : Judges (Refusal ns s) (NamedIn (length s)) (fieldOf l)
   unfolding fieldOf
   field-line = on (fieldLens (l .text))
     where
-      on : (x : FieldLine) → Judges (Refusal http1Last s) (NamedIn (length s)) (onField l x)
+      on : (x : FieldLine) → Judges (Refusal ns s) (NamedIn (length s)) (onField l x)
       on (field.Of n b e) = i
-      on field.Bad = at-place syntax-number i
+      on field.Bad = at-place wide syntax-number i
 
-  chunk-line : Refuses http1Last s (chunkOf l)
+  chunk-line : Refuses ns s (chunkOf l)
   unfolding chunkOf
   chunk-line = on (chunkLens (l .text))
     where
-      on : (x : ChunkLine) → Refuses http1Last s (onChunk l x)
+      on : (x : ChunkLine) → Refuses ns s (onChunk l x)
       on (chunk.Of n) = tt
-      on chunk.Bad = at-place syntax-number i
+      on chunk.Bad = at-place wide syntax-number i
 
-  chunk-data : (n : ℕ) → l .place + n ≤ length s → Refuses http1Last s (chunkData n l)
+  chunk-data : (n : ℕ) → l .place + n ≤ length s → Refuses ns s (chunkData n l)
   unfolding chunkData
   chunk-data n j =
-      either (Refuses http1Last s) (sameText (drop n (l .text)) (13 ∷ 10 ∷ [])) (good (piece (l .place) (take n (l .text)))) (wrong badSyntax (l .place + n))
-      (λ a. tt) (λ a. at-place syntax-number j)
+      either (Refuses ns s) (sameText (drop n (l .text)) (13 ∷ 10 ∷ [])) (good (piece (l .place) (take n (l .text)))) (wrong badSyntax (l .place + n))
+      (λ a. tt) (λ a. at-place wide syntax-number j)
 
 -- ---- sections
 
--- a script refuses the input s with nothing but numbers of HTTP/1.1, at places of the input, and accepts nothing but what P holds of
-abbrev Refusing : {A : Type 0} → List ℕ → (ℕ → A → Type 0) → ℕ → Script A → Type 0
-Refusing s P at sc = Stops s (Refusal http1Last s) P at sc
+-- a script refuses the input s with nothing but these numbers, at places of the input, and accepts nothing but what P holds of
+abbrev Refusing : {A : Type 0} → List ℕ → List ℕ → (ℕ → A → Type 0) → ℕ → Script A → Type 0
+Refusing ns s P at sc = Stops s (Refusal ns s) P at sc
 
 -- a section ends in the input, and its lines start there
 record SectionIn (s : List ℕ) (h : Lines) : Type 0 where
   end : h .end ≤ length s
   lines : Each (NamedIn (length s)) (h .lines)
 
-module _ {s : List ℕ} where
+module _ {ns s : List ℕ} (wide : Among commonNumbers ns) where
   -- a line within an allowance
-  line-refuses : {at : ℕ} (left : ℕ) → at ≤ length s → CutRefuses (Refusal http1Last s) at (lineWithin left)
-  line-refuses left i = (at-place syntax-number i, too-large i)
+  line-refuses : {at : ℕ} (left : ℕ) → at ≤ length s → CutRefuses (Refusal ns s) at (lineWithin left)
+  line-refuses left i = (at-place wide syntax-number i, too-large wide i)
 
-  stops-lines : (f left : ℕ) {at : ℕ} (fs : List FieldRead) → Each (NamedIn (length s)) fs → Refusing s (λ n h. SectionIn s h) at (fieldLines f left fs)
+  stops-lines : (f left : ℕ) {at : ℕ} (fs : List FieldRead) → Each (NamedIn (length s)) fs → Refusing ns s (λ n h. SectionIn s h) at (fieldLines f left fs)
   unfolding fieldLines
-  stops-lines zero left fs h = stops-stop (too-large (omega arith))
+  stops-lines zero left fs h = stops-stop (too-large wide (omega arith))
   stops-lines (suc f) left {at} fs h =
       stops-bind _ (stops-word (lineWithin left) (line-refuses left) λ w g i.
       let k = length-append w (13 ∷ 10 ∷ []) in
       let j : at ≤ length s = omega arith in
       stops-if (isEmpty w) (λ a. stops-done (record { end = omega arith; lines = h })) λ a.
-      stops-if (leb linesMost (length fs)) (λ b. stops-stop (too-large j)) λ b.
-      stops-judged (NamedIn (length s)) (fieldOf (piece at w)) _ (field-line s (piece at w) j) λ x q.
+      stops-if (leb linesMost (length fs)) (λ b. stops-stop (too-large wide j)) λ b.
+      stops-judged (NamedIn (length s)) (fieldOf (piece at w)) _ (field-line wide s (piece at w) j) λ x q.
       stops-lines f (less left (piece at w)) (fs ++ x ∷ []) (each-snoc (NamedIn (length s)) fs x h q))
 
-  stops-section : {at : ℕ} (left : ℕ) → Refusing s (λ n h. SectionIn s h) at (section left)
+  stops-section : {at : ℕ} (left : ℕ) → Refusing ns s (λ n h. SectionIn s h) at (section left)
   unfolding section
   stops-section left = stops-lines (suc linesMost) left [] tt
 
   -- ---- content
 
-  stops-trailers : {at : ℕ} (cs : List Piece) → Refusing s (λ n c. Unit {0}) at (trailerSection cs)
+  stops-trailers : {at : ℕ} (cs : List Piece) → Refusing ns s (λ n c. Unit {0}) at (trailerSection cs)
   unfolding trailerSection
   stops-trailers cs =
       stops-then _ (stops-section trailerMost) λ n h g.
-      stops-if (areTrailers (h .lines)) (λ a. stops-done tt) (λ a. stops-stop (at-place (lit≤ tt, lit≤ tt) (g .end)))
+      stops-if (areTrailers (h .lines)) (λ a. stops-done tt) (λ a. stops-stop (at-place wide refl (g .end)))
 
-  stops-chunks : (f : ℕ) {at : ℕ} (cs : List Piece) (total : ℕ) → Refusing s (λ n c. Unit {0}) at (chunksFrom f cs total)
+  stops-chunks : (f : ℕ) {at : ℕ} (cs : List Piece) (total : ℕ) → Refusing ns s (λ n c. Unit {0}) at (chunksFrom f cs total)
   unfolding chunksFrom
-  stops-chunks zero cs total = stops-stop (too-large (omega arith))
+  stops-chunks zero cs total = stops-stop (too-large wide (omega arith))
   stops-chunks (suc f) {at} cs total =
       stops-bind _ (stops-word (lineWithin chunkLineMost) (line-refuses chunkLineMost) λ w g i.
       let j : at ≤ length s = omega arith in
-      stops-judged (λ x. Unit {0}) (chunkOf (piece at w)) _ (chunk-line s (piece at w) j) λ n q.
+      stops-judged (λ x. Unit {0}) (chunkOf (piece at w)) _ (chunk-line wide s (piece at w) j) λ n q.
       stops-if (eqb n 0) (λ a. stops-trailers cs) λ a.
-      stops-if (leb chunksMost (length cs)) (λ b. stops-stop (too-large j)) λ b.
-      stops-if (ltb contentMost (total + n)) (λ c. stops-stop (too-large j)) λ c.
+      stops-if (leb chunksMost (length cs)) (λ b. stops-stop (too-large wide j)) λ b.
+      stops-if (ltb contentMost (total + n)) (λ c. stops-stop (too-large wide j)) λ c.
       stops-bind _ (stops-word (someOctets (n + 2)) (λ z. tt) λ v l k.
-      stops-judged (λ x. Unit {0}) (chunkData n _) _ (chunk-data s _ (omega arith) n (omega (arith, l))) λ d r.
+      stops-judged (λ x. Unit {0}) (chunkData n _) _ (chunk-data wide s _ (omega arith) n (omega (arith, l))) λ d r.
       stops-chunks f (cs ++ d ∷ []) (total + n)))
 
-  stops-content : {at : ℕ} (b : Body) → Refusing s (λ n c. Unit {0}) at (content b)
+  stops-content : {at : ℕ} (b : Body) → Refusing ns s (λ n c. Unit {0}) at (content b)
   unfolding content
   stops-content (Sized n) = stops-bind _ (stops-word (someOctets n) (λ z. tt) λ w g i. stops-done tt)
   stops-content InChunks = stops-chunks (suc chunksMost) [] 0
-  stops-content UntilClosed = stops-bind _ (stops-word (someOctets (contentMost + 1)) (λ z. tt) λ w g i. stops-stop (too-large (omega arith)))
+  stops-content UntilClosed = stops-bind _ (stops-word (someOctets (contentMost + 1)) (λ z. tt) λ w g i. stops-stop (too-large wide (omega arith)))
 
-  -- ---- requests
+-- ---- requests
 
-  stops-request : {at : ℕ} (t : Told) → Refusing s (λ n m. Unit {0}) at (request t)
+module _ {s : List ℕ} where
+  stops-request : {at : ℕ} (t : Told) → Refusing requestNumbers s (λ n m. Unit {0}) at (request t)
   unfolding request afterHead
   stops-request {at} t =
-      stops-bind _ (stops-word (lineWithin headMost) (line-refuses headMost) λ w g i.
+      stops-bind _ (stops-word (lineWithin headMost) (line-refuses request-wide headMost) λ w g i.
       stops-judged (λ x. Unit {0}) (requestOf (piece at w)) _ (request-line s (piece at w) (omega arith)) λ q a.
-      stops-then _ (stops-section (less headMost (piece at w))) λ n h k.
-      stops-judged (λ x. Unit {0}) (authorityIn (h .end) (piece 0 []) (h .lines)) _ (authority-judged http1Last s wide (h .end) (k .end) (piece 0 []) (h .lines)) λ u b.
+      stops-then _ (stops-section request-wide (less headMost (piece at w))) λ n h k.
+      stops-judged (λ x. Unit {0}) (authorityIn (h .end) (piece 0 []) (h .lines)) _ (authority-judged requestNumbers s request-wide (h .end) (k .end) refl (piece 0 []) (h .lines)) λ u b.
       stops-judged (λ x. Unit {0}) (requestBody (h .end) (framingOf (h .lines))) _
-      (request-judged http1Last s wide (h .end) (k .end) (framingOf (h .lines)) (framing-in (length s) (h .lines) (k .lines))) λ v c.
-      stops-then _ (stops-content v) λ j d z.
+      (request-judged requestNumbers s request-wide (h .end) (k .end) (framingOf (h .lines)) (framing-in (length s) (h .lines) (k .lines))) λ v c.
+      stops-then _ (stops-content request-wide v) λ j d z.
       stops-done tt)
 
   -- ---- responses
 
-  stops-final : {at : ℕ} (q : ResponseCall) (hs : List InformationalRead) (n : ℕ) (h : Lines) → SectionIn s h → Refusing s (λ n m. Unit {0}) at (afterFinal q hs n h)
+  stops-final : {at : ℕ} (q : ResponseCall) (hs : List InformationalRead) (n : ℕ) (h : Lines) → SectionIn s h → Refusing responseNumbers s (λ n m. Unit {0}) at (afterFinal q hs n h)
   unfolding afterFinal
   stops-final q hs n h k =
       stops-judged (λ x. Unit {0}) (responseBody (q .told) (q .ending) n (h .end) (framingOf (h .lines))) _
-      (response-judged http1Last s wide (h .end) (k .end) (q .told) (q .ending) n (framingOf (h .lines)) (framing-in (length s) (h .lines) (k .lines))) λ v c.
-      stops-then _ (stops-content v) λ j d z.
+      (response-judged responseNumbers s response-wide (h .end) (k .end) (q .told) (q .ending) n (framingOf (h .lines)) (framing-in (length s) (h .lines) (k .lines))) λ v c.
+      stops-then _ (stops-content response-wide v) λ j d z.
       stops-done tt
 
-  stops-heads : (q : ResponseCall) (f : ℕ) {at : ℕ} (hs : List InformationalRead) (left : ℕ) → Refusing s (λ n m. Unit {0}) at (heads q f hs left)
+  stops-heads : (q : ResponseCall) (f : ℕ) {at : ℕ} (hs : List InformationalRead) (left : ℕ) → Refusing responseNumbers s (λ n m. Unit {0}) at (heads q f hs left)
   unfolding heads
-  stops-heads q zero hs left = stops-stop (too-large (omega arith))
+  stops-heads q zero hs left = stops-stop (too-large response-wide (omega arith))
   stops-heads q (suc f) {at} hs left =
-      stops-bind _ (stops-word (lineWithin left) (line-refuses left) λ w g i.
+      stops-bind _ (stops-word (lineWithin left) (line-refuses response-wide left) λ w g i.
       let j : at ≤ length s = omega arith in
       stops-judged (λ x. Unit {0}) (statusOf (piece at w)) _ (status-line s (piece at w) j) λ n a.
       stops-if (isInformational n)
       (λ b.
-      stops-if (leb informationalMost (length hs)) (λ c. stops-stop (too-large j)) λ c.
-      stops-then _ (stops-section (less left (piece at w))) λ m h k.
-      stops-judged (λ x. Unit {0}) (nothingStated (h .end) (framingOf (h .lines))) _ (nothing-judged http1Last s wide (h .end) (k .end) (framingOf (h .lines))) λ u d.
+      stops-if (leb informationalMost (length hs)) (λ c. stops-stop (too-large response-wide j)) λ c.
+      stops-then _ (stops-section response-wide (less left (piece at w))) λ m h k.
+      stops-judged (λ x. Unit {0}) (nothingStated (h .end) (framingOf (h .lines))) _ (nothing-judged responseNumbers s response-wide (h .end) (k .end) (framingOf (h .lines))) λ u d.
       stops-heads q f _ _)
-      (λ b. stops-then _ (stops-section (less left (piece at w))) λ m h k. stops-final q hs n h k))
+      (λ b. stops-then _ (stops-section response-wide (less left (piece at w))) λ m h k. stops-final q hs n h k))
 
 -- ---- both readers
 
@@ -247,12 +264,12 @@ pub request-refused : RequestsRefused
 unfolding readRequest
 request-refused t s n p e = on (isScheme (t .scheme)) e
   where
-    on : (b : Bool) → cond b (run (request t) 0 s) (refused notSupported 0) ≡ refused n p → Refusal http1Last s n p
+    on : (b : Bool) → cond b (run (request t) 0 s) (refused notSupported 0) ≡ refused n p → Refusal requestNumbers s n p
     on true g = stops-all (λ i m. Unit {0}) (request t) n p (stops-request t) g
     on false g =
         let z : notSupported ≡ n = cc in
         let y : 0 ≡ p = cc in
-        record { some = omega arith; ofForm = omega arith; inside = omega arith }
+        record { ofForm = rw (← z) refl; inside = omega arith }
 
 pub response-refused : ResponsesRefused
 unfolding readResponse

@@ -66,17 +66,21 @@ RequestsSound = (t : Told) (s : List ℕ) (n : ℕ) (m : Message) → readReques
 abbrev pub ResponsesSound : Type 0
 ResponsesSound = (t : Told) (s : List ℕ) (n : ℕ) (m : Message) → readResponse t s ≡ accepted n m → SoundResponse t s n m
 
--- the last of the numbers with which HTTP/1.1 is refused (01, "Numbers a call answers with")
-abbrev pub http1Last : ℕ
-http1Last = 8
+-- the numbers with which a request is refused: all of HTTP/1.1 but 5, which is a status's (01, "Numbers a call answers with")
+abbrev pub requestNumbers : List ℕ
+requestNumbers = 2 ∷ 3 ∷ 4 ∷ 6 ∷ 7 ∷ 8 ∷ []
 
--- every refused request, under whatever scheme is told, is refused with a number from 2 to 8, at a place of the input
+-- those with which a response is refused: all but 6, which is a host's
+abbrev pub responseNumbers : List ℕ
+responseNumbers = 2 ∷ 3 ∷ 4 ∷ 5 ∷ 7 ∷ 8 ∷ []
+
+-- every refused request, under whatever scheme is told, is refused with one of its numbers, at a place of the input
 abbrev pub RequestsRefused : Type 0
-RequestsRefused = (t : Told) (s : List ℕ) (n p : ℕ) → readRequest t s ≡ refused n p → Refusal http1Last s n p
+RequestsRefused = (t : Told) (s : List ℕ) (n p : ℕ) → readRequest t s ≡ refused n p → Refusal requestNumbers s n p
 
 -- so is every refused response
 abbrev pub ResponsesRefused : Type 0
-ResponsesRefused = (t : Told) (s : List ℕ) (n p : ℕ) → readResponse t s ≡ refused n p → Refusal http1Last s n p
+ResponsesRefused = (t : Told) (s : List ℕ) (n p : ℕ) → readResponse t s ≡ refused n p → Refusal responseNumbers s n p
 
 -- what the reader of responses settles while the connection is open stays when it has closed: with a length line, in chunks or ended at its head a response is as it
 -- was, and so is every refusal; only a call for more octets may become another answer (02, item 10)

@@ -1,0 +1,1 @@
+// laws alone: the C entries under the demands
