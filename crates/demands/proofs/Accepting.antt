@@ -11,7 +11,7 @@ use Rattle.numbers.specs.Places.{push}
 use Rattle.numbers.specs.Integer.{intLen, tagOf, intBytes}
 use Rattle.numbers.specs.Digits.{charOf, moreOf, countOf, digits}
 use Rattle.messages.specs.declared.Told.{Told}
-use Rattle.messages.specs.Told.{isYes, answering}
+use Rattle.messages.specs.Told.{isYes, answering, inEdition}
 use Rattle.messages.specs.Control.{isUnsupported, methodVerdict, pathVerdict, isHost, statusVerdict, isInformational, isBodyless, endsAtHead, isLowerName, isTrimmedValue}
 use Rattle.messages.specs.Names.{isHopByHop, kindOf}
 use Rattle.messages.specs.Meaning.{Control, request, response, Meaning, lengthField}
@@ -60,7 +60,7 @@ of-response : (t : Told) (c : Control) → ofResponse c ≡ true → onConnectio
 of-response t (request m s a p) h = no cc
 of-response t (response hs s) h = refl
 
-binary-back : (t : Told) (m : Meaning) → BinaryOf t m → WrittenAndRead toBinary (readBinary t) nothing m
+binary-back : (t : Told) (m : Meaning) → BinaryOf t m → WrittenAndRead toBinary (readBinary (inEdition 0 t)) nothing m
 unfolding toBinary
 binary-back t m h =
     record {

@@ -9,7 +9,7 @@ use Rattle.octets.specs.Ascii.{ascii}
 use Rattle.script.specs.Script.{Answer, accepted, means}
 use Rattle.messages.specs.declared.StatedLength.the-variants.{Missing}
 use Rattle.messages.specs.declared.Told.{Told}
-use Rattle.messages.specs.Told.{answering}
+use Rattle.messages.specs.Told.{answering, inEdition}
 use Rattle.messages.specs.Message.{Message}
 use Rattle.messages.specs.Meaning.{request, response, Meaning, meaning}
 use Rattle.messages.specs.Valid.{isScheme, valid, suits}
@@ -70,8 +70,8 @@ pub record Accepting : Type 0 where
   pub requests : (t : Told) → ReadsValid t (readRequest t)
   pub responses : (t : Told) → ReadsValid t (readResponse t)
   pub binaries : (t : Told) → ReadsValid t (readBinary t)
-  -- every valid meaning that fits is written and read back as itself: a reader that refuses something of it is shut out, and so is a writer
-  pub binariesBack : (t : Told) (m : Meaning) → BinaryOf t m → WrittenAndRead toBinary (readBinary t) nothing m
+  -- every valid meaning that fits is written and read back as itself, in Binary as RFC 9292 has it: a reader that refuses something of it is shut out, and so is a writer
+  pub binariesBack : (t : Told) (m : Meaning) → BinaryOf t m → WrittenAndRead toBinary (readBinary (inEdition 0 t)) nothing m
   pub requestsBack : (t : Told) (m : Meaning) → RequestOf t m → WrittenAndRead (toHttp1 t) (readRequest t) anything m
   pub responsesBack : (t : Told) (m : Meaning) → ResponseOf t m → WrittenAndRead (toHttp1 t) (readResponse t) anything m
   -- there are such meanings: sizes that nothing fits are shut out, and so are rules that nothing obeys
