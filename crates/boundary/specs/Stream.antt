@@ -6,7 +6,7 @@ use mathlib.Core.Bool.{cond}
 use mathlib.Core.List.{List, [], _∷_, _++_}
 use lib.Dec.{eqb}
 use lib.ListN.{take, drop}
-use Rattle.messages.specs.Told.{plain, answering, keeping}
+use Rattle.messages.specs.Told.{plain, answering, keeping, inEdition}
 use Rattle.messages.specs.declared.Told.{Told}
 use Rattle.turn.specs.Turn.{binaryToHttp1}
 use Rattle.demands.specs.Demand3.{Call, Space, fresh, lentIn, spaceOf}
@@ -25,7 +25,7 @@ pub record Calls (scheme former : ℕ) (z : Space) (c : Call) (z′ : Space) : T
   pub output : List ℕ
   pub place : ℕ
   pub number : ℕ
-  pub promised : EntryServed (binaryToHttp1 (keeping former (answering (c .head) (plain scheme))) (c .input)) (lentIn z) output place number
+  pub promised : EntryServed (binaryToHttp1 (inEdition (c .edition) (keeping former (answering (c .head) (plain scheme)))) (c .input)) (lentIn z) output place number
   pub behind : z′ ≡ behindCall z output place number
 
 -- a list of such calls, one behind the other
