@@ -1,1 +1,3 @@
+pub mod Calls
 pub mod Append
+pub mod Changes

@@ -31,7 +31,8 @@ use Rattle.output.proofs.Laws.{splice-is}
 use Rattle.turn.specs.Turn.{replyFrom}
 use Rattle.bundle.specs.Bundle.{wordOf, flockOf, deliveredOf, kindOf, lengthOf, headOf, headOctets, isFlock, Entry, entryOctets, entriesOctets, readMessage, kindNumber, Walk, walk}
 use Rattle.bundle_edit.specs.Append.{withHead, entryFor, messageEntry, behindWalk, behindBundle, appendReply, appended}
-use Rattle.bundle_edit.proofs.Appends.{kind-small, head-long, flock-least}
+use Rattle.bundle_edit.proofs.Appends.{kind-small, head-long}
+use Rattle.flock_table.proofs.Counted.{flock-least}
 use Rattle.bundle_laws.specs.Reading.{InForm, IsBundle}
 use Rattle.bundle_laws.specs.Appending.{appendAnswer, Added, Appending}
 use Rattle.bundle_laws.proofs.Reading.{front, octets-of, back, is-bundle}
