@@ -5,7 +5,7 @@ use mathlib.Core.Path.{_≡_}
 use mathlib.Core.Bool.{Bool, true, false, cond}
 use mathlib.Core.List.{List, [], _∷_, _++_}
 use lib.Dec.{ltb, eqb}
-use lib.ListN.{length, take}
+use lib.ListN.{length, take, getD, set}
 use Rattle.octets.specs.Refusals.{tooLarge, badEntry}
 use Rattle.messages.specs.Meaning.{Meaning}
 use Rattle.messages.specs.Valid.{ofResponse}
@@ -16,6 +16,8 @@ use Rattle.output.specs.declared.Written.the-variants.{Done, Refused}
 use Rattle.turn.specs.Turn.{replyFrom}
 use Rattle.octets.specs.Limits.{binaryMost, entriesMost}
 use Rattle.bundle.specs.Bundle.{headOf, headOctets, isFlock, readMessage, kindNumber, Entry, walk}
+use Rattle.flock_table.specs.Table.{none, plus}
+use Rattle.flock_table.specs.declared.Flock.{Flock}
 use Rattle.bundle_edit.specs.Calls.{besideTable, inBuffer, ofBundle}
 use Rattle.bundle_edit.specs.declared.Plan.{Plan}
 
@@ -69,6 +71,18 @@ appended n b used f m = lentAfterAt (appendReply n b used f m) used b
 -- an append to the buffer b, beside a table of n records, answers r and leaves b′
 abbrev pub Planned : ℕ → List ℕ → ℕ → ℕ → List ℕ → List ℕ → Plan → Type 0
 Planned n b used f m b′ r = (r ≡ appendPlan n b used f m) × (b′ ≡ appended n b used f m)
+
+-- ---- the table afterwards (02, item 6: "Appending keeps it true")
+
+-- the record of a new entry whose message has so many octets
+abbrev pub newRecord : ℕ → Flock
+newRecord n = record { entries = 1; bytes = n; undelivered = 1 }
+
+-- by the plan: one record changes, or none
+abbrev pub entered : Plan → List Flock → List Flock
+entered p t = cond (p .go) (set t (p .index) (plus (getD t (p .index) none) (newRecord (p .size)))) t
+
+-- ---- the code
 
 -- an answer that may be made into a plan without passing a number's width
 abbrev pub Fair : ℕ → ℕ → ℕ → Written → Type 0

@@ -6,7 +6,9 @@ use bundle::Bundle;
 use bundle::Head;
 use bundle::entry::is_flock;
 use bundle::reader::read_bundle;
+use flock_table::Flock;
 use flock_table::is_table;
+use flock_table::plus;
 use messages::call::plain;
 use octets::Limits;
 use octets::Refusals;
@@ -24,7 +26,8 @@ ghost use Rattle.messages.specs.Told.{plain as toldPlain};
 ghost use Rattle.turn.specs.Turn.{binaryToBinary};
 ghost use Rattle.bundle.specs.Bundle.{headOf, headOctets, isFlock, walk};
 ghost use Rattle.bundle.specs.Answers.{bundleOf};
-ghost use Rattle.bundle_edit.specs.Append.{messageEntry, behindBundle, bufferReply, appendReply, planOf, Planned, Fair};
+ghost use Rattle.bundle_edit.specs.Append.{messageEntry, behindBundle, bufferReply, appendReply, planOf, Planned, Fair, newRecord};
+ghost use Rattle.flock_table.specs.Table.{plus as plusOf};
 
 // What a call that changes a bundle answers, flat: whether a table's record is to be changed, which one, by how many octets of message; number, place, the used
 // length afterwards; integers that were not in their shortest form.
@@ -213,4 +216,16 @@ pub fn append(n: usize, buf: &mut [u8], used: usize, flock: u32, message: &[u8])
     let room = buf.len();
     let w = append_beside(n, buf, used, flock, message);
     plan_of(room, used, flock, w)
+}
+
+// A record with a new entry of so many octets of message.
+pub fn enter(old: Flock, size: u32) -> Flock
+    ensures { λ r. ⌜ r ≡ plusOf old (newRecord size) ⌝ }
+{
+    let new = Flock {
+        entries: 1,
+        bytes: size,
+        undelivered: 1,
+    };
+    plus(old, new)
 }

@@ -2,6 +2,7 @@ pub mod Walks
 pub mod Reading
 pub mod Heads
 pub mod Listing
+pub mod Keeping
 pub mod Salvaging
 pub mod Demands
 pub mod Appending

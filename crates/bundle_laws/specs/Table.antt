@@ -5,12 +5,13 @@ use mathlib.Core.Path.{_≡_}
 use mathlib.Core.List.{List, [], _∷_, _++_}
 use lib.ListN.{length}
 use Rattle.octets.specs.Ascii.{ascii}
+use Rattle.octets.specs.Limits.{flocksMost}
 use Rattle.numbers.specs.Places.{push}
 use Rattle.output.specs.Reply.{Reply, writes, refuses}
 use Rattle.examples.specs.Examples.{hex, figure13, postBinary}
 use Rattle.bundle.specs.Bundle.{wordOf, headOf, headOctets, entriesOctets, messageVerdict, headed, nextAt, walkFrom, walk, ofFlock, flockList}
 use Rattle.bundle.specs.Salvage.{salvageOf}
-use Rattle.bundle_edit.specs.Append.{behindBundle, appendReply}
+use Rattle.bundle_edit.specs.Append.{behindBundle, bufferReply, appendReply}
 use Rattle.salvaging.specs.Line.{salvageLine}
 
 -- ---- what a row says
@@ -20,7 +21,7 @@ pub data Row : Type 0 where
   heads : ℕ → ℕ → ℕ → ℕ → List ℕ → Row
   -- these octets are walked: so many entries, the end's place, the number that stopped it
   walks : List ℕ → ℕ → ℕ → ℕ → Row
-  -- an append to the first `used` octets of a buffer, of a flock and a message, replies so
+  -- an append to the first `used` octets of a buffer, beside a table of 127 records, of a flock and a message, replies so
   appends : List ℕ → ℕ → ℕ → List ℕ → Reply → Row
   -- the list of a flock of these octets
   lists : ℕ → List ℕ → Reply → Row
@@ -33,7 +34,7 @@ pub data Row : Type 0 where
 abbrev pub Holds : Row → Type 0
 Holds (heads f d k n l) = headOctets (headOf f d k n) ≡ l
 Holds (walks s count end stop) = (length (walk s .entries) ≡ count) × (walk s .end ≡ end) × (walk s .stop ≡ stop)
-Holds (appends b used f m y) = appendReply b used f m ≡ y
+Holds (appends b used f m y) = appendReply flocksMost b used f m ≡ y
 Holds (lists f s y) = flockList f s ≡ y
 Holds (salvages s count kept left stop) = salvageOf s ≡ record { entries = count; octets = kept; left = left; stop = stop }
 Holds (prints s line) = salvageLine s ≡ line
@@ -101,5 +102,5 @@ table =
 
 -- opens the definitions of bundles, so that the rows are proved by computation
 unfoldable pub opened : Unit {0}
-unfolding push wordOf headOctets entriesOctets messageVerdict headed nextAt walkFrom walk ofFlock flockList behindBundle appendReply salvageOf salvageLine
+unfolding push wordOf headOctets entriesOctets messageVerdict headed nextAt walkFrom walk ofFlock flockList behindBundle bufferReply appendReply salvageOf salvageLine
 opened = tt
