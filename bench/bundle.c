@@ -11,6 +11,7 @@ enum { ENTRIES = OSPIRNAR_ENTRIES_MOST, FLOCK = 5, HEAD = 4 };
 
 static uint8_t octets[1 << 17], copy[1 << 17];
 static uint32_t entries[ENTRIES * OSPIRNAR_ENTRY_NUMBERS], ranges[OSPIRNAR_RANGES_MOST];
+static struct ospirnar_flock table[OSPIRNAR_FLOCKS];
 static struct message whole, all_but_one, post; /* the bundle, the same without its last entry, a scan post as Binary */
 
 static void read_bundle(const struct message *message, struct found *found)
@@ -32,7 +33,7 @@ static void read_messages(const struct message *message, struct found *found)
 
 static void append(const struct message *message, struct found *found)
 {
-    struct ospirnar_append_answer answer = ospirnar_append(octets, sizeof octets, message->len, FLOCK, post.octets, post.len);
+    struct ospirnar_append_answer answer = ospirnar_append(table, OSPIRNAR_FLOCKS, octets, sizeof octets, message->len, FLOCK, post.octets, post.len);
     *found = (struct found){.taken = answer.number == 0 ? message->len : 0, .fields = message->kept, .written = answer.used};
 }
 
@@ -59,7 +60,7 @@ static void make_bundle(void)
     size_t used = 0;
     for (int i = 0; i < ENTRIES; i++) {
         all_but_one = (struct message){.octets = octets, .len = used, .kept = (size_t)i};
-        used = ospirnar_append(octets, sizeof octets, used, FLOCK, post.octets, post.len).used;
+        used = ospirnar_append(table, OSPIRNAR_FLOCKS, octets, sizeof octets, used, FLOCK, post.octets, post.len).used;
     }
     whole = (struct message){.octets = octets, .len = used, .kept = ENTRIES};
 }

@@ -13,6 +13,8 @@
 
 #[path = "probe/bundle.rs"]
 mod bundle;
+#[path = "probe/table.rs"]
+mod table;
 
 use std::io::{self, BufRead, BufReader, BufWriter, Write};
 
@@ -690,6 +692,9 @@ fn options<'a, 'b>(words: &'b [&'a [u8]]) -> Option<(&'a [u8], Told, &'b [&'a [u
     let mut told = Told::default();
     for option in given {
         let at = option.iter().position(|&b| b == b'=')?;
+        if &option[..at] == b"table" && table::takes_table(name) {
+            continue; // it is no number: table.rs reads it
+        }
         let value = number(&option[at + 1..], u64::MAX).filter(|&n| n <= u32::MAX as u64)? as u32;
         match (&option[..at], name) {
             (b"head", b"h1resp" | b"bin" | b"h1resp2bin" | b"bin2h1" | b"bin2bin" | b"field_h1resp" | b"field_bin") => told.head = value,
@@ -768,7 +773,8 @@ fn command(line: &[u8]) -> Option<Result<String, &'static str>> {
             let (name, default, input) = (octets(name)?, octets(default)?, octets(input)?);
             binary_field(&input, told, &name).and_then(|asked| field(input.len(), default.len(), asked))
         }
-        (name, words) => return bundle::command(name, words),
+        (name, rest) if table::takes_table(name) => return table::command(name, &words[1..words.len() - rest.len()], rest),
+        (name, rest) => return bundle::command(name, rest),
     })
 }
 

@@ -15,7 +15,7 @@ use Rattle.output.specs.Reply.{Reply, writes, refuses, writtenOf, lentAfterAt}
 use Rattle.output.proofs.Laws.{splice-length}
 use Rattle.output.specs.declared.Written.{Written}
 use Rattle.output.specs.declared.Written.the-variants.{Done, Refused}
-use Rattle.bundle.specs.Bundle.{wordOf, flockOf, deliveredOf, isFlock, Entry, Walk, walk, walkFrom, nextAt, headed}
+use Rattle.bundle.specs.Bundle.{wordOf, flockOf, deliveredOf, isFlock, Entry, entriesOctets, Walk, walk}
 use Rattle.bundle.proofs.Walks.{few-entries}
 use Rattle.flock_table.specs.Table.{picked, isDelivered, messageOctets, recordOf, totals, tableOf, none, plus, slotOf, totalsOf, totalsAnswer}
 use Rattle.flock_table.specs.Tabulate.{tabulate}
@@ -67,6 +67,7 @@ table-put used es t l =
 -- ---- an empty bundle, and a rebuild
 
 begins : (b : List ℕ) → IsTrue (record { buffer = b; used = 0; table = tableOf [] })
+unfolding entriesOctets
 begins b = let z = back [] tt (omega arith) in record { within = omega arith; bundle = ap (λ (w : Walk). w .stop) z; table = ap (λ (w : Walk). tableOf (w .entries)) (sym z) }
 
 rebuilt : (b : List ℕ) (used : ℕ) (t : List Flock) → used ≤ length b → walk (take used b) .stop ≡ 0 → length t ≡ 127
@@ -101,7 +102,7 @@ shorts s = short-of (walk s .entries) (front s .good)
 new-record : (e : Entry) → deliveredOf (wordOf (e .head)) ≡ 0 → recordOf (e ∷ []) ≡ newRecord (length (e .text))
 unfolding picked messageOctets
 new-record e d =
-    let f : eqb (deliveredOf (wordOf (e .head))) 1 ≡ false = ne-eqb _ _ (omega (arith, d)) in
+    let f : eqb (deliveredOf (wordOf (e .head))) 1 ≡ false = ne-eqb (deliveredOf (wordOf (e .head))) 1 (λ q. omega (arith, d, q)) in
     let b : length (e .text) + 0 ≡ length (e .text) = omega arith in
     rw (f, b)
 
@@ -142,9 +143,9 @@ module _ (x : Night) (f : ℕ) (m : List ℕ) (t : IsTrue x) (k : ℕ) (a : Adde
 
   pub record-new : plus (getD (x .table) (f - 1) none) (newRecord (k - 4)) ≡ both (getD (x .table) (f - 1) none) (newRecord (k - 4))
   record-new =
-      rw (t .table, same, table-at (a .before) f hf, ← size)
-      (totals-plus (a .before) (a .entry) f (a .flock) hf (rw (← same) (shorts (take (x .used) (x .buffer)))) (a .good .small) few
-      ∙ totals-more (a .before) (a .entry) f (eq-eqb _ _ (a .flock)))
+      let h : Each Short (a .before) = rw (← same) (shorts (take (x .used) (x .buffer))) in
+      let q = totals-plus (a .before) (a .entry) f (a .flock) hf h (a .good .small) few ∙ totals-more (a .before) (a .entry) f (eq-eqb _ _ (a .flock)) in
+      rw (t .table, same, table-at (a .before) f hf) (subst (λ (r : Flock). plus (totals f (a .before)) r ≡ both (totals f (a .before)) r) size q)
 
 -- by what the append answers
 abbrev leftBy : Night → ℕ → List ℕ → Written → Night
