@@ -43,7 +43,7 @@ mod entries {
         pub fn ospirnar_rebuild(table: *mut Flock, records: usize, input: *const u8, input_len: usize) -> TableAnswer;
     }
 }
-use entries::Flock;
+use self::entries::Flock;
 
 /// What shows that a record before or behind the table, which is not lent, was written to.
 const GUARD: Flock = Flock { entries: 0xAAAA_AAAA, bytes: 0xAAAA_AAAA, undelivered: 0xAAAA_AAAA };
