@@ -18,7 +18,9 @@ use Rattle.bundle_edit.specs.Append.{appendPlan}
 use Rattle.bundle_edit.specs.Changes.{changed, changedFrom}
 use Rattle.bundle_edit.specs.declared.Plan.{Plan}
 use Rattle.bundle_edit.specs.declared.Changes.{Changes}
+use Rattle.bundle_edit.specs.Delivery.{markPlan}
 use Rattle.bundle_edit.proofs.Appends as appends
+use Rattle.bundle_edit.proofs.Sweeping as sweeping
 
 -- ---- choices
 
@@ -50,6 +52,9 @@ slot-index n f r e h = rw e (slot-goes n f (rw e at (is-true (r .go) h)))
 
 pub append-index : (n : ℕ) (b : List ℕ) (used f : ℕ) (m : List ℕ) (r : Plan) → r ≡ appendPlan n b used f m → Holds (r .go) → r .index < n
 append-index n b used f m r e h = rw e (appends.append-index n b used f m (rw e at (is-true (r .go) h)))
+
+pub mark-index : (n : ℕ) (b : List ℕ) (used i : ℕ) (r : Plan) → r ≡ markPlan n b used i → Holds (r .go) → r .index < n
+mark-index n b used i r e h = rw e (sweeping.mark-index n b used i (rw e at (is-true (r .go) h)))
 
 -- ---- the first m records changed, the k-th being the first of the list: what a loop has done after m turns
 

@@ -4,6 +4,9 @@ use bundle::reader::read_bundle;
 use bundle_edit::Changes;
 use bundle_edit::Plan;
 use bundle_edit::append;
+use bundle_edit::delivery::lessen;
+use bundle_edit::delivery::mark;
+use bundle_edit::delivery::sweep;
 use bundle_edit::enter;
 use bundle_edit::tables::change;
 use bundle_edit::tables::rebuild;
@@ -28,7 +31,8 @@ ghost use Rattle.salvaging.specs.Line.{salvageLine};
 ghost use Rattle.flock_table.specs.Table.{totalsAnswer};
 ghost use Rattle.bundle_edit.specs.Append.{appendPlan};
 ghost use Rattle.bundle_edit.specs.Changes.{changedFrom, rebuildChanges};
-ghost use Rattle.bundle_capi.specs.Entries.{BundleEntered, listOf, ListEntered, appendOf, AppendEntered, outcomeOf, RebuildEntered};
+ghost use Rattle.bundle_edit.specs.Delivery.{markPlan, sweepChanges};
+ghost use Rattle.bundle_capi.specs.Entries.{BundleEntered, listOf, ListEntered, appendOf, AppendEntered, outcomeOf, RebuildEntered, markOf, MarkEntered, SweepEntered};
 
 // What the reader answers: 0, the bundle's length and the number of entries, or a refusal's number and place.
 #[repr(C)]
@@ -174,6 +178,17 @@ fn outcome(c: Changes) -> TableAnswer
     }
 }
 
+// What C sees of a mark's plan.
+fn mark_answer(p: Plan) -> TableAnswer
+    ensures { λ r. ⌜ r ≡ markOf p ⌝ }
+{
+    TableAnswer {
+        number: p.number,
+        place: p.place,
+        used: p.used,
+    }
+}
+
 // From here on each function takes the lent table; its proof is written by tools/walks_bundle.py. All judging and all arithmetic is in what they call.
 
 // Every record, by a change of all.
@@ -237,6 +252,42 @@ pub extern "C" fn ospirnar_rebuild(table: &mut [Flock], input: &[u8]) -> TableAn
 {
     let n = table.len();
     let c = rebuild(n, input);
+    update_all(table, c);
+    outcome(c)
+}
+
+// An entry is delivered from now on, and its flock has one undelivered entry less.
+#[no_mangle]
+pub extern "C" fn ospirnar_mark(
+    table: &mut [Flock],
+    buffer: &mut [u8],
+    used: usize,
+    entry: usize,
+) -> TableAnswer
+    ensures { λ r. ⌜ MarkEntered (markPlan (length (now (table .entry))) (now (buffer .entry)) used entry)
+        (now (table .entry)) (now (table .exit)) (now (buffer .entry)) (now (buffer .exit)) used entry r ⌝ }
+{
+    let n = table.len();
+    let p = mark(n, buffer, used, entry);
+    if p.go {
+        let i = p.index;
+        let old = table[i];
+        let new = lessen(old);
+        table[i] = new;
+        return mark_answer(p);
+    } else {
+        return mark_answer(p);
+    }
+}
+
+// The delivered entries are swept out of the bundle, and taken off the table.
+#[no_mangle]
+pub extern "C" fn ospirnar_sweep(table: &mut [Flock], buffer: &mut [u8], used: usize) -> TableAnswer
+    ensures { λ r. ⌜ SweepEntered (sweepChanges (length (now (table .entry))) (now (buffer .entry)) used)
+        (now (table .entry)) (now (table .exit)) (now (buffer .entry)) (now (buffer .exit)) used r ⌝ }
+{
+    let n = table.len();
+    let c = sweep(n, buffer, used);
     update_all(table, c);
     outcome(c)
 }

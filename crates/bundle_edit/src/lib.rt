@@ -1,5 +1,6 @@
 // Changing a bundle, and what that is to do to the table beside it. Everything is judged before the first octet is written, so that a refused call alters
 // nothing.
+pub mod delivery; // delivery.rt: marking an entry as delivered, and the sweep
 pub mod tables; // tables.rt: all records of a table at once: the rebuild
 
 use bundle::Bundle;
@@ -60,6 +61,19 @@ impl Kinds {
     pub const PUTS: u32 = 1;
 
     pub const TAKES_OFF: u32 = 2;
+}
+
+// What is judged before a mark and before a sweep: 0 and how many entries there are, or a refusal.
+struct Judged {
+    number: u32,
+    place: usize,
+    count: usize,
+}
+
+// An entry: where it begins, its head.
+struct Found {
+    at: usize,
+    word: u32,
 }
 
 // The plan of a writer's answer.
@@ -147,7 +161,7 @@ fn put_entry(buf: &mut [u8], used: usize, flock: u32, message: &[u8]) -> Written
 }
 
 // The bundle that the first octets of a buffer are.
-fn front_bundle(buf: &[u8], used: usize) -> Bundle
+pub(crate) fn front_bundle(buf: &[u8], used: usize) -> Bundle
     requires { ⌜ used ≤ length (now buf) ⌝ }
     ensures { λ r. ⌜ r ≡ bundleOf (walk (take used (now (buf .entry)))) ⌝ }
 {

@@ -66,11 +66,12 @@ use Rattle.bundle_capi.proofs.append_answer as append-answer
 use Rattle.bundle_capi.proofs.append_answer.Symbol as append-answer-def
 use Rattle.bundle_capi.proofs.append_answer.Symbol.{name as #bundle_capi·append-answer}
 use Rattle.bundle_capi.proofs.append_answer.Met as append-answer-thm
-use Rattle.flock_table.specs.Table.{none, plus, slotOf, totalsOf, noTotals, totalsAt}
+use Rattle.flock_table.specs.Table.{none, plus, minus, slotOf, totalsOf, noTotals, totalsAt}
 use Rattle.bundle_edit.specs.Append.{appendPlan, appended, newRecord, entered as entering}
 use Rattle.bundle_edit.specs.Changes.{changed, changedFrom, rebuildChanges}
-use Rattle.bundle_capi.specs.Entries.{appendOf, AppendEntered, outcomeOf, RebuildEntered}
-use Rattle.bundle_capi.proofs.Updating.{slot-index, append-index, taken, left, changedFirst, first-length, first-next, first-all}
+use Rattle.bundle_edit.specs.Delivery.{oneUndelivered, markPlan, marked, sweepChanges, swept}
+use Rattle.bundle_capi.specs.Entries.{appendOf, AppendEntered, outcomeOf, RebuildEntered, markOf, MarkEntered, SweepEntered}
+use Rattle.bundle_capi.proofs.Updating.{slot-index, append-index, mark-index, taken, left, changedFirst, first-length, first-next, first-all}
 use Rattle.bundle_capi.proofs.ospirnar_append.Key.{name as #bundle_capi·ospirnar-append}
 use Rattle.bundle_capi.proofs.ospirnar_append as f
 use Rattle.bundle_capi.proofs.ospirnar_append.Statement as stated

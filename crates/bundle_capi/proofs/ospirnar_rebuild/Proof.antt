@@ -66,11 +66,12 @@ use Rattle.bundle_capi.proofs.outcome as outcome
 use Rattle.bundle_capi.proofs.outcome.Symbol as outcome-def
 use Rattle.bundle_capi.proofs.outcome.Symbol.{name as #bundle_capi·outcome}
 use Rattle.bundle_capi.proofs.outcome.Met as outcome-thm
-use Rattle.flock_table.specs.Table.{none, plus, slotOf, totalsOf, noTotals, totalsAt}
+use Rattle.flock_table.specs.Table.{none, plus, minus, slotOf, totalsOf, noTotals, totalsAt}
 use Rattle.bundle_edit.specs.Append.{appendPlan, appended, newRecord, entered as entering}
 use Rattle.bundle_edit.specs.Changes.{changed, changedFrom, rebuildChanges}
-use Rattle.bundle_capi.specs.Entries.{appendOf, AppendEntered, outcomeOf, RebuildEntered}
-use Rattle.bundle_capi.proofs.Updating.{slot-index, append-index, taken, left, changedFirst, first-length, first-next, first-all}
+use Rattle.bundle_edit.specs.Delivery.{oneUndelivered, markPlan, marked, sweepChanges, swept}
+use Rattle.bundle_capi.specs.Entries.{appendOf, AppendEntered, outcomeOf, RebuildEntered, markOf, MarkEntered, SweepEntered}
+use Rattle.bundle_capi.proofs.Updating.{slot-index, append-index, mark-index, taken, left, changedFirst, first-length, first-next, first-all}
 use Rattle.bundle_capi.proofs.ospirnar_rebuild.Key.{name as #bundle_capi·ospirnar-rebuild}
 use Rattle.bundle_capi.proofs.ospirnar_rebuild as f
 use Rattle.bundle_capi.proofs.ospirnar_rebuild.Statement as stated

@@ -66,11 +66,12 @@ use Rattle.flock_table.proofs.no_totals as no-totals
 use Rattle.flock_table.proofs.no_totals.Symbol as no-totals-def
 use Rattle.flock_table.proofs.no_totals.Symbol.{name as #flock_table·no-totals}
 use Rattle.flock_table.proofs.no_totals.Met as no-totals-thm
-use Rattle.flock_table.specs.Table.{none, plus, slotOf, totalsOf, noTotals, totalsAt}
+use Rattle.flock_table.specs.Table.{none, plus, minus, slotOf, totalsOf, noTotals, totalsAt}
 use Rattle.bundle_edit.specs.Append.{appendPlan, appended, newRecord, entered as entering}
 use Rattle.bundle_edit.specs.Changes.{changed, changedFrom, rebuildChanges}
-use Rattle.bundle_capi.specs.Entries.{appendOf, AppendEntered, outcomeOf, RebuildEntered}
-use Rattle.bundle_capi.proofs.Updating.{slot-index, append-index, taken, left, changedFirst, first-length, first-next, first-all}
+use Rattle.bundle_edit.specs.Delivery.{oneUndelivered, markPlan, marked, sweepChanges, swept}
+use Rattle.bundle_capi.specs.Entries.{appendOf, AppendEntered, outcomeOf, RebuildEntered, markOf, MarkEntered, SweepEntered}
+use Rattle.bundle_capi.proofs.Updating.{slot-index, append-index, mark-index, taken, left, changedFirst, first-length, first-next, first-all}
 use Rattle.bundle_capi.proofs.ospirnar_totals.Key.{name as #bundle_capi·ospirnar-totals}
 use Rattle.bundle_capi.proofs.ospirnar_totals as f
 use Rattle.bundle_capi.proofs.ospirnar_totals.Statement as stated

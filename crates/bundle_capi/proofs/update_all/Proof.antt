@@ -59,11 +59,12 @@ use Rattle.bundle_edit.proofs.tables.change as change
 use Rattle.bundle_edit.proofs.tables.change.Symbol as change-def
 use Rattle.bundle_edit.proofs.tables.change.Symbol.{name as #bundle_edit·tables·change}
 use Rattle.bundle_edit.proofs.tables.change.Met as change-thm
-use Rattle.flock_table.specs.Table.{none, plus, slotOf, totalsOf, noTotals, totalsAt}
+use Rattle.flock_table.specs.Table.{none, plus, minus, slotOf, totalsOf, noTotals, totalsAt}
 use Rattle.bundle_edit.specs.Append.{appendPlan, appended, newRecord, entered as entering}
 use Rattle.bundle_edit.specs.Changes.{changed, changedFrom, rebuildChanges}
-use Rattle.bundle_capi.specs.Entries.{appendOf, AppendEntered, outcomeOf, RebuildEntered}
-use Rattle.bundle_capi.proofs.Updating.{slot-index, append-index, taken, left, changedFirst, first-length, first-next, first-all}
+use Rattle.bundle_edit.specs.Delivery.{oneUndelivered, markPlan, marked, sweepChanges, swept}
+use Rattle.bundle_capi.specs.Entries.{appendOf, AppendEntered, outcomeOf, RebuildEntered, markOf, MarkEntered, SweepEntered}
+use Rattle.bundle_capi.proofs.Updating.{slot-index, append-index, mark-index, taken, left, changedFirst, first-length, first-next, first-all}
 use Rattle.bundle_capi.proofs.update_all.Key.{name as #bundle_capi·update-all}
 use Rattle.bundle_capi.proofs.update_all as f
 use Rattle.bundle_capi.proofs.update_all.Statement as stated
