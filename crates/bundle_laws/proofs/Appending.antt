@@ -100,7 +100,7 @@ pub record Passed (records : ℕ) (b : List ℕ) (used f : ℕ) (m l : List ℕ)
   pub flock : isFlock f ≡ true
   pub entry : Made f m l
 
-passed : (records : ℕ) (b : List ℕ) (used f : ℕ) (m l : List ℕ) → appendReply records b used f m ≡ writes l → Passed records b used f m l
+pub passed : (records : ℕ) (b : List ℕ) (used f : ℕ) (m l : List ℕ) → appendReply records b used f m ≡ writes l → Passed records b used f m l
 unfolding appendReply bufferReply behindBundle
 passed records b used f m l e =
     let w = walk (take used b) in

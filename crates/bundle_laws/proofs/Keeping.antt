@@ -4,34 +4,38 @@ use mathlib.Core.Path.{_≡_, refl, sym, ap, subst, _∙_}
 use mathlib.Core.Bool.{Bool, true, false, not, cond}
 use mathlib.Core.List.{List, [], _∷_, _++_}
 use native.Mathlib.Omega.{arith}
-use borrow.Author.Tests.{eq-eqb, ne-eqb, lt-ltb, eqb-true}
+use borrow.Author.Tests.{eq-eqb, ne-eqb, le-leb, lt-ltb, ltb-true, eqb-true}
 use lib.Dec.{leb, ltb, eqb}
-use lib.ListN.{length, take, drop, getD, set, length-append}
-use lib.Seq.{getD-set-same}
+use lib.ListN.{length, take, drop, getD, set, length-append, length-set}
+use lib.Seq.{getD-set-same, getD-take, take-set-lt, take-at, length-take-le}
 use Rattle.octets.proofs.Kit.{no-true, either}
 use Rattle.sound.specs.Placed.{Each}
 use Rattle.output.specs.Splice.{splice}
 use Rattle.output.specs.Reply.{Reply, writes, refuses, writtenOf, lentAfterAt}
-use Rattle.output.proofs.Laws.{splice-length}
+use Rattle.output.proofs.Laws.{splice-length, splice-is}
 use Rattle.output.specs.declared.Written.{Written}
 use Rattle.output.specs.declared.Written.the-variants.{Done, Refused}
 use Rattle.bundle.specs.Bundle.{wordOf, flockOf, deliveredOf, isFlock, Entry, entriesOctets, Walk, walk}
 use Rattle.bundle.proofs.Walks.{few-entries}
-use Rattle.flock_table.specs.Table.{picked, isDelivered, messageOctets, recordOf, totals, tableOf, none, plus, slotOf, totalsOf, totalsAnswer}
+use Rattle.flock_table.specs.Table.{picked, isDelivered, isUndelivered, messageOctets, recordOf, totals, tableOf, none, plus, minus, slotOf, totalsOf, totalsAnswer}
 use Rattle.flock_table.specs.Tabulate.{tabulate}
 use Rattle.flock_table.specs.declared.Flock.{Flock}
 use Rattle.flock_table.proofs.Tabulated.{tabulate-at}
-use Rattle.flock_table.proofs.Counted.{flock-least, Short, both, table-length, table-at, totals-more, totals-plus, table-plus}
+use Rattle.flock_table.proofs.Counted.{flock-least, Short, both, picked-few, picked-each, table-length, table-at, totals-more, totals-plus, table-plus}
 use Rattle.bundle_edit.specs.Append.{appendReply, appendPlan, appended, planOf, newRecord, entered}
-use Rattle.bundle_edit.specs.Changes.{tableNumbers, recordAt, puts, changed, changedFrom, refusedChanges, changesBy, rebuildChanges}
+use Rattle.bundle_edit.specs.Changes.{tableNumbers, recordAt, puts, takesOff, changed, changedFrom, refusedChanges, changesBy, rebuildChanges}
+use Rattle.bundle_edit.specs.Delivery.{noneThere, entryNumber, entryPlace, idlePlan, markPlanOf, markedOf, markPlan, marked, oneUndelivered, lessened, keptOctets, sweepChanges, swept}
 use Rattle.bundle_edit.specs.declared.Plan.{Plan}
 use Rattle.bundle_edit.specs.declared.Changes.{Changes}
 use Rattle.bundle_edit.proofs.Counting.{numbers-at}
+use Rattle.bundle_edit.proofs.Sweeping.{Accepts, on-good}
 use Rattle.bundle_laws.specs.Reading.{InForm, IsBundle}
 use Rattle.bundle_laws.specs.Appending.{appendAnswer, Added}
-use Rattle.bundle_laws.specs.Keeping.{Night, entriesIn, IsTrue, Call, appends, planIn, after, afterAll, Keeping}
-use Rattle.bundle_laws.proofs.Reading.{front, back, is-bundle}
+use Rattle.bundle_laws.specs.Keeping.{Night, entriesIn, IsTrue, Call, appends, marks, sweeps, planIn, after, afterAll, Keeping}
+use Rattle.bundle_laws.proofs.Reading.{front, octets-of, back, is-bundle}
 use Rattle.bundle_laws.proofs.Appending.{appending}
+use Rattle.bundle_laws.proofs.Delivering.{mark-good, mark-octets, mark-within, mark-table, octets-parted, table-swept}
+use Rattle.bundle_laws.specs.Sweeping.{deliveredEntry}
 
 -- ---- all records at once
 
@@ -165,9 +169,158 @@ kept-by x f m (Refused k p) t e =
     let b = appending .refused (length (x .table)) (x .buffer) (x .used) f m k p e in
     rw b t
 
+-- ---- a mark and a sweep
+
+-- a true table is one of 127 records, and its bundle is accepted
+pub accepts : (x : Night) → IsTrue x → Accepts (length (x .table)) (x .buffer) (x .used) (length (entriesIn x))
+accepts x t =
+    record {
+      table = eq-eqb (length (x .table)) 127 (ap (λ (l : List Flock). length l) (t .table) ∙ table-length (entriesIn x));
+      within = le-leb (x .used) (length (x .buffer)) (t .within);
+      bundle = eq-eqb (walk (take (x .used) (x .buffer)) .stop) 0 (t .bundle);
+      counted = refl;
+    }
+
+-- what a mark leaves, by the entries alone
+abbrev pub markedBy : Night → ℕ → List Entry → Night
+markedBy x i es = record { buffer = markedOf (x .buffer) i es; used = markPlanOf (x .used) i es .used; table = lessened (markPlanOf (x .used) i es) (x .table) }
+
+pub after-mark-is : (x : Night) (i count : ℕ) → Accepts (length (x .table)) (x .buffer) (x .used) count → after (marks i) x ≡ markedBy x i (entriesIn x)
+unfolding markPlan marked
+after-mark-is x i count a =
+    let n = length (x .table) in
+    rw (
+      ← (on-good n (x .buffer) (x .used) count a (idlePlan (x .used)) (markPlanOf (x .used) i)),
+      ← (on-good n (x .buffer) (x .used) count a (λ _ _. x .buffer) (markedOf (x .buffer) i)),
+    )
+
+-- and a sweep
+abbrev pub sweptBy : Night → List Entry → Night
+sweptBy x es =
+    record {
+      buffer = splice (x .buffer) 0 (keptOctets es);
+      used = length (keptOctets es);
+      table = changedFrom (changesBy takesOff (length (keptOctets es)) (picked isDelivered es)) 0 (x .table);
+    }
+
+pub after-sweep-is : (x : Night) (count : ℕ) → Accepts (length (x .table)) (x .buffer) (x .used) count → after sweeps x ≡ sweptBy x (entriesIn x)
+unfolding sweepChanges swept
+after-sweep-is x count a =
+    let n = length (x .table) in
+    rw (
+      ← (on-good n (x .buffer) (x .used) count a (refusedChanges (x .used)) (λ es. changesBy takesOff (length (keptOctets es)) (picked isDelivered es))),
+      ← (on-good n (x .buffer) (x .used) count a (λ _ _. x .buffer) (λ es. splice (x .buffer) 0 (keptOctets es))),
+    )
+
+-- the octets of a true bundle
+pub octets-in : (x : Night) → IsTrue x → take (x .used) (x .buffer) ≡ entriesOctets (entriesIn x)
+octets-in x t = octets-of (take (x .used) (x .buffer)) (t .bundle)
+
+pub used-is : (x : Night) → IsTrue x → x .used ≡ length (entriesOctets (entriesIn x))
+used-is x t = sym (length-take-le (x .used) (x .buffer) (t .within)) ∙ ap (λ (l : List ℕ). length l) (octets-in x t)
+
+-- a mark of an undelivered entry
+module _ (x : Night) (t : IsTrue x) (i : ℕ) (l : i < length (entriesIn x)) (u : isDelivered (entryNumber (entriesIn x) i) ≡ false) where
+  goods-in : Each InForm (entriesIn x)
+  goods-in = front (take (x .used) (x .buffer)) .good
+
+  at : ℕ
+  at = entryPlace (entriesIn x) i
+
+  abbrev new : List Entry
+  new = set (entriesIn x) i (deliveredEntry (entryNumber (entriesIn x) i))
+
+  pub mark-is : after (marks i) x
+      ≡ record {
+        buffer = set (x .buffer) (entryPlace (entriesIn x) i) (getD (x .buffer) (entryPlace (entriesIn x) i) 0 + 1);
+        used = x .used;
+        table =
+            set (x .table) (flockOf (wordOf (entryNumber (entriesIn x) i .head)) - 1)
+            (minus (getD (x .table) (flockOf (wordOf (entryNumber (entriesIn x) i .head)) - 1) none) oneUndelivered);
+      }
+  mark-is = after-mark-is x i (length (entriesIn x)) (accepts x t) ∙ rw (lt-ltb i (length (entriesIn x)) l, u)
+
+  place-within : entryPlace (entriesIn x) i < x .used
+  place-within = omega (arith, used-is x t, mark-within (entriesIn x) i l noneThere goods-in u)
+
+  pub mark-front : take (x .used) (set (x .buffer) (entryPlace (entriesIn x) i) (getD (x .buffer) (entryPlace (entriesIn x) i) 0 + 1)) ≡ entriesOctets new
+  mark-front =
+      let p = entryPlace (entriesIn x) i in
+      take-set-lt (x .used) (x .buffer) p (getD (x .buffer) p 0 + 1) place-within
+      ∙ ap (λ (v : ℕ). set (take (x .used) (x .buffer)) p (v + 1)) (sym (getD-take (x .used) (x .buffer) p 0 place-within))
+      ∙ ap (λ (s : List ℕ). set s p (getD s p 0 + 1)) (octets-in x t) ∙ mark-octets (entriesIn x) i l noneThere goods-in u
+
+  pub mark-bundle : IsBundle (entriesOctets new) new
+  mark-bundle =
+      back new (mark-good (entriesIn x) i l noneThere goods-in u)
+      (omega (arith, length-set (entriesIn x) i (deliveredEntry (entryNumber (entriesIn x) i)), few-entries (take (x .used) (x .buffer))))
+
+  pub mark-kept : IsTrue (after (marks i) x)
+  mark-kept =
+      let p = entryPlace (entriesIn x) i in
+      let v = getD (x .buffer) p 0 + 1 in
+      rw mark-is (record {
+        within = rw (length-set (x .buffer) p v) (t .within);
+        bundle = ap (λ (s : List ℕ). walk s .stop) mark-front ∙ ap (λ (w : Walk). w .stop) mark-bundle;
+        table =
+            rw (t .table) (mark-table (entriesIn x) i l noneThere goods-in u (shorts (take (x .used) (x .buffer))) (few-entries (take (x .used) (x .buffer))))
+            ∙ sym (ap (λ (s : List ℕ). tableOf (walk s .entries)) mark-front ∙ ap (λ (w : Walk). tableOf (w .entries)) mark-bundle);
+      })
+
+-- a mark that changes nothing, of a delivered entry or of none
+pub mark-same : (x : Night) (i : ℕ) (es : List Entry) (a b : Bool) → ltb i (length es) ≡ a → isDelivered (entryNumber es i) ≡ b → cond a b true ≡ true → markedBy x i es ≡ x
+mark-same x i es true true ea eb h = rw (ea, eb)
+mark-same x i es true false ea eb h = absurd (no-true h)
+mark-same x i es false b ea eb h = rw ea
+
+kept-mark : (x : Night) (i : ℕ) → IsTrue x → (a b : Bool) → ltb i (length (entriesIn x)) ≡ a → isDelivered (entryNumber (entriesIn x) i) ≡ b → IsTrue (after (marks i) x)
+kept-mark x i t true false ea eb = mark-kept x t i (ltb-true i (length (entriesIn x)) ea) eb
+kept-mark x i t true true ea eb =
+    subst IsTrue (sym (after-mark-is x i (length (entriesIn x)) (accepts x t) ∙ mark-same x i (entriesIn x) true true ea eb refl)) t
+kept-mark x i t false b ea eb =
+    subst IsTrue (sym (after-mark-is x i (length (entriesIn x)) (accepts x t) ∙ mark-same x i (entriesIn x) false b ea eb refl)) t
+
+-- a sweep
+module _ (x : Night) (t : IsTrue x) where
+  abbrev stay : List Entry
+  stay = picked isUndelivered (entriesIn x)
+
+  pub sweep-fits : length (keptOctets (entriesIn x)) ≤ length (x .buffer)
+  sweep-fits = omega (arith, octets-parted (entriesIn x), used-is x t, t .within)
+
+  pub sweep-spliced : splice (x .buffer) 0 (keptOctets (entriesIn x)) ≡ keptOctets (entriesIn x) ++ drop (length (keptOctets (entriesIn x))) (x .buffer)
+  sweep-spliced =
+      let z : 0 + length (keptOctets (entriesIn x)) ≡ length (keptOctets (entriesIn x)) = omega arith in
+      splice-is (x .buffer) 0 (keptOctets (entriesIn x)) (omega (arith, sweep-fits)) ∙ rw z
+
+  pub sweep-front : take (length (keptOctets (entriesIn x))) (splice (x .buffer) 0 (keptOctets (entriesIn x))) ≡ keptOctets (entriesIn x)
+  sweep-front =
+      ap (take (length (keptOctets (entriesIn x)))) sweep-spliced
+      ∙ take-at (keptOctets (entriesIn x)) (drop (length (keptOctets (entriesIn x))) (x .buffer)) (length (keptOctets (entriesIn x))) refl
+
+  pub sweep-bundle : IsBundle (keptOctets (entriesIn x)) (picked isUndelivered (entriesIn x))
+  sweep-bundle =
+      back stay (picked-each InForm isUndelivered (entriesIn x) (front (take (x .used) (x .buffer)) .good))
+      (omega (arith, picked-few isUndelivered (entriesIn x), few-entries (take (x .used) (x .buffer))))
+
+  pub sweep-kept : IsTrue (after sweeps x)
+  sweep-kept =
+      rw (after-sweep-is x (length (entriesIn x)) (accepts x t)) (record {
+        within = rw (splice-length (x .buffer) 0 (keptOctets (entriesIn x))) sweep-fits;
+        bundle = ap (λ (s : List ℕ). walk s .stop) sweep-front ∙ ap (λ (w : Walk). w .stop) sweep-bundle;
+        table =
+            rw (t .table)
+            (table-swept (length (keptOctets (entriesIn x))) (entriesIn x) (shorts (take (x .used) (x .buffer))) (few-entries (take (x .used) (x .buffer))))
+            ∙ sym (ap (λ (s : List ℕ). tableOf (walk s .entries)) sweep-front ∙ ap (λ (w : Walk). tableOf (w .entries)) sweep-bundle);
+      })
+
+-- ---- every call
+
 kept-one : (c : Call) (x : Night) → IsTrue x → IsTrue (after c x)
 unfolding appendPlan
 kept-one (appends f m) x t = kept-by x f m (appendAnswer (length (x .table)) (x .buffer) (x .used) f m) t refl
+kept-one (marks i) x t = kept-mark x i t (ltb i (length (entriesIn x))) (isDelivered (entryNumber (entriesIn x) i)) refl refl
+kept-one sweeps x t = sweep-kept x t
 
 kept : (cs : List Call) (x : Night) → IsTrue x → IsTrue (afterAll cs x)
 unfolding afterAll

@@ -1,4 +1,4 @@
--- The table kept beside a bundle (02, item 6): "A flock's answer reads its one record and equals the whole bundle's, given a table built from the bundle and kept by
+-- The table kept beside a bundle (02, items 6 and 11): "A flock's answer reads its one record and equals the whole bundle's, given a table built from the bundle and kept by
 -- these calls"; from an empty bundle or from a rebuild, through every sequence of calls, refused ones among them.
 use Prim.Native.Nat.{ℕ, _+_, _-_, _≤_}
 use mathlib.Core.Path.{_≡_}
@@ -11,6 +11,7 @@ use Rattle.flock_table.specs.Table.{totals, tableOf, none, totalsOf, totalsAnsw
 use Rattle.flock_table.specs.declared.Flock.{Flock}
 use Rattle.bundle_edit.specs.Append.{appendPlan, appended, entered}
 use Rattle.bundle_edit.specs.Changes.{changedFrom, rebuildChanges}
+use Rattle.bundle_edit.specs.Delivery.{markPlan, marked, lessened, sweepChanges, swept}
 use Rattle.bundle_edit.specs.declared.Plan.{Plan}
 
 -- a buffer, how many of its octets are the bundle, and the table beside it
@@ -34,6 +35,9 @@ pub record IsTrue (x : Night) : Type 0 where
 pub data Call : Type 0 where
   -- of a flock and a message
   appends : ℕ → List ℕ → Call
+  -- by entry number (02, item 11)
+  marks : ℕ → Call
+  sweeps : Call
 
 -- the plan of an append
 abbrev pub planIn : Night → ℕ → List ℕ → Plan
@@ -43,6 +47,12 @@ planIn x f m = appendPlan (length (x .table)) (x .buffer) (x .used) f m
 abbrev pub after : Call → Night → Night
 after (appends f m) x =
     record { buffer = appended (length (x .table)) (x .buffer) (x .used) f m; used = planIn x f m .used; table = entered (planIn x f m) (x .table) }
+after (marks i) x =
+    let p = markPlan (length (x .table)) (x .buffer) (x .used) i in
+    record { buffer = marked (length (x .table)) (x .buffer) (x .used) i; used = p .used; table = lessened p (x .table) }
+after sweeps x =
+    let c = sweepChanges (length (x .table)) (x .buffer) (x .used) in
+    record { buffer = swept (length (x .table)) (x .buffer) (x .used); used = c .used; table = changedFrom c 0 (x .table) }
 
 -- one call behind the other
 unfoldable pub afterAll : List Call → Night → Night
