@@ -2,7 +2,8 @@
 //!
 //! Build: rustc -O -L native=target/staticlib -o target/compare/probe compare/probe.rs      (compare/build does it)
 //! Run:   target/compare/probe < commands > answers       (--each: each answer is written out before the next command is read;
-//!                                                         --trips: turnings are read back instead, see `trip`)
+//!                                                         --trips: turnings are read back instead, see `trip`;
+//!                                                         --nights CALLS: calls on one buffer and table, see `table::nights`)
 //!
 //! What it answers is built from the numbers the library left and from the input, and from nothing else. Beside the protocol's answers:
 //!
@@ -818,8 +819,11 @@ fn main() {
     if arguments == ["--trips"] {
         std::process::exit(if trips().unwrap_or(false) { 0 } else { 1 });
     }
+    if let ["--nights", calls] = arguments.iter().map(String::as_str).collect::<Vec<_>>()[..] {
+        std::process::exit(if table::nights(calls.parse().unwrap_or(0)) { 0 } else { 1 });
+    }
     if !each && !arguments.is_empty() {
-        eprintln!("usage: probe [--each | --trips] < commands > answers");
+        eprintln!("usage: probe [--each | --trips] < commands > answers; probe --nights CALLS");
         std::process::exit(2);
     }
     if serve(each).is_err() {

@@ -108,7 +108,7 @@ uint32_t ospirnar_response_field(const uint8_t *input, size_t input_len, uint32_
 uint32_t ospirnar_binary_field(const uint8_t *input, size_t input_len, uint32_t head, const uint8_t *name, size_t name_len, uint32_t *number, size_t *place,
                                size_t *start, size_t *length);
 
-/* Bundles (document 02, items 1, 6 and 12): entries one behind the other, at most 256, each a head of four octets and a Binary message as ospirnar_binary_to_binary writes it. The
+/* Bundles (document 02, items 1, 6, 11 and 12): entries one behind the other, at most 256, each a head of four octets and a Binary message as ospirnar_binary_to_binary writes it. The
  * head is a number of 32 bits, most significant octet first: 7 bits flock (1 to 127), 1 bit delivered, 2 bits kind (0 request, 1 response), 22 bits length of the
  * message. These calls answer by value. A call of them keeps 65,535 octets and some KB beside on the stack. */
 
@@ -185,6 +185,16 @@ struct ospirnar_totals_answer ospirnar_totals(const struct ospirnar_flock *table
 /* The table of the bundle that the input is: all 127 records are written, whatever they held; `used` is the input's length. Refusals: 16 at 0 for a table that has not 127 records; the bundle's own. A refusal alters no
  * record. */
 struct ospirnar_table_answer ospirnar_rebuild(struct ospirnar_flock *table, size_t records, const uint8_t *input, size_t input_len);
+
+/* The entry of this number, counted from 0, of the bundle that the first `used` octets of the buffer are, is delivered from now on: one bit of its head is set, and its flock's record has one
+ * undelivered entry less. An entry that is delivered already is accepted, and nothing changes. Refusals: 16 at 0 for a table that has not 127 records; 13 at 0 for a used length past the buffer; the
+ * bundle's own; 18 at 0 for an entry number that is not there. A refusal alters neither buffer nor table. */
+struct ospirnar_table_answer ospirnar_mark(struct ospirnar_flock *table, size_t records, uint8_t *buffer, size_t buffer_len, size_t used, size_t entry);
+
+/* The delivered entries are swept out of the bundle that the first `used` octets of the buffer are: the others move forward, in order and with all their octets, and `used` is their end; every octet
+ * from there on stays as it was before the call. What is taken off the table is the entries and octets of message of those that went, flock by flock. Refusals: 16 at 0 for a table that has not 127 records; 13 at 0
+ * for a used length past the buffer; the bundle's own. A refusal alters neither buffer nor table. */
+struct ospirnar_table_answer ospirnar_sweep(struct ospirnar_flock *table, size_t records, uint8_t *buffer, size_t buffer_len, size_t used);
 
 /* The entries of one flock, heads and messages, delivered ones too, copied in order: itself a bundle. Refusals: the bundle's own; 15 at 0 for a flock outside 1 to 127; 13 at 0 where it does
  * not fit. A refusal alters nothing. */

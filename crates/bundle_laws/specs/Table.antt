@@ -1,9 +1,9 @@
--- A small table of bundles (02, items 1, 6 and 12), by computation: "For Figure 13, flock 5, not delivered, the head is `0a 40 00 30`", what each refusal looks
--- like, what is kept of a cut transfer, and what a table counts.
+-- A small table of bundles (02, items 1, 6, 11 and 12), by computation: "For Figure 13, flock 5, not delivered, the head is `0a 40 00 30`", what each refusal looks
+-- like, what is kept of a cut transfer, what a table counts, and what a mark and a sweep leave.
 use Prim.Native.Nat.{ℕ}
 use mathlib.Core.Path.{_≡_}
 use mathlib.Core.List.{List, [], _∷_, _++_}
-use lib.ListN.{length, replicate}
+use lib.ListN.{length, drop, replicate}
 use Rattle.octets.specs.Ascii.{ascii}
 use Rattle.octets.specs.Limits.{flocksMost}
 use Rattle.numbers.specs.Places.{push}
@@ -14,6 +14,7 @@ use Rattle.bundle.specs.Salvage.{salvageOf}
 use Rattle.flock_table.specs.Table.{picked, messageOctets, totals, none, sum, plus, slotOf, totalsAnswer}
 use Rattle.bundle_edit.specs.Append.{behindBundle, bufferReply, appendReply, newRecord}
 use Rattle.bundle_edit.specs.Changes.{rebuildChanges}
+use Rattle.bundle_edit.specs.Delivery.{markPlan, marked, sweepChanges, swept}
 use Rattle.salvaging.specs.Line.{salvageLine}
 
 -- ---- what a row says
@@ -41,6 +42,10 @@ pub data Row : Type 0 where
   asks : ℕ → ℕ → ℕ → Row
   -- a rebuild beside so many records from these octets: number and place
   rebuilds : ℕ → List ℕ → ℕ → ℕ → Row
+  -- a mark beside so many records, in a buffer and its used length, of an entry: number and place, and the buffer afterwards
+  marks : ℕ → List ℕ → ℕ → ℕ → ℕ → ℕ → List ℕ → Row
+  -- a sweep beside so many records, in a buffer and its used length: number, place, used length, and the buffer afterwards
+  sweeps : ℕ → List ℕ → ℕ → ℕ → ℕ → ℕ → List ℕ → Row
 
 -- it holds
 abbrev pub Holds : Row → Type 0
@@ -55,6 +60,9 @@ Holds (besides n b used f m y) = appendReply n b used f m ≡ y
 Holds (enters e b u n e′ b′ u′) = plus (record { entries = e; bytes = b; undelivered = u }) (newRecord n) ≡ record { entries = e′; bytes = b′; undelivered = u′ }
 Holds (asks n f k) = totalsAnswer (replicate n none) f .number ≡ k
 Holds (rebuilds n s k p) = (rebuildChanges n s .number ≡ k) × (rebuildChanges n s .place ≡ p)
+Holds (marks n b used i k p l) = (markPlan n b used i .number ≡ k) × (markPlan n b used i .place ≡ p) × (marked n b used i ≡ l)
+Holds (sweeps n b used k p e l) =
+    (sweepChanges n b used .number ≡ k) × (sweepChanges n b used .place ≡ p) × (sweepChanges n b used .used ≡ e) × (swept n b used ≡ l)
 
 -- all rows hold
 abbrev pub All : List Row → Type 0
@@ -132,9 +140,20 @@ table =
     ∷ rebuilds 126 (hex "0a") 16 0
     ∷ rebuilds 127 (entry13 ++ hex "0a") 9 52
     ∷ rebuilds 127 entry13 0 0
+    -- a mark: one octet; again: accepted, nothing changes; 18 for the entry behind the last; 16 and 13 before it
+    ∷ marks 127 (entryP5 ++ entry13) 78 1 0 0 (entryP5 ++ delivered13)
+    ∷ marks 127 delivered13 52 0 0 0 delivered13
+    ∷ marks 127 entry13 52 1 18 0 entry13
+    ∷ marks 126 entry13 53 1 16 0 entry13
+    ∷ marks 127 entry13 53 1 13 0 entry13
+    -- a sweep: what is kept moves forward; behind the new end the old octets stay
+    ∷ sweeps 127 (delivered13 ++ entryP5 ++ hex "ee") 78 0 0 26 (entryP5 ++ drop 26 delivered13 ++ entryP5 ++ hex "ee")
+    ∷ sweeps 127 entry13 52 0 0 52 entry13
+    ∷ sweeps 127 delivered13 52 0 0 0 delivered13
+    ∷ sweeps 127 entry13 51 9 0 51 entry13
     ∷ []
 
 -- opens the definitions of bundles, so that the rows are proved by computation
 unfoldable pub opened : Unit {0}
-unfolding push wordOf headOctets entriesOctets messageVerdict headed nextAt walkFrom walk ofFlock flockList behindBundle bufferReply appendReply salvageOf salvageLine picked messageOctets plus sum slotOf rebuildChanges
+unfolding push wordOf headOctets entriesOctets messageVerdict headed nextAt walkFrom walk ofFlock flockList behindBundle bufferReply appendReply salvageOf salvageLine picked messageOctets plus sum slotOf rebuildChanges markPlan marked sweepChanges swept
 opened = tt
