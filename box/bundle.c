@@ -1,5 +1,6 @@
 /* The C example of bundles: takes HTTP/1.1 requests off standard input under http, turns each into Binary HTTP and gathers them in one bundle, each as an entry of the
- * flock that its field `flock` names; then reads the bundle and gives each flock its list, as the service would hand it on; then keeps what is whole of a transfer that
+ * flock that its field `flock` names; then reads the bundle and gives each flock its list, as the service would hand it on, and its totals, read off the table that
+ * the appends kept; then keeps what is whole of a transfer that
  * stopped one octet before the bundle's end.
  *
  *     target/box/bundle < file of requests
@@ -17,6 +18,7 @@ enum { STREAM_MOST = 1 << 20, BINARY_MOST = 65536, BUNDLE_MOST = 1 << 20, FLOCKS
 
 static uint8_t input[STREAM_MOST], binary[BINARY_MOST], bundle[BUNDLE_MOST], list[BUNDLE_MOST];
 static uint32_t entries[NUMBERS];
+static struct ospirnar_flock table[OSPIRNAR_FLOCKS];
 
 static int stop(const char *what, uint32_t number, size_t place)
 {
@@ -45,7 +47,7 @@ static bool gather(size_t len, size_t *used)
         uint32_t number = ospirnar_request_to_binary(input + at, len - at, 0, binary, sizeof binary, &place, &taken);
         if (number != 0)
             return stop("refused", number, at + place), false;
-        struct ospirnar_append_answer answer = ospirnar_append(bundle, sizeof bundle, *used, flock_of(input + at, len - at), binary, place);
+        struct ospirnar_append_answer answer = ospirnar_append(table, OSPIRNAR_FLOCKS, bundle, sizeof bundle, *used, flock_of(input + at, len - at), binary, place);
         if (answer.number != 0)
             return stop("not appended", answer.number, answer.place), false;
         *used = answer.used;
@@ -73,10 +75,12 @@ int main(void)
     for (uint32_t flock = 1; flock <= FLOCKS; flock++) {
         struct ospirnar_list_answer answer = ospirnar_flock_list(bundle, used, flock, list, sizeof list);
         struct ospirnar_bundle_answer own = ospirnar_read_bundle(list, answer.len, entries, NUMBERS);
-        if (answer.number != 0 || own.number != 0)
+        struct ospirnar_totals_answer totals = ospirnar_totals(table, OSPIRNAR_FLOCKS, flock);
+        if (answer.number != 0 || own.number != 0 || totals.number != 0 || totals.entries != own.count || totals.bytes + 4 * own.count != answer.len)
             return 2;
         if (own.count != 0)
-            printf("flock %u: %zu entries, %zu octets\n", (unsigned)flock, own.count, answer.len);
+            printf("flock %u: %zu entries, %zu octets; totals: %u, %u octets of message, %u undelivered\n", (unsigned)flock, own.count, answer.len, (unsigned)totals.entries,
+                   (unsigned)totals.bytes, (unsigned)totals.undelivered);
     }
     size_t came = used == 0 ? 0 : used - 1;
     struct ospirnar_salvage_answer kept = ospirnar_salvage(bundle, came, list, sizeof list);

@@ -2,7 +2,8 @@
 //!
 //! Build: rustc -O -L native=target/staticlib -o target/compare/probe compare/probe.rs      (compare/build does it)
 //! Run:   target/compare/probe < commands > answers       (--each: each answer is written out before the next command is read;
-//!                                                         --trips: turnings are read back instead, see `trip`)
+//!                                                         --trips: turnings are read back instead, see `trip`;
+//!                                                         --nights CALLS: calls on one buffer and table, see `table::nights`)
 //!
 //! What it answers is built from the numbers the library left and from the input, and from nothing else. Beside the protocol's answers:
 //!
@@ -13,6 +14,8 @@
 
 #[path = "probe/bundle.rs"]
 mod bundle;
+#[path = "probe/table.rs"]
+mod table;
 
 use std::io::{self, BufRead, BufReader, BufWriter, Write};
 
@@ -698,6 +701,9 @@ fn options<'a, 'b>(words: &'b [&'a [u8]]) -> Option<(&'a [u8], Told, &'b [&'a [u
     let mut told = Told::default();
     for option in given {
         let at = option.iter().position(|&b| b == b'=')?;
+        if &option[..at] == b"table" && table::takes_table(name) {
+            continue; // it is no number: table.rs reads it
+        }
         let value = number(&option[at + 1..], u64::MAX).filter(|&n| n <= u32::MAX as u64)? as u32;
         match (&option[..at], name) {
             (b"head", b"h1resp" | b"bin" | b"h1resp2bin" | b"bin2h1" | b"bin2bin" | b"field_h1resp" | b"field_bin") => told.head = value,
@@ -777,7 +783,8 @@ fn command(line: &[u8]) -> Option<Result<String, &'static str>> {
             let (name, default, input) = (octets(name)?, octets(default)?, octets(input)?);
             binary_field(&input, told, &name).and_then(|asked| field(input.len(), default.len(), asked))
         }
-        (name, words) => return bundle::command(name, words),
+        (name, rest) if table::takes_table(name) => return table::command(name, &words[1..words.len() - rest.len()], rest),
+        (name, rest) => return bundle::command(name, rest),
     })
 }
 
@@ -821,8 +828,11 @@ fn main() {
     if arguments == ["--trips"] {
         std::process::exit(if trips().unwrap_or(false) { 0 } else { 1 });
     }
+    if let ["--nights", calls] = arguments.iter().map(String::as_str).collect::<Vec<_>>()[..] {
+        std::process::exit(if table::nights(calls.parse().unwrap_or(0)) { 0 } else { 1 });
+    }
     if !each && !arguments.is_empty() {
-        eprintln!("usage: probe [--each | --trips] < commands > answers");
+        eprintln!("usage: probe [--each | --trips] < commands > answers; probe --nights CALLS");
         std::process::exit(2);
     }
     if serve(each).is_err() {

@@ -110,7 +110,7 @@ uint32_t ospirnar_response_field(const uint8_t *input, size_t input_len, uint32_
 uint32_t ospirnar_binary_field(const uint8_t *input, size_t input_len, uint32_t head, uint32_t edition, const uint8_t *name, size_t name_len, uint32_t *number,
                                size_t *place, size_t *start, size_t *length);
 
-/* Bundles (document 02, items 1 and 12): entries one behind the other, at most 256, each a head of four octets and a Binary message as ospirnar_binary_to_binary writes it. The
+/* Bundles (document 02, items 1, 6, 11 and 12): entries one behind the other, at most 256, each a head of four octets and a Binary message as ospirnar_binary_to_binary writes it. The
  * head is a number of 32 bits, most significant octet first: 7 bits flock (1 to 127), 1 bit delivered, 2 bits kind (0 request, 1 response), 22 bits length of the
  * message. These calls answer by value. A call of them keeps 65,535 octets and some KB beside on the stack. */
 
@@ -135,6 +135,26 @@ struct ospirnar_append_answer {
     size_t place, used, long_forms;
 };
 
+/* The record of one flock in a table: its entries, the octets of their messages (heads not counted), and how many of them are undelivered. A table is OSPIRNAR_FLOCKS records, the first that of flock 1. Of an
+ * empty bundle all are zero; ospirnar_rebuild makes that of any bundle. A call that is lent a table keeps it true if it was; on another table each of the three numbers wraps at 32 bits by itself. */
+#define OSPIRNAR_FLOCKS 127
+struct ospirnar_flock {
+    uint32_t entries, bytes, undelivered;
+};
+
+/* number 0: `place` is 0, and the flock's record. Otherwise a refusal: `place` is 0 and all else is 0. */
+struct ospirnar_totals_answer {
+    uint32_t number;
+    size_t place;
+    uint32_t entries, bytes, undelivered;
+};
+
+/* number 0: `place` is 0, `used` the length of the bundle afterwards. Otherwise a refusal: `place` is where it arose, `used` is as it was told. */
+struct ospirnar_table_answer {
+    uint32_t number;
+    size_t place, used;
+};
+
 /* number 0: `place` is 0, `len` the number of octets written. Otherwise a refusal: `place` is where it arose, `len` is 0. */
 struct ospirnar_list_answer {
     uint32_t number;
@@ -154,10 +174,29 @@ struct ospirnar_salvage_answer {
  * not as we write it. Then 13 at 0 where the numbers do not fit (OSPIRNAR_ENTRIES_MOST * OSPIRNAR_ENTRY_NUMBERS are always enough). A refusal alters nothing. */
 struct ospirnar_bundle_answer ospirnar_read_bundle(const uint8_t *input, size_t input_len, uint32_t *entries, size_t entries_len);
 
-/* A Binary message behind the bundle that the first `used` octets of the buffer are, as an undelivered entry of the flock: written anew, straight into the room behind its head. Refusals: 13
- * at 0 for a used length past the buffer; the bundle's own; 8 at 0 for a 257th entry; 15 at 0 for a flock outside 1 to 127; the message's own at its own place; 8 at 0 where it would be
- * above 65,535 octets; 13 at 0 where there is no room. A refusal alters no octet of the buffer; an acceptance none before `used` and none behind the new used length. */
-struct ospirnar_append_answer ospirnar_append(uint8_t *buffer, size_t buffer_len, size_t used, uint32_t flock, const uint8_t *message, size_t message_len);
+/* A Binary message behind the bundle that the first `used` octets of the buffer are, as an undelivered entry of the flock: written anew, straight into the room behind its head; and one entry
+ * more in the flock's record. Refusals: 16 at 0 for a table that has not 127 records, too many as too few; 13 at 0 for a used length past the buffer; the bundle's own; 8 at 0 for a 257th entry; 15 at
+ * 0 for a flock outside 1 to 127; the message's own at its own place; 8 at 0 where it would be above 65,535 octets; 13 at 0 where there is no room. A refusal alters neither buffer nor table; an
+ * acceptance no octet before `used` and none behind the new used length, and no other record. */
+struct ospirnar_append_answer ospirnar_append(struct ospirnar_flock *table, size_t records, uint8_t *buffer, size_t buffer_len, size_t used, uint32_t flock,
+                                              const uint8_t *message, size_t message_len);
+
+/* One flock's totals, read off its one record. Refusals: 16 at 0 for a table that has not 127 records; 15 at 0 for a flock outside 1 to 127. */
+struct ospirnar_totals_answer ospirnar_totals(const struct ospirnar_flock *table, size_t records, uint32_t flock);
+
+/* The table of the bundle that the input is: all 127 records are written, whatever they held; `used` is the input's length. Refusals: 16 at 0 for a table that has not 127 records; the bundle's own. A refusal alters no
+ * record. */
+struct ospirnar_table_answer ospirnar_rebuild(struct ospirnar_flock *table, size_t records, const uint8_t *input, size_t input_len);
+
+/* The entry of this number, counted from 0, of the bundle that the first `used` octets of the buffer are, is delivered from now on: one bit of its head is set, and its flock's record has one
+ * undelivered entry less. An entry that is delivered already is accepted, and nothing changes. Refusals: 16 at 0 for a table that has not 127 records; 13 at 0 for a used length past the buffer; the
+ * bundle's own; 18 at 0 for an entry number that is not there. A refusal alters neither buffer nor table. */
+struct ospirnar_table_answer ospirnar_mark(struct ospirnar_flock *table, size_t records, uint8_t *buffer, size_t buffer_len, size_t used, size_t entry);
+
+/* The delivered entries are swept out of the bundle that the first `used` octets of the buffer are: the others move forward, in order and with all their octets, and `used` is their end; every octet
+ * from there on stays as it was before the call. What is taken off the table is the entries and octets of message of those that went, flock by flock. Refusals: 16 at 0 for a table that has not 127 records; 13 at 0
+ * for a used length past the buffer; the bundle's own. A refusal alters neither buffer nor table. */
+struct ospirnar_table_answer ospirnar_sweep(struct ospirnar_flock *table, size_t records, uint8_t *buffer, size_t buffer_len, size_t used);
 
 /* The entries of one flock, heads and messages, delivered ones too, copied in order: itself a bundle. Refusals: the bundle's own; 15 at 0 for a flock outside 1 to 127; 13 at 0 where it does
  * not fit. A refusal alters nothing. */

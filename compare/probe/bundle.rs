@@ -1,6 +1,6 @@
-//! The commands of bundles (document 02, items 1 and 12), over libbundle_capi.a.
+//! The commands that read bundles (document 02, items 1 and 12), over libbundle_capi.a. Those that change one are in table.rs.
 //!
-//!   bundle HEX    append FLOCK USED BUFFER MESSAGE    flock_list FLOCK ROOM HEX    salvage ROOM HEX    salvage_text HEX
+//!   bundle HEX    flock_list FLOCK ROOM HEX    salvage ROOM HEX    salvage_text HEX
 
 use super::{hex, judge_room, list, number, octets, output, ranges, refused, room, write, write_hex, write_text, Answer, Lent};
 
@@ -11,13 +11,6 @@ mod entries {
         pub number: u32,
         pub place: usize,
         pub count: usize,
-    }
-    #[repr(C)]
-    pub struct AppendAnswer {
-        pub number: u32,
-        pub place: usize,
-        pub used: usize,
-        pub long: usize,
     }
     #[repr(C)]
     pub struct ListAnswer {
@@ -37,7 +30,6 @@ mod entries {
     #[link(name = "bundle_capi", kind = "static")]
     extern "C" {
         pub fn ospirnar_read_bundle(input: *const u8, input_len: usize, entries: *mut u32, entries_len: usize) -> BundleAnswer;
-        pub fn ospirnar_append(buffer: *mut u8, buffer_len: usize, used: usize, flock: u32, message: *const u8, message_len: usize) -> AppendAnswer;
         pub fn ospirnar_flock_list(input: *const u8, input_len: usize, flock: u32, output: *mut u8, output_len: usize) -> ListAnswer;
         pub fn ospirnar_salvage(input: *const u8, input_len: usize, output: *mut u8, output_len: usize) -> SalvageAnswer;
         pub fn ospirnar_salvage_line(input: *const u8, input_len: usize, output: *mut u8, output_len: usize) -> ListAnswer;
@@ -83,51 +75,6 @@ pub fn bundle(input: &[u8]) -> Result<String, &'static str> {
         out.push_str(&format!("[{},{},{},{},{}]", head >> 25, head >> 24 & 1, head >> 22 & 3, entry[1], entry[2]));
     });
     out.push_str(",\"n\":0}");
-    Ok(out)
-}
-
-/// An append to a buffer, with a strip behind it that is not lent: the answer, the used length and the buffer afterwards. A refusal alters nothing and leaves the used length;
-/// an acceptance alters nothing before the used length and behind the new one.
-fn append_to(buffer: &[u8], used: usize, flock: u32, message: &[u8]) -> Result<(Answer, usize, Vec<u8>), &'static str> {
-    let mut space = buffer.to_vec();
-    space.extend([0xAA; 32]);
-    let before = space.clone();
-    let answer = unsafe { entries::ospirnar_append(space.as_mut_ptr(), buffer.len(), used, flock, message.as_ptr(), message.len()) };
-    if answer.long != 0 {
-        return Err("range");
-    }
-    if answer.number != 0 {
-        return match (answer.used == used, space == before) {
-            (false, _) => Err("range"),
-            (_, false) => Err("altered"),
-            _ => Ok((Answer { number: answer.number, place: answer.place }, used, buffer.to_vec())),
-        };
-    }
-    if answer.place != 0 || answer.used < used || answer.used > buffer.len() {
-        return Err("range");
-    }
-    if space[..used] != before[..used] || space[answer.used..] != before[answer.used..] {
-        return Err("altered");
-    }
-    space.truncate(buffer.len());
-    Ok((Answer { number: 0, place: 0 }, answer.used, space))
-}
-
-pub fn append(flock: u32, used: usize, buffer: &[u8], message: &[u8]) -> Result<String, &'static str> {
-    let (answer, end, after) = append_to(buffer, used, flock, message)?;
-    if answer.number != 0 {
-        return Ok(refused(answer));
-    }
-    // exactly enough room does the same, one octet less is 13 at 0
-    if append_to(&buffer[..end], used, flock, message)? != (answer, end, after[..end].to_vec()) {
-        return Err("room");
-    }
-    if append_to(&buffer[..end - 1], used, flock, message)?.0 != (Answer { number: 13, place: 0 }) {
-        return Err("room");
-    }
-    let mut out = String::from("{\"n\":0,\"out\":");
-    hex(&mut out, after[..end].iter().copied());
-    out.push_str(&format!(",\"used\":{end}}}"));
     Ok(out)
 }
 
@@ -184,10 +131,6 @@ pub fn salvage(space: usize, input: &[u8]) -> Result<String, &'static str> {
 pub fn command(name: &[u8], words: &[&[u8]]) -> Option<Result<String, &'static str>> {
     Some(match (name, words) {
         (b"bundle", [input]) => bundle(&octets(input)?),
-        (b"append", [flock, used, buffer, message]) => {
-            let (flock, used) = (number(flock, u32::MAX as u64)? as u32, number(used, u32::MAX as u64)? as usize);
-            append(flock, used, &octets(buffer)?, &octets(message)?)
-        }
         (b"flock_list", [flock, space, input]) => {
             let (flock, space, input) = (number(flock, u32::MAX as u64)? as u32, room(space)?, octets(input)?);
             write_hex(space, |out| flock_list(&input, flock, out))

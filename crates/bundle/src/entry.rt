@@ -41,7 +41,7 @@ fn wide(b: u8) -> u32
 }
 
 // The head at a place, as a number.
-pub(crate) fn word_at(s: &[u8], at: usize) -> u32
+pub fn word_at(s: &[u8], at: usize) -> u32
     requires { ⌜ at + 4 ≤ length (now s) ⌝ }
     ensures { λ r. ⌜ r ≡ wordOf (drop at (now (s .entry))) ⌝ }
 {

@@ -3,13 +3,15 @@ pub mod entry; // entry.rt: one entry: its head, its message
 pub mod list; // list.rt: the list of one flock
 pub mod reader; // reader.rt: the walk over a bundle
 
-// The parts of a head, a number of 32 bits: one flock, one kind; lengths are below one kind.
+// The parts of a head, a number of 32 bits: one flock, one kind, the mark of delivery; lengths are below one kind.
 pub struct Head;
 
 impl Head {
     pub const FLOCK: u32 = 33554432;
 
     pub const KIND: u32 = 4194304;
+
+    pub const DELIVERED: u32 = 16777216;
 }
 
 // What stands at a place of a bundle: an entry by its head, or where the walk stops and why; 0 is the end of the octets.

@@ -1,5 +1,5 @@
--- What the C entries on bundles answer, by value, and what they leave in what they are lent (02, item 1), in terms of `walk`, `appendPlan` and `flockList`;
--- salvage answers as `salvaging/Answers` says.
+-- What the C entries on bundles answer, by value, and what they leave in what they are lent (02, items 1, 6 and 11), in terms of `walk`, `flockList`, `appendPlan`,
+-- `rebuildChanges`, `markPlan` and `sweepChanges`; a flock's answer is `totalsAnswer` (flock_table/Table), salvage answers as `salvaging/Answers` says.
 use Prim.Native.Nat.{ℕ, _*_}
 use mathlib.Core.Path.{_≡_}
 use mathlib.Core.Bool.{Bool, true, false, cond}
@@ -13,11 +13,16 @@ use Rattle.output.specs.declared.Written.{Written}
 use Rattle.output.specs.declared.Written.the-variants.{Done, Refused}
 use Rattle.bundle.specs.Bundle.{Walk}
 use Rattle.bundle.specs.Answers.{numbersFrom}
-use Rattle.bundle_edit.specs.Append.{appendPlan, appended}
+use Rattle.flock_table.specs.declared.Flock.{Flock}
+use Rattle.bundle_edit.specs.Append.{appended, entered}
+use Rattle.bundle_edit.specs.Changes.{changedFrom}
+use Rattle.bundle_edit.specs.Delivery.{marked, lessened, swept}
 use Rattle.bundle_edit.specs.declared.Plan.{Plan}
+use Rattle.bundle_edit.specs.declared.Changes.{Changes}
 use Rattle.bundle_capi.specs.declared.BundleAnswer.{BundleAnswer}
 use Rattle.bundle_capi.specs.declared.AppendAnswer.{AppendAnswer}
 use Rattle.bundle_capi.specs.declared.ListAnswer.{ListAnswer}
+use Rattle.bundle_capi.specs.declared.TableAnswer.{TableAnswer}
 
 -- ---- the reader
 
@@ -41,15 +46,35 @@ pub record BundleEntered (w : Walk) (o o′ : List ℕ) (r : BundleAnswer) : Typ
   pub answer : r ≡ bundleAnswer w (length o)
   pub after : o′ ≡ bundleAfter w o
 
--- ---- the appender
+-- ---- calls beside a table of flock records (02, items 6 and 11)
 
--- of its plan what C sees
+-- of an append's plan what C sees
 abbrev pub appendOf : Plan → AppendAnswer
 appendOf p = record { number = p .number; place = p .place; used = p .used; long = p .long }
 
--- the promise of the entry that was lent the buffer b
-abbrev pub AppendEntered : List ℕ → ℕ → ℕ → List ℕ → List ℕ → AppendAnswer → Type 0
-AppendEntered b used f m b′ r = (r ≡ appendOf (appendPlan b used f m)) × (b′ ≡ appended b used f m)
+-- the promise of an append by this plan, that was lent the table t and the buffer b
+abbrev pub AppendEntered : Plan → List Flock → List Flock → List ℕ → List ℕ → ℕ → ℕ → List ℕ → AppendAnswer → Type 0
+AppendEntered p t t′ b b′ used f m r = (r ≡ appendOf p) × ((t′ ≡ entered p t) × (b′ ≡ appended (length t) b used f m))
+
+-- of a change of all records what C sees
+abbrev pub outcomeOf : Changes → TableAnswer
+outcomeOf c = record { number = c .number; place = c .place; used = c .used }
+
+-- the promise of a rebuild by these changes, that was lent the table t
+abbrev pub RebuildEntered : Changes → List Flock → List Flock → TableAnswer → Type 0
+RebuildEntered c t t′ r = (r ≡ outcomeOf c) × (t′ ≡ changedFrom c 0 t)
+
+-- of a mark's plan what C sees (02, item 11)
+abbrev pub markOf : Plan → TableAnswer
+markOf p = record { number = p .number; place = p .place; used = p .used }
+
+-- the promise of a mark by this plan, that was lent the table t and the buffer b
+abbrev pub MarkEntered : Plan → List Flock → List Flock → List ℕ → List ℕ → ℕ → ℕ → TableAnswer → Type 0
+MarkEntered p t t′ b b′ used i r = (r ≡ markOf p) × ((t′ ≡ lessened p t) × (b′ ≡ marked (length t) b used i))
+
+-- the promise of a sweep by these changes, that was lent the table t and the buffer b
+abbrev pub SweepEntered : Changes → List Flock → List Flock → List ℕ → List ℕ → ℕ → TableAnswer → Type 0
+SweepEntered c t t′ b b′ used r = (r ≡ outcomeOf c) × ((t′ ≡ changedFrom c 0 t) × (b′ ≡ swept (length t) b used))
 
 -- ---- the list, and the line of the salvage program
 

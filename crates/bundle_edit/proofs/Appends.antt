@@ -4,11 +4,11 @@ use mathlib.Core.Path.{_≡_, refl, sym, ap, subst, _∙_}
 use mathlib.Core.Bool.{Bool, true, false, cond}
 use mathlib.Core.List.{List, [], _∷_, _++_, append-assoc}
 use native.Mathlib.Omega.{arith}
-use borrow.Author.Tests.{le-leb, lt-leb, lt-ltb, le-ltb, eq-eqb, ne-eqb, leb-true, leb-false}
+use borrow.Author.Tests.{le-leb, lt-leb, lt-ltb, le-ltb, eq-eqb, ne-eqb, leb-true, leb-false, eqb-true}
 use lib.Dec.{leb, ltb, eqb}
 use lib.ListN.{length, take, drop, getD, length-append}
 use lib.Seq.{getD-at, length-take-le}
-use Rattle.octets.specs.Refusals.{moreNeeded, tooLarge, noRoom, badEntry}
+use Rattle.octets.specs.Refusals.{moreNeeded, tooLarge, noRoom, badEntry, badTable}
 use Rattle.octets.proofs.Kit.{no-true, either}
 use Rattle.numbers.specs.Places.{push}
 use Rattle.numbers.specs.Integer.{intLen, tagOf, intBytes, plain}
@@ -30,7 +30,8 @@ use Rattle.turn.specs.Turn.{replyFrom, binaryToBinary}
 use Rattle.bundle.specs.Bundle.{headOf, headOctets, isFlock, kindNumber, walk}
 use Rattle.bundle.specs.Answers.{bundleOf}
 use Rattle.bundle.specs.declared.Bundle.{Bundle}
-use Rattle.bundle_edit.specs.Append.{withHead, entryFor, messageEntry, behindWalk, behindBundle, appendReply, planOf, appendPlan, appended, Fair}
+use Rattle.flock_table.proofs.Counted.{flock-least}
+use Rattle.bundle_edit.specs.Append.{withHead, entryFor, messageEntry, behindBundle, bufferReply, appendReply, planOf, appendPlan, appended, Fair}
 use Rattle.bundle_edit.specs.declared.Plan.{Plan}
 
 -- ---- a message's first octet is its kind
@@ -293,21 +294,20 @@ module _ (b : List ℕ) (used f : ℕ) (m : List ℕ) {z : Bundle} (e : z ≡ bu
 
 -- an entry's octets are within bounds, and its flock is one
 abbrev pub FairReply : ℕ → Reply → Type 0
-FairReply f (writes l) = (4 ≤ length l) × (length l ≤ 65539) × (1 ≤ f)
+FairReply f (writes l) = (4 ≤ length l) × (length l ≤ 65539) × (1 ≤ f) × (f ≤ 127)
 FairReply f (refuses k p) = Unit {0}
 
-pub flock-least : (f : ℕ) → isFlock f ≡ true → (1 ≤ f) × (f ≤ 127)
-flock-least f e = go (leb 1 f) refl e
-  where
-    go : (b : Bool) → leb 1 f ≡ b → cond b (leb f 127) false ≡ true → (1 ≤ f) × (f ≤ 127)
-    go true h g = (leb-true 1 f h, leb-true f 127 g)
-    go false h g = absurd (no-true g)
+-- and the used length and the table are right
+pub record FairCall (n room used f : ℕ) (y : Reply) : Type 0 where
+  pub reply : FairReply f y
+  pub table : (l : List ℕ) → y ≡ writes l → (used ≤ room) × (n ≡ 127)
 
-fair-pair : (f : ℕ) (y z : Reply) → 1 ≤ f → Paired f y z → FairReply f z
+fair-pair : (f : ℕ) (y z : Reply) → isFlock f ≡ true → Paired f y z → FairReply f z
 fair-pair f (writes bs) z g h =
     let w = headOf f 0 (h .kind) (length bs) in
     let l : length (headOctets w ++ bs) ≡ 4 + length bs = length-append (headOctets w) bs ∙ rw (head-long w) in
-    rw (h .reply) (omega (arith, l), omega (arith, l, h .small), g)
+    let b = flock-least f g in
+    rw (h .reply) (omega (arith, l), omega (arith, l, h .small), b .0, b .1)
 fair-pair f (refuses k p) z g h = rw h tt
 
 fair-behind : (b : List ℕ) (used f : ℕ) (m : List ℕ) → FairReply f (behindBundle b used f m)
@@ -317,35 +317,91 @@ fair-behind b used f m =
     either (FairReply f) (eqb (w .stop) 0) _ _
     (λ _.
     either (FairReply f) (ltb (length (w .entries)) 256) _ _
-    (λ _. either (FairReply f) (isFlock f) _ _ (λ g. fair-pair f (binaryToBinary (toldPlain 0) m) (messageEntry f m) (flock-least f g .0) (paired f m)) (λ _. tt)) (λ _. tt))
+    (λ _. either (FairReply f) (isFlock f) _ _ (λ g. fair-pair f (binaryToBinary (toldPlain 0) m) (messageEntry f m) g (paired f m)) (λ _. tt)) (λ _. tt))
     (λ _. tt)
 
-fair-of : (y : Reply) (f used : ℕ) (b : List ℕ) (w : Written) → used ≤ length b → FairReply f y → w ≡ writtenOf y (length b - used) → Fair (length b) used f w
-unfolding writtenOf
-fair-of (writes l) f used b w u g e = go (leb (length l) (length b - used)) refl e
-  where
-    go : (t : Bool) → leb (length l) (length b - used) ≡ t → w ≡ cond t (Done (length l)) (Refused noRoom 0) → Fair (length b) used f w
-    go true h q = let i = leb-true (length l) (length b - used) h in rw q (omega (arith, i, u), g .0, g .1, g .2)
-    go false h q = rw q tt
-fair-of (refuses k p) f used b w u g e = rw e tt
+no-reply : {A : Type 0} {k p : ℕ} {l : List ℕ} → refuses k p ≡ writes l → A
+no-reply e = let z : _≡_ {A = ℕ} 0 1 = cc in absurd (omega arith)
 
-pub fair : (b : List ℕ) (used f : ℕ) (m : List ℕ) {b′ : List ℕ} {w : Written} → used ≤ length b → ServedAt (behindBundle b used f m) used b b′ w
-    → Fair (length b) used f w
-fair b used f m {b′} {w} u v = fair-of (behindBundle b used f m) f used b w u (fair-behind b used f m) (v .answer)
+-- a call that writes was told 127 records and a used length within the buffer
+fair-call : (n : ℕ) (b : List ℕ) (used f : ℕ) (m : List ℕ) → FairCall n (length b) used f (appendReply n b used f m)
+unfolding appendReply bufferReply
+fair-call n b used f m =
+    let Q : Reply → Type 0 = FairCall n (length b) used f in
+    either Q (eqb n 127) _ _
+    (λ a.
+    either Q (leb used (length b)) _ _
+    (λ u. record { reply = fair-behind b used f m; table = λ l e. (leb-true used (length b) u, eqb-true n 127 a) })
+    (λ _. record { reply = tt; table = λ l e. no-reply e }))
+    (λ _. record { reply = tt; table = λ l e. no-reply e })
+
+-- an answer that is given for a reply of this kind
+abbrev pub FairAnswer : ℕ → ℕ → ℕ → ℕ → Written → Type 0
+FairAnswer n room used f (Done k) = Fair room used f (Done k) × (f ≤ 127) × (n ≡ 127)
+FairAnswer n room used f (Refused k p) = Unit {0}
+
+fair-of : (y : Reply) (n f used room : ℕ) → FairCall n room used f y → FairAnswer n room used f (writtenOf y (room - used))
+unfolding writtenOf
+fair-of (writes l) n f used room g = go (leb (length l) (room - used)) refl
+  where
+    go : (t : Bool) → leb (length l) (room - used) ≡ t → FairAnswer n room used f (cond t (Done (length l)) (Refused noRoom 0))
+    go true h =
+        let i = leb-true (length l) (room - used) h in
+        let u = g .table l refl in
+        let r = g .reply in
+        ((omega (arith, i, u .0), r .0, r .1, r .2), r .3, u .1)
+    go false h = tt
+fair-of (refuses k p) n f used room g = tt
+
+pub fair-answer : (n : ℕ) (b : List ℕ) (used f : ℕ) (m : List ℕ) → FairAnswer n (length b) used f (writtenOf (appendReply n b used f m) (length b - used))
+fair-answer n b used f m = fair-of (appendReply n b used f m) n f used (length b) (fair-call n b used f m)
+
+answer-fair : (n room used f : ℕ) (w : Written) → FairAnswer n room used f w → Fair room used f w
+answer-fair n room used f (Done k) h = h .0
+answer-fair n room used f (Refused k p) h = tt
+
+pub fair : (n : ℕ) (b : List ℕ) (used f : ℕ) (m : List ℕ) {b′ : List ℕ} {w : Written} → ServedAt (appendReply n b used f m) used b b′ w → Fair (length b) used f w
+fair n b used f m {b′} {w} v =
+    subst (Fair (length b) used f) (sym (v .answer))
+    (answer-fair n (length b) used f (writtenOf (appendReply n b used f m) (length b - used)) (fair-answer n b used f m))
 
 pub fair-done : (room used f n : ℕ) (w : Written) → Fair room used f w → w ≡ Done n → (used + n ≤ room) × (4 ≤ n) × (n ≤ 65539) × (1 ≤ f)
 fair-done room used f n w h e = subst (Fair room used f) e h
 
-module _ (b : List ℕ) (used f : ℕ) (m : List ℕ) {r : Plan} where
-  pub plan-served : {b′ : List ℕ} {w : Written} → used ≤ length b → ServedAt (behindBundle b used f m) used b b′ w → r ≡ planOf used f w
-      → (r ≡ appendPlan b used f m) × (b′ ≡ appended b used f m)
-  unfolding appendPlan appended appendReply
-  plan-served u v e = rw (le-leb used (length b) u) (e ∙ ap (planOf used f) (v .answer), v .after)
+-- ---- the tests before the bundle
 
-  pub plan-past : length b < used → r ≡ planOf used f (Refused noRoom 0) → (r ≡ appendPlan b used f m) × (b ≡ appended b used f m)
-  unfolding appendPlan appended appendReply writtenOf lentAfterAt
-  plan-past u e = rw (lt-leb used (length b) u) (e, refl)
+module _ (b : List ℕ) (used f : ℕ) (m : List ℕ) where
+  pub within-served : {b′ : List ℕ} {w : Written} → used ≤ length b → ServedAt (behindBundle b used f m) used b b′ w → ServedAt (bufferReply b used f m) used b b′ w
+  unfolding bufferReply
+  within-served u v = rw (le-leb used (length b) u) v
+
+  pub within-past : length b < used → ServedAt (bufferReply b used f m) used b b (Refused noRoom 0)
+  unfolding bufferReply
+  within-past u = rw (lt-leb used (length b) u) (serve-at-wrong noRoom 0 used b)
+
+  pub beside-served : (n : ℕ) {b′ : List ℕ} {w : Written} → eqb n 127 ≡ true → ServedAt (bufferReply b used f m) used b b′ w → ServedAt (appendReply n b used f m) used b b′ w
+  unfolding appendReply
+  beside-served n e v = rw e v
+
+  pub beside-none : (n : ℕ) → eqb n 127 ≡ false → ServedAt (appendReply n b used f m) used b b (Refused badTable 0)
+  unfolding appendReply
+  beside-none n e = rw e (serve-at-wrong badTable 0 used b)
+
+pub plan-served : (n : ℕ) (b : List ℕ) (used f : ℕ) (m : List ℕ) {r : Plan} {b′ : List ℕ} {w : Written} → ServedAt (appendReply n b used f m) used b b′ w → r ≡ planOf used f w
+    → (r ≡ appendPlan n b used f m) × (b′ ≡ appended n b used f m)
+unfolding appendPlan appended
+plan-served n b used f m v e = (e ∙ ap (planOf used f) (v .answer), v .after)
 
 -- the answer under another name
 pub served-as : {y : Reply} {k : ℕ} {o o′ : List ℕ} {v w : Written} → ServedAt y k o o′ v → v ≡ w → ServedAt y k o o′ w
 served-as {y} {k} {o} {o′} h e = subst (λ (x : Written). ServedAt y k o o′ x) e h
+
+-- ---- the record that an append changes
+
+index-of : (n room used f : ℕ) (w : Written) → FairAnswer n room used f w → planOf used f w .go ≡ true → planOf used f w .index < n
+index-of n room used f (Done k) h g = omega (arith, h .0 .3, h .1, h .2)
+index-of n room used f (Refused k p) h g = absurd (no-true g)
+
+pub append-index : (n : ℕ) (b : List ℕ) (used f : ℕ) (m : List ℕ) → appendPlan n b used f m .go ≡ true → appendPlan n b used f m .index < n
+unfolding appendPlan
+append-index n b used f m = index-of n (length b) used f (writtenOf (appendReply n b used f m) (length b - used)) (fair-answer n b used f m)

@@ -4,9 +4,9 @@ use Prim.Native.Nat.{ℕ, _+_, _-_, _≤_}
 use mathlib.Core.Path.{_≡_}
 use mathlib.Core.Bool.{Bool, true, false, cond}
 use mathlib.Core.List.{List, [], _∷_, _++_}
-use lib.Dec.{leb, ltb, eqb}
-use lib.ListN.{length, take}
-use Rattle.octets.specs.Refusals.{tooLarge, noRoom, badEntry}
+use lib.Dec.{ltb, eqb}
+use lib.ListN.{length, take, getD, set}
+use Rattle.octets.specs.Refusals.{tooLarge, badEntry}
 use Rattle.messages.specs.Meaning.{Meaning}
 use Rattle.messages.specs.Valid.{ofResponse}
 use Rattle.binary_writer.specs.Write.{toBinary}
@@ -15,7 +15,10 @@ use Rattle.output.specs.declared.Written.{Written}
 use Rattle.output.specs.declared.Written.the-variants.{Done, Refused}
 use Rattle.turn.specs.Turn.{replyFrom}
 use Rattle.octets.specs.Limits.{binaryMost, entriesMost}
-use Rattle.bundle.specs.Bundle.{headOf, headOctets, isFlock, readMessage, kindNumber, Walk, walk}
+use Rattle.bundle.specs.Bundle.{headOf, headOctets, isFlock, readMessage, kindNumber, Entry, walk}
+use Rattle.flock_table.specs.Table.{none, plus}
+use Rattle.flock_table.specs.declared.Flock.{Flock}
+use Rattle.bundle_edit.specs.Calls.{besideTable, inBuffer, ofBundle}
 use Rattle.bundle_edit.specs.declared.Plan.{Plan}
 
 -- ---- what is written
@@ -33,20 +36,21 @@ entryFor f x = withHead f (kindNumber (ofResponse (x .control))) (toBinary x)
 abbrev pub messageEntry : ℕ → List ℕ → Reply
 messageEntry f m = replyFrom (length m) (readMessage m) (entryFor f)
 
--- behind the bundle that was walked: its own number at its place, 8 at 0 for a 257th entry, 15 at 0 for no flock, then the message
-abbrev pub behindWalk : Walk → ℕ → List ℕ → Reply
-behindWalk w f m =
-    cond (eqb (w .stop) 0)
-    (cond (ltb (length (w .entries)) entriesMost) (cond (isFlock f) (messageEntry f m) (refuses badEntry 0)) (refuses tooLarge 0))
-    (refuses (w .stop) (w .end))
+-- behind these entries: 8 at 0 for a 257th entry, 15 at 0 for no flock, then the message
+abbrev pub behindEntries : ℕ → List ℕ → List Entry → Reply
+behindEntries f m es = cond (ltb (length es) entriesMost) (cond (isFlock f) (messageEntry f m) (refuses badEntry 0)) (refuses tooLarge 0)
 
 -- behind the bundle that the first `used` octets of the buffer are
 unfoldable pub behindBundle : List ℕ → ℕ → ℕ → List ℕ → Reply
-behindBundle b used f m = behindWalk (walk (take used b)) f m
+behindBundle b used f m = ofBundle refuses (walk (take used b)) (behindEntries f m)
 
 -- "a used length past the buffer is 13 first"
-unfoldable pub appendReply : List ℕ → ℕ → ℕ → List ℕ → Reply
-appendReply b used f m = cond (leb used (length b)) (behindBundle b used f m) (refuses noRoom 0)
+unfoldable pub bufferReply : List ℕ → ℕ → ℕ → List ℕ → Reply
+bufferReply b used f m = inBuffer refuses b used (behindBundle b used f m)
+
+-- "16 at 0 for a table that has not 127 records, before all else": n is how many it has
+unfoldable pub appendReply : ℕ → List ℕ → ℕ → ℕ → List ℕ → Reply
+appendReply n b used f m = besideTable refuses n (bufferReply b used f m)
 
 -- ---- the flat answer, and the buffer afterwards
 
@@ -57,16 +61,28 @@ planOf used f (Done n) = record { go = true; index = f - 1; size = n - 4; number
 planOf used f (Refused number place) = record { go = false; index = 0; size = 0; number = number; place = place; used = used; long = 0 }
 
 -- what an append answers: room is what is behind the used length, 13 at 0
-unfoldable pub appendPlan : List ℕ → ℕ → ℕ → List ℕ → Plan
-appendPlan b used f m = planOf used f (writtenOf (appendReply b used f m) (length b - used))
+unfoldable pub appendPlan : ℕ → List ℕ → ℕ → ℕ → List ℕ → Plan
+appendPlan n b used f m = planOf used f (writtenOf (appendReply n b used f m) (length b - used))
 
 -- the buffer afterwards: a refusal alters no octet of it
-unfoldable pub appended : List ℕ → ℕ → ℕ → List ℕ → List ℕ
-appended b used f m = lentAfterAt (appendReply b used f m) used b
+unfoldable pub appended : ℕ → List ℕ → ℕ → ℕ → List ℕ → List ℕ
+appended n b used f m = lentAfterAt (appendReply n b used f m) used b
 
--- an append to the buffer b answers r and leaves b′
-abbrev pub Planned : List ℕ → ℕ → ℕ → List ℕ → List ℕ → Plan → Type 0
-Planned b used f m b′ r = (r ≡ appendPlan b used f m) × (b′ ≡ appended b used f m)
+-- an append to the buffer b, beside a table of n records, answers r and leaves b′
+abbrev pub Planned : ℕ → List ℕ → ℕ → ℕ → List ℕ → List ℕ → Plan → Type 0
+Planned n b used f m b′ r = (r ≡ appendPlan n b used f m) × (b′ ≡ appended n b used f m)
+
+-- ---- the table afterwards (02, item 6: "Appending keeps it true")
+
+-- the record of a new entry whose message has so many octets
+abbrev pub newRecord : ℕ → Flock
+newRecord n = record { entries = 1; bytes = n; undelivered = 1 }
+
+-- by the plan: one record changes, or none
+abbrev pub entered : Plan → List Flock → List Flock
+entered p t = cond (p .go) (set t (p .index) (plus (getD t (p .index) none) (newRecord (p .size)))) t
+
+-- ---- the code
 
 -- an answer that may be made into a plan without passing a number's width
 abbrev pub Fair : ℕ → ℕ → ℕ → Written → Type 0

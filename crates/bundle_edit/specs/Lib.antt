@@ -1,1 +1,4 @@
+pub mod Calls
 pub mod Append
+pub mod Changes
+pub mod Delivery

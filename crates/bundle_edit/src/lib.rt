@@ -1,8 +1,15 @@
-// Appending to a bundle. Everything is judged before the head is written, so that a refused append alters no octet of the buffer.
+// Changing a bundle, and what that is to do to the table beside it. Everything is judged before the first octet is written, so that a refused call alters
+// nothing.
+pub mod delivery; // delivery.rt: marking an entry as delivered, and the sweep
+pub mod tables; // tables.rt: all records of a table at once: the rebuild
+
 use bundle::Bundle;
 use bundle::Head;
 use bundle::entry::is_flock;
 use bundle::reader::read_bundle;
+use flock_table::Flock;
+use flock_table::is_table;
+use flock_table::plus;
 use messages::call::plain;
 use octets::Limits;
 use octets::Refusals;
@@ -20,7 +27,8 @@ ghost use Rattle.messages.specs.Told.{plain as toldPlain};
 ghost use Rattle.turn.specs.Turn.{binaryToBinary};
 ghost use Rattle.bundle.specs.Bundle.{headOf, headOctets, isFlock, walk};
 ghost use Rattle.bundle.specs.Answers.{bundleOf};
-ghost use Rattle.bundle_edit.specs.Append.{messageEntry, behindBundle, planOf, Planned, Fair};
+ghost use Rattle.bundle_edit.specs.Append.{messageEntry, behindBundle, bufferReply, appendReply, planOf, Planned, Fair, newRecord};
+ghost use Rattle.flock_table.specs.Table.{plus as plusOf};
 
 // What a call that changes a bundle answers, flat: whether a table's record is to be changed, which one, by how many octets of message; number, place, the used
 // length afterwards; integers that were not in their shortest form.
@@ -32,6 +40,40 @@ pub struct Plan {
     pub place: usize,
     pub used: usize,
     pub long: usize,
+}
+
+// What a call that changes all records of a table answers, flat: what is done to each (one of Kinds), number, place, the used length afterwards; and the
+// records it is done with, three numbers each.
+pub struct Changes {
+    pub kind: u32,
+    pub number: u32,
+    pub place: usize,
+    pub used: usize,
+    pub counts: [u32; 381],
+}
+
+// What is done to each record: it is left, put, or taken off.
+pub struct Kinds;
+
+impl Kinds {
+    pub const LEAVES: u32 = 0;
+
+    pub const PUTS: u32 = 1;
+
+    pub const TAKES_OFF: u32 = 2;
+}
+
+// What is judged before a mark and before a sweep: 0 and how many entries there are, or a refusal.
+struct Judged {
+    number: u32,
+    place: usize,
+    count: usize,
+}
+
+// An entry: where it begins, its head.
+struct Found {
+    at: usize,
+    word: u32,
 }
 
 // The plan of a writer's answer.
@@ -119,7 +161,7 @@ fn put_entry(buf: &mut [u8], used: usize, flock: u32, message: &[u8]) -> Written
 }
 
 // The bundle that the first octets of a buffer are.
-fn front_bundle(buf: &[u8], used: usize) -> Bundle
+pub(crate) fn front_bundle(buf: &[u8], used: usize) -> Bundle
     requires { ⌜ used ≤ length (now buf) ⌝ }
     ensures { λ r. ⌜ r ≡ bundleOf (walk (take used (now (buf .entry)))) ⌝ }
 {
@@ -154,22 +196,50 @@ fn append_entry(buf: &mut [u8], used: usize, flock: u32, message: &[u8]) -> Writ
     }
 }
 
-// A Binary message behind a bundle of `used` octets in the buffer, as an undelivered entry of the flock.
-pub fn append(buf: &mut [u8], used: usize, flock: u32, message: &[u8]) -> Plan
-    ensures { λ r. ⌜ Planned (now (buf .entry)) used flock (now (message .entry)) (now (buf .exit)) r ⌝ }
+// The same with a used length that may be past the buffer.
+fn append_within(buf: &mut [u8], used: usize, flock: u32, message: &[u8]) -> Written
+    ensures { λ r. ⌜ ServedAt (bufferReply (now (buf .entry)) used flock (now (message .entry))) used (now (buf .entry)) (now (buf .exit)) r ⌝ }
+{
+    if used <= buf.len() {
+        return append_entry(buf, used, flock, message);
+    }
+    Written::Refused {
+        number: Refusals::NO_ROOM,
+        place: 0,
+    }
+}
+
+// The same beside a table of n records.
+fn append_beside(n: usize, buf: &mut [u8], used: usize, flock: u32, message: &[u8]) -> Written
+    ensures { λ r. ⌜ ServedAt (appendReply n (now (buf .entry)) used flock (now (message .entry))) used (now (buf .entry)) (now (buf .exit)) r ⌝ }
+{
+    if is_table(n) {
+        return append_within(buf, used, flock, message);
+    } else {
+        return Written::Refused {
+            number: Refusals::BAD_TABLE,
+            place: 0,
+        };
+    }
+}
+
+// A Binary message behind a bundle of `used` octets in the buffer, as an undelivered entry of the flock, beside a table of n records.
+pub fn append(n: usize, buf: &mut [u8], used: usize, flock: u32, message: &[u8]) -> Plan
+    ensures { λ r. ⌜ Planned n (now (buf .entry)) used flock (now (message .entry)) (now (buf .exit)) r ⌝ }
 {
     let room = buf.len();
-    if used <= room {
-        let w = append_entry(buf, used, flock, message);
-        return plan_of(room, used, flock, w);
-    }
-    plan_of(
-        room,
-        used,
-        flock,
-        Written::Refused {
-            number: Refusals::NO_ROOM,
-            place: 0,
-        },
-    )
+    let w = append_beside(n, buf, used, flock, message);
+    plan_of(room, used, flock, w)
+}
+
+// A record with a new entry of so many octets of message.
+pub fn enter(old: Flock, size: u32) -> Flock
+    ensures { λ r. ⌜ r ≡ plusOf old (newRecord size) ⌝ }
+{
+    let new = Flock {
+        entries: 1,
+        bytes: size,
+        undelivered: 1,
+    };
+    plus(old, new)
 }

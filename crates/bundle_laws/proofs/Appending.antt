@@ -10,8 +10,8 @@ use lib.Dec.{leb, ltb, eqb}
 use lib.ListN.{length, take, drop, length-append}
 use lib.Seq.{length-take-le, take-at, drop-at}
 use Rattle.octets.specs.Limits.{binaryMost}
-use Rattle.octets.specs.Refusals.{tooLarge, noRoom, badEntry}
-use Rattle.octets.proofs.Kit.{into, split}
+use Rattle.octets.specs.Refusals.{tooLarge, noRoom, badEntry, badTable}
+use Rattle.octets.proofs.Kit.{into, split, either}
 use Rattle.script.specs.Script.{Answer, accepted, refused, more}
 use Rattle.messages.specs.Message.{isResponse, Message}
 use Rattle.messages.specs.Meaning.{Meaning, meaning}
@@ -30,8 +30,9 @@ use Rattle.output.specs.declared.Written.the-variants.{Done, Refused}
 use Rattle.output.proofs.Laws.{splice-is}
 use Rattle.turn.specs.Turn.{replyFrom}
 use Rattle.bundle.specs.Bundle.{wordOf, flockOf, deliveredOf, kindOf, lengthOf, headOf, headOctets, isFlock, Entry, entryOctets, entriesOctets, readMessage, kindNumber, Walk, walk}
-use Rattle.bundle_edit.specs.Append.{withHead, entryFor, messageEntry, behindWalk, behindBundle, appendReply, appended}
-use Rattle.bundle_edit.proofs.Appends.{kind-small, head-long, flock-least}
+use Rattle.bundle_edit.specs.Append.{withHead, entryFor, messageEntry, behindBundle, bufferReply, appendReply, appended}
+use Rattle.bundle_edit.proofs.Appends.{kind-small, head-long}
+use Rattle.flock_table.proofs.Counted.{flock-least}
 use Rattle.bundle_laws.specs.Reading.{InForm, IsBundle}
 use Rattle.bundle_laws.specs.Appending.{appendAnswer, Added, Appending}
 use Rattle.bundle_laws.proofs.Reading.{front, octets-of, back, is-bundle}
@@ -91,22 +92,25 @@ made f m l e = go (readBinary (plain 0) m) refl e
     go more r q = absurd (no-reply q)
 
 -- the judgements that were passed
-pub record Passed (b : List ℕ) (used f : ℕ) (m l : List ℕ) : Type 0 where
+pub record Passed (records : ℕ) (b : List ℕ) (used f : ℕ) (m l : List ℕ) : Type 0 where
+  pub table : records ≡ 127
   pub within : used ≤ length b
   pub good : walk (take used b) .stop ≡ 0
   pub few : length (walk (take used b) .entries) < 256
   pub flock : isFlock f ≡ true
   pub entry : Made f m l
 
-passed : (b : List ℕ) (used f : ℕ) (m l : List ℕ) → appendReply b used f m ≡ writes l → Passed b used f m l
-unfolding appendReply behindBundle
-passed b used f m l e =
+pub passed : (records : ℕ) (b : List ℕ) (used f : ℕ) (m l : List ℕ) → appendReply records b used f m ≡ writes l → Passed records b used f m l
+unfolding appendReply bufferReply behindBundle
+passed records b used f m l e =
     let w = walk (take used b) in
-    let a = into no-reply (leb used (length b)) _ e in
+    let t = into no-reply (eqb records 127) _ e in
+    let a = into no-reply (leb used (length b)) _ (t .1) in
     let c = into no-reply (eqb (w .stop) 0) _ (a .1) in
     let d = into no-reply (ltb (length (w .entries)) 256) _ (c .1) in
     let g = into no-reply (isFlock f) _ (d .1) in
     record {
+      table = eqb-true records 127 (t .0);
       within = leb-true used (length b) (a .0);
       good = eqb-true (w .stop) 0 (c .0);
       few = ltb-true (length (w .entries)) 256 (d .0);
@@ -174,11 +178,11 @@ unfolding entriesOctets
 octets-and [] e = append-nil (entryOctets e)
 octets-and (x ∷ es) e = ap (λ (l : List ℕ). entryOctets x ++ l) (octets-and es e) ∙ sym (append-assoc (entryOctets x) (entriesOctets es) (entryOctets e))
 
-module _ (b : List ℕ) (used f : ℕ) (m l : List ℕ) (u : used ≤ length b) (e : appendReply b used f m ≡ writes l) (r : length l ≤ length b - used) where
+module _ (records : ℕ) (b : List ℕ) (used f : ℕ) (m l : List ℕ) (u : used ≤ length b) (e : appendReply records b used f m ≡ writes l) (r : length l ≤ length b - used) where
   room : used + length l ≤ length b
   room = omega (arith, u, r)
 
-  spliced : appended b used f m ≡ take used b ++ l ++ drop (used + length l) b
+  spliced : appended records b used f m ≡ take used b ++ l ++ drop (used + length l) b
   unfolding appended lentAfterAt
   spliced = ap (λ (y : Reply). lentAfterAt y used b) e ∙ rw (le-leb (used + length l) (length b) room) (splice-is b used l room)
 
@@ -188,24 +192,24 @@ module _ (b : List ℕ) (used f : ℕ) (m l : List ℕ) (u : used ≤ length b) 
   ends : length (take used b ++ l) ≡ used + length l
   ends = length-append (take used b) l ∙ rw taken
 
-  pub new-front : take (used + length l) (appended b used f m) ≡ take used b ++ l
+  pub new-front : take (used + length l) (appended records b used f m) ≡ take used b ++ l
   new-front = ap (take (used + length l)) spliced ∙ take-at (take used b ++ l) (drop (used + length l) b) (used + length l) ends
 
-  pub old-front : take used (appended b used f m) ≡ take used b
+  pub old-front : take used (appended records b used f m) ≡ take used b
   old-front =
       ap (take used) (spliced ∙ append-assoc (take used b) l (drop (used + length l) b)) ∙ take-at (take used b) (l ++ drop (used + length l) b) used taken
 
-  pub old-rest : drop (used + length l) (appended b used f m) ≡ drop (used + length l) b
+  pub old-rest : drop (used + length l) (appended records b used f m) ≡ drop (used + length l) b
   old-rest = ap (drop (used + length l)) spliced ∙ drop-at (take used b ++ l) (drop (used + length l) b) (used + length l) ends
 
 length-and : (es : List Entry) (e : Entry) → length (es ++ e ∷ []) ≡ length es + 1
 length-and es e = length-append es (e ∷ [])
 
-adds : (b : List ℕ) (used f : ℕ) (m : List ℕ) (n : ℕ) → appendAnswer b used f m ≡ Done n → Added b used f m n
-adds b used f m n q =
-    let w = wrote (appendReply b used f m) (length b - used) n q in
+adds : (records : ℕ) (b : List ℕ) (used f : ℕ) (m : List ℕ) (n : ℕ) → appendAnswer records b used f m ≡ Done n → Added records b used f m n
+adds records b used f m n q =
+    let w = wrote (appendReply records b used f m) (length b - used) n q in
     let l = w .octets in
-    let p = passed b used f m l (w .reply) in
+    let p = passed records b used f m l (w .reply) in
     let a = p .entry in
     let x = meaning (a .message) in
     let v : valid x ≡ true = binary-sound (plain 0) m (a .long) (a .message) (a .read) .sound .valid in
@@ -217,7 +221,7 @@ adds b used f m n q =
     ap (λ (y : List ℕ). y ++ l) (octets-of (take used b) (p .good)) ∙ ap (λ (y : List ℕ). entriesOctets es ++ y) o ∙ sym (octets-and es d) in
     let k : length (es ++ d ∷ []) ≤ 256 = omega (arith, length-and es d, p .few) in
     let z = back (es ++ d ∷ []) (each-and es d (front (take used b) .good) g) k in
-    let s = new-front b used f m l (p .within) (w .reply) (w .fits) ∙ t in
+    let s = new-front records b used f m l (p .within) (w .reply) (w .fits) ∙ t in
     rw (w .size) (record {
       before = es;
       was = is-bundle (take used b) (p .good);
@@ -232,8 +236,10 @@ adds b used f m n q =
       text = refl;
       is = rw s z;
       within = omega (arith, p .within, w .fits);
-      front = old-front b used f m l (p .within) (w .reply) (w .fits);
-      behind = old-rest b used f m l (p .within) (w .reply) (w .fits);
+      front = old-front records b used f m l (p .within) (w .reply) (w .fits);
+      behind = old-rest records b used f m l (p .within) (w .reply) (w .fits);
+      table = p .table;
+      size = ap (λ (y : List ℕ). length y) o ∙ length-append (d .head) (d .text) ∙ rw (head-long _);
     })
 
 refused-none : (y : Reply) (used : ℕ) (b : List ℕ) (k p : ℕ) → writtenOf y (length b - used) ≡ Refused k p → used ≤ length b → lentAfterAt y used b ≡ b
@@ -246,14 +252,16 @@ refused-none (writes l) used b k p e u = go (leb (length l) (length b - used)) r
     go false h q = let z = leb-false (length l) (length b - used) h in rw (lt-leb (used + length l) (length b) (omega (arith, z)))
 refused-none (refuses a c) used b k p e u = refl
 
-refused-past : (b : List ℕ) (used f : ℕ) (m : List ℕ) → length b < used → appended b used f m ≡ b
-unfolding appended appendReply lentAfterAt
-refused-past b used f m h = rw (lt-leb used (length b) h)
+refused-past : (records : ℕ) (b : List ℕ) (used f : ℕ) (m : List ℕ) → length b < used → appended records b used f m ≡ b
+unfolding appended appendReply bufferReply lentAfterAt
+refused-past records b used f m h =
+    rw (lt-leb used (length b) h) (either (λ (y : Reply). lentAfterAt y used b ≡ b) (eqb records 127) (refuses noRoom 0) (refuses badTable 0) (λ _. refl) (λ _. refl))
 
-refused-append : (b : List ℕ) (used f : ℕ) (m : List ℕ) (k p : ℕ) → appendAnswer b used f m ≡ Refused k p → appended b used f m ≡ b
+refused-append : (records : ℕ) (b : List ℕ) (used f : ℕ) (m : List ℕ) (k p : ℕ) → appendAnswer records b used f m ≡ Refused k p → appended records b used f m ≡ b
 unfolding appended
-refused-append b used f m k p e =
-    ⊎-elim (λ (h : length b < used). refused-past b used f m h) (λ (h : used ≤ length b). refused-none (appendReply b used f m) used b k p e h) (split (length b) used)
+refused-append records b used f m k p e =
+    ⊎-elim (λ (h : length b < used). refused-past records b used f m h) (λ (h : used ≤ length b). refused-none (appendReply records b used f m) used b k p e h)
+    (split (length b) used)
 
 pub appending : Appending
 appending = record { adds = adds; refused = refused-append }

@@ -2,6 +2,9 @@ pub mod Walks
 pub mod Reading
 pub mod Heads
 pub mod Listing
+pub mod Delivering
+pub mod Keeping
+pub mod Sweeping
 pub mod Salvaging
 pub mod Demands
 pub mod Appending

@@ -4,6 +4,7 @@ use Prim.Native.Nat.{ℕ, _+_, _-_, _≤_}
 use mathlib.Core.Path.{_≡_}
 use mathlib.Core.List.{List, [], _∷_, _++_}
 use lib.ListN.{length, take, drop}
+use Rattle.octets.specs.Limits.{flocksMost}
 use Rattle.script.specs.Script.{accepted}
 use Rattle.messages.specs.Message.{isResponse, Message}
 use Rattle.messages.specs.Meaning.{meaning}
@@ -15,12 +16,12 @@ use Rattle.bundle.specs.Bundle.{wordOf, flockOf, deliveredOf, kindOf, Entry, re
 use Rattle.bundle_edit.specs.Append.{appendReply, appended}
 use Rattle.bundle_laws.specs.Reading.{InForm, IsBundle}
 
--- what an append to the first `used` octets of the buffer b answers
-abbrev pub appendAnswer : List ℕ → ℕ → ℕ → List ℕ → Written
-appendAnswer b used f m = writtenOf (appendReply b used f m) (length b - used)
+-- what an append to the first `used` octets of the buffer b, beside a table of so many records, answers
+abbrev pub appendAnswer : ℕ → List ℕ → ℕ → ℕ → List ℕ → Written
+appendAnswer records b used f m = writtenOf (appendReply records b used f m) (length b - used)
 
 -- an accepted append of n octets
-pub record Added (b : List ℕ) (used f : ℕ) (m : List ℕ) (n : ℕ) : Type 0 where
+pub record Added (records : ℕ) (b : List ℕ) (used f : ℕ) (m : List ℕ) (n : ℕ) : Type 0 where
   -- the bundle before it, and the message that was read
   pub before : List Entry
   pub was : IsBundle (take used b) before
@@ -35,14 +36,18 @@ pub record Added (b : List ℕ) (used f : ℕ) (m : List ℕ) (n : ℕ) : Type 0
   pub kind : kindOf (wordOf (entry .head)) ≡ kindNumber (isResponse (message .start))
   pub text : entry .text ≡ binaryOf (meaning message)
   -- the octets up to the new end are read as the entries before it and the new one
-  pub is : IsBundle (take (used + n) (appended b used f m)) (before ++ entry ∷ [])
+  pub is : IsBundle (take (used + n) (appended records b used f m)) (before ++ entry ∷ [])
   -- the octets before it and those behind the new end stay
   pub within : used + n ≤ length b
-  pub front : take used (appended b used f m) ≡ take used b
-  pub behind : drop (used + n) (appended b used f m) ≡ drop (used + n) b
+  pub front : take used (appended records b used f m) ≡ take used b
+  pub behind : drop (used + n) (appended records b used f m) ≡ drop (used + n) b
+  -- beside a table of 127 records; head and message are all that is written
+  pub table : records ≡ flocksMost
+  pub size : n ≡ 4 + length (entry .text)
 
 -- the claims on the appender
 pub record Appending : Type 0 where
-  pub adds : (b : List ℕ) (used f : ℕ) (m : List ℕ) (n : ℕ) → appendAnswer b used f m ≡ Done n → Added b used f m n
+  pub adds : (records : ℕ) (b : List ℕ) (used f : ℕ) (m : List ℕ) (n : ℕ) → appendAnswer records b used f m ≡ Done n → Added records b used f m n
   -- a refused append alters no octet of the buffer, head included
-  pub refused : (b : List ℕ) (used f : ℕ) (m : List ℕ) (k p : ℕ) → appendAnswer b used f m ≡ Refused k p → appended b used f m ≡ b
+  pub refused : (records : ℕ) (b : List ℕ) (used f : ℕ) (m : List ℕ) (k p : ℕ) → appendAnswer records b used f m ≡ Refused k p
+      → appended records b used f m ≡ b

@@ -7,8 +7,9 @@ use Rattle.bundle.specs.Bundle.{headOf}
 use Prim.Native.Nat.{ℕ}
 use Rattle.turn.specs.Turn.{binaryToBinary}
 use Rattle.messages.specs.Told.{plain as toldPlain}
+use Rattle.flock_table.proofs.Counted.{flock-least}
 use Rattle.bundle_edit.specs.Append.{messageEntry}
-use Rattle.bundle_edit.proofs.Appends.{paired, end-in, flock-least, behind-refused, behind-done, entry-done, served-as}
+use Rattle.bundle_edit.proofs.Appends.{paired, end-in, behind-refused, behind-done, entry-done, served-as}
 use Rattle.bundle_edit.proofs.put_entry.Statement.{statement}
 use Rattle.bundle_edit.proofs.put_entry.Tie as tie
 use Rattle.bundle_edit.proofs.put_entry.Reads as reads
