@@ -1,4 +1,5 @@
--- What the code of the response reader promises, in terms of `nextHead`, `headsThen`, `afterFinal` and `readResponse` (http1/specs/Read; 01, "HTTP/1.1 as we take it").
+-- What the code of the response reader promises, in terms of `nextHead`, `headsThen`, `afterFinal` and `readResponse` (http1/specs/Read; 01, "HTTP/1.1 as we
+-- take it").
 use Prim.Native.Nat.{ℕ, suc, _+_, _-_, _*_, _≤_, _<_}
 use mathlib.Core.Path.{_≡_}
 use mathlib.Core.Bool.{Bool, true, false}
@@ -41,8 +42,8 @@ pub record HeadStored (s : List ℕ) (base : ℕ) (hs hs′ : List ℕ) (e k : �
 abbrev pub Onward : Type 0
 Onward = List InformationalRead → ℕ → Script Message
 
--- a head that was read behind the informational heads `is`, where the script answers x, whatever reads on behind it: that determines the head, since what reads on may
--- answer with what it is handed
+-- a head that was read behind the informational heads `is`, where the script answers x, whatever reads on behind it: that determines the head, since what
+-- reads on may answer with what it is handed
 abbrev pub HeadSays : (Onward → BehindHeads → Answer Message) → List InformationalRead → List ℕ → ℕ → List ℕ → List ℕ → HeadRead → Type 0
 HeadSays x is s base hs hs′ (head.Informational n e l k) =
     (h : Lines) × HeadStored s base hs hs′ e k h × (h .left ≡ l) × FewHeads is
@@ -82,7 +83,8 @@ pub record HeadsFacts (s : List ℕ) (is : List InformationalRead) (h : Lines) (
   pub fields : length (kept true (h .lines)) ≡ k
   pub noted : notes ≡ notesOf true (h .lines)
 
--- where the script answers x, whatever reads on behind the heads: the kept fields are stored in hs, status and number of kept fields of each informational head in ns
+-- where the script answers x, whatever reads on behind the heads: the kept fields are stored in hs, status and number of kept fields of each informational
+-- head in ns
 abbrev pub HeadsSays : (BehindHeads → Answer Message) → List ℕ → List ℕ → List ℕ → List ℕ → List ℕ → HeadsRead → Type 0
 HeadsSays x s hs hs′ ns ns′ (heads-read.Done n e c k notes) =
     (is : List InformationalRead) × (h : Lines) × HeadsFacts s is h e c k notes × (e ≤ length s) × (e ≤ headMost)
