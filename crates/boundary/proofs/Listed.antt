@@ -204,7 +204,7 @@ rows-small (suc f) s i at h g = on (reader s) refl (λ n. rows-small f (drop n s
         let k = counts-small s m (ok .sound) in
         let b = row-length i at n (length (meaning m .headers)) (length (meaning m .content)) (length (meaning m .trailers)) in
         let c = row-small i at n (length (meaning m .headers)) (length (meaning m .content)) (length (meaning m .trailers)) (omega (arith, h, g)) (omega (arith, g))
-            (omega (arith, ok .within, g)) (omega (arith, k .0)) (omega (arith, k .1)) (omega (arith, k .2)) in
+        (omega (arith, ok .within, g)) (omega (arith, k .0)) (omega (arith, k .1)) (omega (arith, k .2)) in
         let r = ih n (omega (arith, a, h)) (omega (arith, d, ok .within, g)) in
         let l = length-append (row i at n m) (rows (i + 1) (at + n) (takeF reader f (drop n s))) in
         omega (arith, a, b, c, d, r, l, ok .within)

@@ -1,6 +1,6 @@
--- The C entries under demand 1 (00: "It can be given arbitrary input and lent space .. A refusal names its number and the byte where it arose, and not one byte of the space
--- lent for output is altered"). What a call of an entry answers and leaves is what its promise says (capi/Entries: `Entered`, `EntryServed`, `EntryTaken`, `FieldEntered`); here
--- that is said in the demands' words, of every input and every lent space: `Boundary`.
+-- The C entries under demand 1 (00: "It can be given arbitrary input and lent space .. A refusal names its number and the byte where it arose, and not one
+-- byte of the space lent for output is altered"). What a call of an entry answers and leaves is what its promise says (capi/Entries: `Entered`,
+-- `EntryServed`, `EntryTaken`, `FieldEntered`); here that is said in the demands' words, of every input and every lent space: `Boundary`.
 use Prim.Native.Nat.{ℕ, _+_, _≤_}
 use mathlib.Core.Path.{_≡_}
 use mathlib.Core.Bool.{true}
@@ -46,14 +46,16 @@ pub record EntryReads (numbers : List ℕ) (read : List ℕ → Answer Message) 
 -- every call on an input s, lent octets o; what is to be written is refused with these numbers
 pub record EntryWrites (numbers : List ℕ) (turn : List ℕ → Reply) : Type 0 where
   -- where the number is not 0 it is 13 or one of these, at a place of the input, and not one lent octet is altered
-  pub refuses : (s o o′ : List ℕ) (place number : ℕ) → EntryServed (turn s) o o′ place number → (number ≡ 0 → ⊥) → RefusalOf (13 ∷ numbers) s number place × (o′ ≡ o)
+  pub refuses : (s o o′ : List ℕ) (place number : ℕ) → EntryServed (turn s) o o′ place number → (number ≡ 0 → ⊥)
+      → RefusalOf (13 ∷ numbers) s number place × (o′ ≡ o)
   -- where it is 0, the octets that were to be written stand in front, the place is their number, and all behind them is as it was
   pub wrote : (s o o′ : List ℕ) (place number : ℕ) → EntryServed (turn s) o o′ place number → number ≡ 0
       → (b : List ℕ) × (turn s ≡ writes b) × (place ≡ length b) × (o′ ≡ b ++ drop (length b) o)
 
 -- off a stream: the octets taken are the message's where it was written, and none where it was not
 pub record EntryTakes (read : List ℕ → Answer Message) (turn : List ℕ → Reply) : Type 0 where
-  pub taken : (s o o′ : List ℕ) (taken place number : ℕ) → EntryTaken (read s) (turn s) o o′ taken place number → number ≡ 0 → (m : Message) × (read s ≡ accepted taken m)
+  pub taken : (s o o′ : List ℕ) (taken place number : ℕ) → EntryTaken (read s) (turn s) o o′ taken place number → number ≡ 0
+      → (m : Message) × (read s ≡ accepted taken m)
   pub untaken : (s o o′ : List ℕ) (taken place number : ℕ) → EntryTaken (read s) (turn s) o o′ taken place number → (number ≡ 0 → ⊥) → taken ≡ 0
 
 -- ---- field entries

@@ -1,5 +1,5 @@
--- Demand 3 of the entry that the box calls (00; 01, "Streams under one scheme"): a list of calls of `ospirnar_binary_to_http1` in one lent space, each as its promise says
--- (capi: `EntryServed`), is a list of demand 3's calls, so that every sentence of `Demand3` speaks of it.
+-- Demand 3 of the entry that the box calls (00; 01, "Streams under one scheme"): a list of calls of `ospirnar_binary_to_http1` in one lent space, each as its
+-- promise says (capi: `EntryServed`), is a list of demand 3's calls, so that every sentence of `Demand3` speaks of it.
 use Prim.Native.Nat.{ℕ, _+_}
 use mathlib.Core.Path.{_≡_}
 use mathlib.Core.Bool.{cond}
@@ -16,7 +16,8 @@ use Rattle.capi.specs.Entries.{EntryServed}
 abbrev pub toldTo : ℕ → ℕ → Told
 toldTo scheme former = keeping former (plain scheme)
 
--- the box behind a call that left o′, a place and a number: what was written before it is as it was, and where the number is 0 the box goes on behind the octets written
+-- the box behind a call that left o′, a place and a number: what was written before it is as it was, and where the number is 0 the box goes on behind the
+-- octets written
 abbrev pub behindCall : Space → List ℕ → ℕ → ℕ → Space
 behindCall z o′ place number = record { whole = take (z .written) (z .whole) ++ o′; written = z .written + cond (eqb number 0) place 0 }
 
@@ -35,4 +36,5 @@ CallsAll scheme former z (c ∷ cs) z′ = (z₁ : Space) × Calls scheme former
 
 -- what the box has then is what demand 3 speaks of
 abbrev pub StreamOfEntries : Type 0
-StreamOfEntries = (scheme former : ℕ) (o : List ℕ) (cs : List Call) (z : Space) → CallsAll scheme former (fresh o) cs z → z ≡ spaceOf (toldTo scheme former) o cs
+StreamOfEntries =
+    (scheme former : ℕ) (o : List ℕ) (cs : List Call) (z : Space) → CallsAll scheme former (fresh o) cs z → z ≡ spaceOf (toldTo scheme former) o cs

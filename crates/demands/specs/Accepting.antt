@@ -1,5 +1,6 @@
--- Demand 2 (00): "What is accepted, and what it means". That something is accepted, so that no build is meant that refuses everything (01, "What the written promises
--- must decide"): accepted messages have valid meanings, every valid meaning that fits is written and read back as itself, and there are such meanings of each kind.
+-- Demand 2 (00): "What is accepted, and what it means". That something is accepted, so that no build is meant that refuses everything (01, "What the written
+-- promises must decide"): accepted messages have valid meanings, every valid meaning that fits is written and read back as itself, and there are such
+-- meanings of each kind.
 use Prim.Native.Nat.{ℕ}
 use mathlib.Core.Path.{_≡_}
 use mathlib.Core.Bool.{Bool, true, false}

@@ -1,6 +1,7 @@
--- Demand 1 (00): "A refusal names its number and the byte where it arose, and not one byte of the space lent for output is altered". By 01, "Numbers a call answers
--- with", the number is one of those that the call can refuse with, each call's given here once as a set; the place is one of the input; and a refusal gives no ranges
--- and writes nothing. One statement of the three readers, the four turnings and the field question: `Demand1`. The C entries are in `boundary`.
+-- Demand 1 (00): "A refusal names its number and the byte where it arose, and not one byte of the space lent for output is altered". By 01, "Numbers a call
+-- answers with", the number is one of those that the call can refuse with, each call's given here once as a set; the place is one of the input; and a refusal
+-- gives no ranges and writes nothing. One statement of the three readers, the four turnings and the field question: `Demand1`. The C entries are in
+-- `boundary`.
 use Prim.Native.Nat.{ℕ, _≤_}
 use mathlib.Core.Path.{_≡_}
 use mathlib.Core.Bool.{true, false}

@@ -1,5 +1,5 @@
--- 01's numbers, as 01 prints them: every size ("Sizes"; the informational heads: "The two forms and the meaning between them"; the listing's input: "Examples") and every
--- refusal number ("Numbers a call answers with"). One statement, by computation.
+-- 01's numbers, as 01 prints them: every size ("Sizes"; the informational heads: "The two forms and the meaning between them"; the listing's input:
+-- "Examples") and every refusal number ("Numbers a call answers with"). One statement, by computation.
 use mathlib.Core.Path.{_≡_}
 use Rattle.octets.specs.Limits.{methodMost, authorityMost, pathMost, headMost, trailerMost, chunkLineMost, linesMost, chunksMost, contentMost, binaryMost}
 use Rattle.octets.specs.Limits.{informationalMost, listingMost}

@@ -1,5 +1,5 @@
--- Worked rows beside P1 to P13: what those leave open, each on the fewest octets (01, "Numbers a call answers with", "How we write", "Examples"). No row rests on what
--- an item of 02 changes. One statement, by computation; what a row of a list says is in `Examples`.
+-- Worked rows beside P1 to P13: what those leave open, each on the fewest octets (01, "Numbers a call answers with", "How we write", "Examples"). No row
+-- rests on what an item of 02 changes. One statement, by computation; what a row of a list says is in `Examples`.
 use Prim.Native.Nat.{ℕ}
 use mathlib.Core.Path.{_≡_}
 use mathlib.Core.Option.{none, some}

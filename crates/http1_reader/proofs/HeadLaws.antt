@@ -10,8 +10,10 @@ use Rattle.messages.specs.Message.{FieldRead}
 use Rattle.messages.specs.Names.{linesOf}
 use Rattle.messages.specs.Notes.{notesOf, hostsFrom, hostIn, AllLie, bodyAnswer}
 use Rattle.messages.specs.Rules.{authorityIn, framingOf, requestBody}
+use Rattle.messages.specs.declared.Authority.{Authority}
 use Rattle.messages.specs.declared.Authority.the-variants.{Found, Wrong}
 use Rattle.messages.specs.declared.Body.{Body}
+use Rattle.messages.specs.declared.BodyAnswer.{BodyAnswer}
 use Rattle.messages.specs.declared.BodyAnswer.the-variants as body
 use Rattle.messages.specs.declared.Hosts.{Hosts}
 use Rattle.messages.specs.declared.Framing.{Framing}
@@ -20,9 +22,19 @@ use Rattle.messages.specs.declared.Notes.{Notes}
 use Rattle.messages.proofs.Noting.{notes-hosts, notes-framing}
 use Rattle.messages.proofs.Hosting.{host-found, host-wrong}
 use Rattle.messages.proofs.Lengths.{body-read, body-refused}
-use Rattle.http1_reader.specs.Readers.{JudgedSays, HeadJudged}
+use Rattle.http1_reader.specs.Readers.{JudgedSays, HeadJudged, headAnswer}
 use Rattle.http1_reader.specs.declared.HeadAnswer.{HeadAnswer}
 use Rattle.http1_reader.specs.declared.HeadAnswer.the-variants as head
+
+-- the answer by its two parts
+pub answer-host : (end : ℕ) {x : Authority} (y : BodyAnswer) → x ≡ Wrong → head.Refused badHost end ≡ headAnswer end x y
+answer-host end y e = rw e refl
+
+pub answer-length : (end a n k p : ℕ) {x : Authority} {y : BodyAnswer} → x ≡ Found a n → y ≡ body.Refused k p → head.Refused k p ≡ headAnswer end x y
+answer-length end a n k p e f = rw (e, f) refl
+
+pub answer-good : (end a n : ℕ) (b : Body) {x : Authority} {y : BodyAnswer} → x ≡ Found a n → y ≡ body.Read b → head.Good a n b ≡ headAnswer end x y
+answer-good end a n b e f = rw (e, f) refl
 
 module _ (s : List ℕ) (end : ℕ) (notes : Notes) (lines : List FieldRead) (e : notes ≡ notesOf true lines) (lie : AllLie s lines) where
   hosts-are : notes .hosts ≡ hostsFrom (linesOf kind.Host lines)

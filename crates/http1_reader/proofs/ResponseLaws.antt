@@ -124,12 +124,12 @@ module _ {s hs hs′ ns ns′ : List ℕ} {r : HeadsRead} (w : HeadsTaken (respo
   pub responded-more : (cs cs′ ts ts′ : List ℕ) → r ≡ heads-read.More → Responded (readResponse t s) hs hs′ ns ns′ cs cs′ ts ts′ outcome.More
   unfolding readResponse
   responded-more cs cs′ ts ts′ q =
-      subst (λ (z : Answer Message). Responded z hs hs′ ns ns′ cs cs′ ts ts′ outcome.More) (sym (taken heads-read.More q call)) (record { says = refl; informational = tt })
+      subst (λ (z : Answer Message). Responded z hs hs′ ns ns′ cs cs′ ts ts′ outcome.More) (sym (taken heads-read.More q (afterFinal call))) (record { says = refl; informational = tt })
 
   pub responded-refused : (cs cs′ ts ts′ : List ℕ) (i p : ℕ) → r ≡ heads-read.Refused i p → Responded (readResponse t s) hs hs′ ns ns′ cs cs′ ts ts′ (outcome.Refusal i p)
   unfolding readResponse
   responded-refused cs cs′ ts ts′ i p q =
-      subst (λ (z : Answer Message). Responded z hs hs′ ns ns′ cs cs′ ts ts′ (outcome.Refusal i p)) (sym (taken (heads-read.Refused i p) q call))
+      subst (λ (z : Answer Message). Responded z hs hs′ ns ns′ cs cs′ ts ts′ (outcome.Refusal i p)) (sym (taken (heads-read.Refused i p) q (afterFinal call)))
       (record { says = refl; informational = tt })
 
   module _ (n e c k : ℕ) (notes : Notes) (q : r ≡ heads-read.Done n e c k notes) where
@@ -140,7 +140,7 @@ module _ {s hs hs′ ns ns′ : List ℕ} {r : HeadsRead} (w : HeadsTaken (respo
     unfolding readResponse
     responded-final cs cs′ ts ts′ o f =
         let d = taken (heads-read.Done n e c k notes) q in
-        subst (λ (z : Answer Message). Responded z hs hs′ ns ns′ cs cs′ ts ts′ o) (sym (d .5 call))
+        subst (λ (z : Answer Message). Responded z hs hs′ ns ns′ cs cs′ ts ts′ o) (sym (d .5 (afterFinal call)))
         (go (d .0) (d .1) (d .6) (d .7) (run (afterFinal call (d .0) n (d .1)) e (drop e s)) (of-heads call (d .0) n (d .1) s e) (f .by (d .0) (d .1) (d .2)))
       where
         go : (is : List InformationalRead) (h : Lines) → hs′ ≡ splice hs 0 (fieldsNumbers (informationalLines is ++ kept true (h .lines)))

@@ -14,9 +14,9 @@ use Rattle.messages.specs.Names.{kept}
 use Rattle.messages.specs.Answers.{fieldsNumbers, informationalNumbers, informationalLines}
 use Rattle.messages.specs.declared.Notes.{Notes}
 use Rattle.messages.proofs.Noting.{kept-few}
-use Rattle.http1.specs.Read.{Lines, informationalRead, ResponseCall, heads}
+use Rattle.http1.specs.Read.{Lines, informationalRead, BehindHeads, nextHead, headsThen}
 use Rattle.ranges.proofs.HeadsStored.{lines-snoc, fields-more, numbers-more}
-use Rattle.http1_reader.specs.Responses.{HeadStored, HeadSays, Headed, HeadsFacts, responseRun, HeadsSays, HeadsTaken}
+use Rattle.http1_reader.specs.Responses.{Onward, HeadStored, HeadSays, Headed, HeadsFacts, responseRun, HeadsSays, HeadsTaken}
 use Rattle.http1_reader.specs.declared.HeadRead.{HeadRead}
 use Rattle.http1_reader.specs.declared.HeadRead.the-variants as head
 use Rattle.http1_reader.specs.declared.HeadsRead.{HeadsRead}
@@ -33,7 +33,7 @@ pub record HeadsTo (s hs₀ hs ns₀ ns : List ℕ) (i left count base : ℕ) : 
   pub few : base ≤ count * linesMost
   pub stored : hs ≡ splice hs₀ 0 (fieldsNumbers (informationalLines read))
   pub numbers : ns ≡ splice ns₀ 0 (informationalNumbers read)
-  pub turn : (t : ResponseCall) → responseRun s t ≡ run (heads t (suc (informationalMost - count)) read left) i (drop i s)
+  pub turn : (v : BehindHeads) → responseRun s v ≡ run (headsThen v (suc (informationalMost - count)) read left) i (drop i s)
 
 pub heads-start : (s hs ns : List ℕ) → HeadsTo s hs hs ns ns 0 headMost 0 0
 unfolding informationalLines informationalNumbers fieldsNumbers
@@ -48,22 +48,28 @@ heads-start s hs ns =
       few = omega arith;
       stored = refl;
       numbers = refl;
-      turn = λ t. refl;
+      turn = λ v. refl;
     }
 
 module _ {s hs₀ hs hs′ ns₀ ns : List ℕ} {i left count base : ℕ} (to : HeadsTo s hs₀ hs ns₀ ns i left count base) {r : HeadRead}
-    (w : Headed (SoManyHeads count) (λ f is t. run (heads t (suc f) is left) i (drop i s)) s base hs hs′ r) where
-  says : (r′ : HeadRead) → r ≡ r′
-      → HeadSays (λ t. run (heads t (suc (informationalMost - count)) (to .read) left) i (drop i s)) (informationalMost - count) (to .read) s base hs hs′ r′
+    (w : Headed (SoManyHeads count) (λ is u v. run (nextHead u v is left) i (drop i s)) s base hs hs′ r) where
+  says : (r′ : HeadRead) → r ≡ r′ → HeadSays (λ u v. run (nextHead u v (to .read) left) i (drop i s)) (to .read) s base hs hs′ r′
   says r′ e =
-      subst (λ (z : HeadRead). HeadSays (λ t. run (heads t (suc (informationalMost - count)) (to .read) left) i (drop i s)) (informationalMost - count) (to .read) s base hs hs′ z) e
-      (w .by (informationalMost - count) (to .read) (to .counted))
+      subst (λ (z : HeadRead). HeadSays (λ u v. run (nextHead u v (to .read) left) i (drop i s)) (to .read) s base hs hs′ z) e (w .by (to .read) (to .counted))
+
+  -- what reads on behind an informational head: the heads that may still come
+  abbrev onward : BehindHeads → Onward
+  onward v = headsThen v (informationalMost - count)
+
+  turns : (v : BehindHeads) → responseRun s v ≡ run (nextHead (onward v) v (to .read) left) i (drop i s)
+  unfolding headsThen
+  turns v = to .turn v
 
   pub heads-more : (ns′ : List ℕ) → r ≡ head.More → HeadsTaken (responseRun s) s hs₀ hs′ ns₀ ns′ heads-read.More
-  heads-more ns′ e = record { says = λ t. to .turn t ∙ says head.More e t }
+  heads-more ns′ e = record { says = λ v. turns v ∙ says head.More e (onward v) v }
 
   pub heads-refused : (ns′ : List ℕ) (k p : ℕ) → r ≡ head.Refused k p → HeadsTaken (responseRun s) s hs₀ hs′ ns₀ ns′ (heads-read.Refused k p)
-  heads-refused ns′ k p e = record { says = λ t. to .turn t ∙ says (head.Refused k p) e t }
+  heads-refused ns′ k p e = record { says = λ v. turns v ∙ says (head.Refused k p) e (onward v) v }
 
   -- the fields of one head more
   stored-more : {e k : ℕ} {h : Lines} → HeadStored s base hs hs′ e k h → hs′ ≡ splice hs₀ 0 (fieldsNumbers (informationalLines (to .read) ++ kept true (h .lines)))
@@ -80,7 +86,7 @@ module _ {s hs₀ hs hs′ ns₀ ns : List ℕ} {i left count base : ℕ} (to : 
             record { end = d .1 .end; heads = to .counted; fields = omega (arith, d .1 .count); noted = d .2 },
             d .1 .within,
             omega (arith, d .1 .left),
-            λ t. to .turn t ∙ d .3 t,
+            λ v. turns v ∙ d .3 (onward v) v,
             stored-more (d .1),
             to .numbers,
           );
@@ -113,5 +119,5 @@ module _ {s hs₀ hs hs′ ns₀ ns : List ℕ} {i left count base : ℕ} (to : 
             few = omega (arith, few, to .few);
             stored = stored-more (d .1) ∙ rw (lines-snoc (to .read) x) refl;
             numbers = numbers-more ns₀ (to .read) x (to .counted) (to .numbers) f stores;
-            turn = λ t. to .turn t ∙ d .4 t ∙ ap (λ (m : ℕ). run (heads t m (to .read ++ x ∷ []) l) e (drop e s)) g;
+            turn = λ v. turns v ∙ d .4 (onward v) v ∙ ap (λ (m : ℕ). run (headsThen v m (to .read ++ x ∷ []) l) e (drop e s)) g;
           }

@@ -6,13 +6,14 @@ use mathlib.Core.Bool.{Bool, true, false}
 use mathlib.Core.List.{List, [], _∷_, _++_}
 use lib.ListN.{length, take, drop}
 use Rattle.octets.specs.Limits.{headMost}
+use Rattle.octets.specs.Refusals.{badHost}
 use Rattle.script.specs.Script.{Answer, accepted, refused, more, run}
 use Rattle.messages.specs.declared.Told.{Told}
 use Rattle.script.specs.Do.{Piece, piece, Judged, good, wrong}
 use Rattle.output.specs.Splice.{splice}
 use Rattle.messages.specs.Message.{FieldRead, Message}
 use Rattle.messages.specs.Names.{kept, keptTrailers}
-use Rattle.messages.specs.Notes.{notesOf, AllLie}
+use Rattle.messages.specs.Notes.{notesOf, hostIn, AllLie, bodyAnswer}
 use Rattle.messages.specs.Rules.{authorityIn, framingOf, requestBody}
 use Rattle.messages.specs.declared.Notes.{Notes}
 use Rattle.messages.specs.Answers.{fieldsNumbers, chunksNumbers, partAt, partOf, requestRecord, recordOf}
@@ -26,7 +27,11 @@ use Rattle.ranges.specs.Ranges.{Outcomed}
 use Rattle.http1_parts.specs.Section.{Before}
 use Rattle.http1_parts.specs.declared.ContentRead.{ContentRead}
 use Rattle.http1_parts.specs.declared.ContentRead.the-variants as content
+use Rattle.messages.specs.declared.Authority.{Authority}
+use Rattle.messages.specs.declared.Authority.the-variants as authority
 use Rattle.messages.specs.declared.Body.{Body}
+use Rattle.messages.specs.declared.BodyAnswer.{BodyAnswer}
+use Rattle.messages.specs.declared.BodyAnswer.the-variants as body
 use Rattle.messages.specs.declared.Outcome.{Outcome}
 use Rattle.messages.specs.declared.Outcome.the-variants as outcome
 use Rattle.http1_reader.specs.declared.HeadAnswer.{HeadAnswer}
@@ -42,10 +47,17 @@ JudgedSays (wrong n p) j r = r ≡ head.Refused n p
 pub record HeadJudged (a : Judged Piece) (b : Judged Body) (r : HeadAnswer) : Type 0 where
   pub says : JudgedSays a b r
 
--- a request's head that ends at a place, judged by notes: so are all lines in s of which these are the notes
+-- the answer by what the host lines and the lengths come to
+abbrev pub headAnswer : ℕ → Authority → BodyAnswer → HeadAnswer
+headAnswer end authority.Wrong b = head.Refused badHost end
+headAnswer end (authority.Found a n) (body.Refused k p) = head.Refused k p
+headAnswer end (authority.Found a n) (body.Read b) = head.Good a n b
+
+-- a request's head that ends at a place, judged by notes: so are all lines in s of which these are the notes; and the answer, of whatever notes
 pub record RequestJudged (s : List ℕ) (end : ℕ) (notes : Notes) (r : HeadAnswer) : Type 0 where
   pub by : (lines : List FieldRead) → notes ≡ notesOf true lines → AllLie s lines
       → HeadJudged (authorityIn end (piece 0 []) lines) (requestBody end (framingOf lines)) r
+  pub answer : r ≡ headAnswer end (hostIn s (notes .hosts)) (bodyAnswer (requestBody end (notes .framing)))
 
 -- ---- requests
 

@@ -21,7 +21,7 @@ use Rattle.messages.specs.Meaning.{Field, Informational, response, Meaning}
 use Rattle.messages.specs.Valid.{validFields, validHeads, validStated}
 use Rattle.messages.proofs.Valid.{section-fields, section-few, HeadOk, head-ok}
 use Rattle.messages.proofs.Stating.{fields-ok, Suited}
-use Rattle.http1.specs.Read.{lineWithin, afterHead, request, ResponseCall, afterFinal, heads}
+use Rattle.http1.specs.Read.{lineWithin, afterHead, request, ResponseCall, afterFinal, heads, headsThen}
 use Rattle.http1_writer.specs.Write.{crlf, sectionText, requestLine, statusLine, informationalText, bodyText}
 use Rattle.http1_round_trip.proofs.Placed.{linesAt, headAt, headsAt, placedFrom}
 use Rattle.http1_round_trip.proofs.Lines.{host-line, request-clean, request-good, statusWord, status-clean, status-good}
@@ -62,7 +62,7 @@ reads-head : (q : ResponseCall) (x : Informational) (f left at : ℕ) (is : List
     → Reads (heads q f (is ++ headAt at x ∷ []) (left - length (statusLine (x .status)) - length (sectionText (x .fields))))
     (at + length (statusLine (x .status)) + length (sectionText (x .fields))) y b
     → Reads (heads q (suc f) is left) at (statusLine (x .status) ++ (sectionText (x .fields) ++ y)) b
-unfolding heads statusLine
+unfolding headsThen statusLine
 reads-head q x f left at is {y} {b} o g fit ih =
     let w : List ℕ = statusWord (x .status) in
     let l : length (w ++ crlf) ≡ length w + 2 = length-append w crlf in
@@ -90,7 +90,7 @@ module _ (q : ResponseCall) (s : ℕ) (w : Meaning) (all : List Informational) (
 
   reads-final : (f left at : ℕ) (is : List InformationalRead) → 0 < f → length (statusLine s ++ sectionText final) ≤ left
       → Reads (heads q f is left) at (statusLine s ++ (sectionText final ++ bodyText (w .content) (w .trailers))) (finalTo is (at + length (statusLine s)))
-  unfolding heads afterFinal statusLine
+  unfolding headsThen afterFinal statusLine
   reads-final zero left at is h fit = absurd (omega arith)
   reads-final (suc f) left at is h fit =
       let i : List ℕ = statusWord s in

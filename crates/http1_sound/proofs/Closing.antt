@@ -27,7 +27,7 @@ use Rattle.messages.specs.declared.Framing.{Framing}
 use Rattle.messages.specs.declared.Framing.the-variants.{Unstated, Stated, Chunked, Clashing}
 use Rattle.messages.specs.declared.StatedLength.{StatedLength}
 use Rattle.http1.specs.Lines.{statusOf}
-use Rattle.http1.specs.Read.{lineWithin, less, Lines, section, content, ResponseCall, afterFinal, heads, readResponse}
+use Rattle.http1.specs.Read.{lineWithin, less, Lines, section, content, ResponseCall, afterFinal, heads, headsThen, readResponse}
 use Rattle.http1_sound.specs.Read.{ClosedLater}
 use Rattle.http1_sound.proofs.Sections.{section-at}
 
@@ -132,7 +132,7 @@ module _ (s : List ℕ) (t : Told) (c : ℕ) where
 
   heads-alike : (f : ℕ) (is : List InformationalRead) (left at : ℕ) → at ≤ length s
       → Alike (run (heads shut f is left) at (drop at s)) (run (heads still f is left) at (drop at s))
-  unfolding heads
+  unfolding headsThen
   heads-alike zero is left at w = alike refl
   heads-alike (suc f) is left at w =
       alike-bind (word (lineWithin left)) _ _ at w λ i l v d.

@@ -20,7 +20,7 @@ use Rattle.messages.specs.Valid.{isScheme}
 use Rattle.messages.specs.declared.Outcome.the-variants as outcome
 use Rattle.messages.specs.Told.{isYes}
 use Rattle.messages.specs.declared.Ending.the-variants.{Open}
-use Rattle.http1.specs.Read.{request, readRequest, ResponseCall, responseCall, heads, readResponse}
+use Rattle.http1.specs.Read.{request, readRequest, ResponseCall, responseCall, heads, headsThen, readResponse}
 use Rattle.http1_sound.specs.Front.{answers, First, Front}
 
 -- ---- any reader
@@ -74,7 +74,7 @@ module _ (t : Told) where
 -- ---- responses
 
 heads-within : (q : ResponseCall) (f : ℕ) (s : List ℕ) (n : ℕ) (m : Message) → run (heads q (suc f) [] headMost) 0 s ≡ accepted n m → (0 < n) × (n ≤ length s)
-unfolding heads _>>=_
+unfolding headsThen _>>=_
 heads-within q f s n m e = let h = line-accepted _ _ _ _ 0 s n m e in (omega arith, omega arith)
 
 pub response-within : (t : Told) → Within (readResponse t)

@@ -24,7 +24,7 @@ use Rattle.messages.specs.declared.Body.{Body}
 use Rattle.messages.specs.declared.Body.the-variants.{Sized, InChunks, UntilClosed}
 use Rattle.http1.specs.Lines.{isOther, version, requestParts, requestVersion, requestTarget, requestLens, onRequest, requestOf, statusAt, statusVersion, isStatusShape, statusLens, onStatus, statusOf}
 use Rattle.http1.specs.Lines.{fieldLens, onField, fieldOf, chunkLens, onChunk, chunkOf}
-use Rattle.http1.specs.Read.{lineWithin, less, Lines, fieldLines, section, trailerSection, chunkData, chunksFrom, content, afterHead, request, readRequest, ResponseCall, responseCall, afterFinal, heads, readResponse}
+use Rattle.http1.specs.Read.{lineWithin, less, Lines, fieldLines, section, trailerSection, chunkData, chunksFrom, content, afterHead, request, readRequest, ResponseCall, responseCall, afterFinal, heads, headsThen, readResponse}
 use Rattle.http1.specs.declared.RequestLine.{RequestLine}
 use Rattle.http1.specs.declared.RequestLine.the-variants as request
 use Rattle.http1.specs.declared.StatusLine.{StatusLine}
@@ -244,7 +244,7 @@ module _ {s : List ℕ} where
       stops-done tt
 
   stops-heads : (q : ResponseCall) (f : ℕ) {at : ℕ} (hs : List InformationalRead) (left : ℕ) → Refusing responseNumbers s (λ n m. Unit {0}) at (heads q f hs left)
-  unfolding heads
+  unfolding headsThen
   stops-heads q zero hs left = stops-stop (too-large response-wide (omega arith))
   stops-heads q (suc f) {at} hs left =
       stops-bind _ (stops-word (lineWithin left) (line-refuses response-wide left) λ w g i.

@@ -26,7 +26,7 @@ use Rattle.messages.specs.declared.Ending.{Ending}
 use Rattle.messages.specs.declared.StatedLength.{StatedLength}
 use Rattle.messages.specs.declared.Kind.the-variants as kind
 use Rattle.http1.specs.Lines.{RequestRead, requestOf, statusOf}
-use Rattle.http1.specs.Read.{lineWithin, less, Lines, section, Content, content, afterHead, request, readRequest, ResponseCall, responseCall, afterFinal, heads, readResponse}
+use Rattle.http1.specs.Read.{lineWithin, less, Lines, section, Content, content, afterHead, request, readRequest, ResponseCall, responseCall, afterFinal, heads, headsThen, readResponse}
 use Rattle.sound.specs.Sound.{Sound, StatesLength}
 use Rattle.http1_sound.specs.Read.{IsRequest, IsResponse, Unmeasured, SoundRequest, RequestsSound, ResponsesSound, Http1Reads}
 use Rattle.sound.proofs.Parts.{SectionAt, request-valid, HeadsAt, head-at, heads-none, heads-snoc, heads-lie, heads-good, response-valid, PartsAt, parts-sound}
@@ -172,7 +172,7 @@ module _ (s : List ℕ) (t : Told) where
       })
 
   every-heads : (f at : ℕ) (hs : List InformationalRead) (left : ℕ) → HeadsAt s hs → Every s (ResponseEnd t s) at (heads call f hs left)
-  unfolding heads
+  unfolding headsThen
   every-heads zero at hs left a = tt
   every-heads (suc f) at hs left a =
       every-bind s _ at (word (lineWithin left)) _ λ w g y.

@@ -1,6 +1,5 @@
 use borrow.Author.Needs.{needs}
 use Rattle.ranges.specs.Ranges.{AnyHeads}
-use Rattle.http1.specs.Read.{afterFinal}
 use Rattle.http1_reader.proofs.ResponseHeads.{headed-more, headed-refused, final-ends}
 use Rattle.http1_reader.proofs.response.final_head.Statement.{statement}
 use Rattle.http1_reader.proofs.response.final_head.Tie as tie
@@ -17,7 +16,7 @@ same-length : tie.Need-same-length
 same-length c = search needs
 
 returns : tie.Need-returns
-returns c = headed-more (c .before .before .before .before .before .before .before .before .args .s .now) _ _ _ _ _ _ (c .before .before .before .before .read-section .ensures) AnyHeads (λ f is t. afterFinal t is (c .before .before .before .before .before .before .before .before .args .status)) (c .enum-told .given .1)
+returns c = headed-more (c .before .before .before .before .before .before .before .before .args .s .now) _ _ _ _ _ _ (c .before .before .before .before .read-section .ensures) AnyHeads (λ is u v. v is (c .before .before .before .before .before .before .before .before .args .status)) (c .enum-told .given .1)
 
 enum-known-h : tie.Need-enum-known-h
 enum-known-h c = search needs
@@ -26,7 +25,7 @@ same-length-2 : tie.Need-same-length-2
 same-length-2 c = search needs
 
 returns-2 : tie.Need-returns-2
-returns-2 c = headed-refused (c .before .before .before .before .before .before .before .before .before .args .s .now) _ _ _ _ _ _ (c .before .before .before .before .before .read-section .ensures) AnyHeads (λ f is t. afterFinal t is (c .before .before .before .before .before .before .before .before .before .args .status)) _ _ (c .before .h .given .1)
+returns-2 c = headed-refused (c .before .before .before .before .before .before .before .before .before .args .s .now) _ _ _ _ _ _ (c .before .before .before .before .before .read-section .ensures) AnyHeads (λ is u v. v is (c .before .before .before .before .before .before .before .before .before .args .status)) _ _ (c .before .h .given .1)
 
 enum-known-h-2 : tie.Need-enum-known-h-2
 enum-known-h-2 c = search needs

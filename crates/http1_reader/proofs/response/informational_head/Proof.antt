@@ -1,7 +1,7 @@
 use borrow.Author.Needs.{needs}
 use mathlib.Core.Path.{sym, _∙_}
 use Rattle.ranges.specs.Ranges.{FewHeads}
-use Rattle.http1.specs.Read.{heads, afterInformational}
+use Rattle.http1.specs.Read.{afterInformational}
 use Rattle.http1_reader.proofs.ResponseHeads.{headed-more, headed-refused, informational-states, informational-ends}
 use Rattle.http1_reader.proofs.response.informational_head.Statement.{statement}
 use Rattle.http1_reader.proofs.response.informational_head.Tie as tie
@@ -18,7 +18,7 @@ same-length : tie.Need-same-length
 same-length c = search needs
 
 returns : tie.Need-returns
-returns c = headed-more (c .before .before .before .before .before .before .before .before .args .s .now) _ _ _ _ _ _ (c .before .before .before .before .read-section .ensures) FewHeads (λ f is t. afterInformational (heads t f) is (c .before .before .before .before .before .before .before .before .args .status)) (c .enum-told .given .1)
+returns c = headed-more (c .before .before .before .before .before .before .before .before .args .s .now) _ _ _ _ _ _ (c .before .before .before .before .read-section .ensures) FewHeads (λ is u v. afterInformational u is (c .before .before .before .before .before .before .before .before .args .status)) (c .enum-told .given .1)
 
 enum-known-h : tie.Need-enum-known-h
 enum-known-h c = search needs
@@ -27,7 +27,7 @@ same-length-2 : tie.Need-same-length-2
 same-length-2 c = search needs
 
 returns-2 : tie.Need-returns-2
-returns-2 c = headed-refused (c .before .before .before .before .before .before .before .before .before .args .s .now) _ _ _ _ _ _ (c .before .before .before .before .before .read-section .ensures) FewHeads (λ f is t. afterInformational (heads t f) is (c .before .before .before .before .before .before .before .before .before .args .status)) _ _ (c .before .h .given .1)
+returns-2 c = headed-refused (c .before .before .before .before .before .before .before .before .before .args .s .now) _ _ _ _ _ _ (c .before .before .before .before .before .read-section .ensures) FewHeads (λ is u v. afterInformational u is (c .before .before .before .before .before .before .before .before .before .args .status)) _ _ (c .before .h .given .1)
 
 enum-known-h-2 : tie.Need-enum-known-h-2
 enum-known-h-2 c = search needs
