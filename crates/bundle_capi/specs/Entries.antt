@@ -1,5 +1,6 @@
--- What the C entries on bundles answer, by value, and what they leave in what they are lent (02, items 1, 6 and 11), in terms of `walk`, `flockList`, `appendPlan`,
--- `rebuildChanges`, `markPlan` and `sweepChanges`; a flock's answer is `totalsAnswer` (flock_table/Table), salvage answers as `salvaging/Answers` says.
+-- What the C entries on bundles answer, by value, and what they leave in what they are lent (02, items 1, 6 and 11), in terms of `walk`, `flockList`,
+-- `appendPlan`, `rebuildChanges`, `markPlan` and `sweepChanges`; a flock's answer is `totalsAnswer` (flock_table/Table), salvage answers as
+-- `salvaging/Answers` says.
 use Prim.Native.Nat.{ℕ, _*_}
 use mathlib.Core.Path.{_≡_}
 use mathlib.Core.Bool.{Bool, true, false, cond}

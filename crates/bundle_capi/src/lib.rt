@@ -32,7 +32,8 @@ ghost use Rattle.flock_table.specs.Table.{totalsAnswer};
 ghost use Rattle.bundle_edit.specs.Append.{appendPlan};
 ghost use Rattle.bundle_edit.specs.Changes.{changedFrom, rebuildChanges};
 ghost use Rattle.bundle_edit.specs.Delivery.{markPlan, sweepChanges};
-ghost use Rattle.bundle_capi.specs.Entries.{BundleEntered, listOf, ListEntered, appendOf, AppendEntered, outcomeOf, RebuildEntered, markOf, MarkEntered, SweepEntered};
+ghost use Rattle.bundle_capi.specs.Entries.{BundleEntered, listOf, ListEntered, appendOf, AppendEntered, outcomeOf, RebuildEntered};
+ghost use Rattle.bundle_capi.specs.Entries.{markOf, MarkEntered, SweepEntered};
 
 // What the reader answers: 0, the bundle's length and the number of entries, or a refusal's number and place.
 #[repr(C)]
@@ -52,8 +53,8 @@ pub struct AppendAnswer {
     pub long: usize,
 }
 
-// What a call that changes the table, but for the appender, answers: 0 and the used length afterwards, or a refusal's number and place and the used length as it
-// was.
+// What a call that changes the table, but for the appender, answers: 0 and the used length afterwards, or a refusal's number and place and the used length as
+// it was.
 #[repr(C)]
 pub struct TableAnswer {
     pub number: u32,

@@ -1,5 +1,5 @@
--- What every call that changes a bundle, or the table beside it, judges first (02, items 1, 6 and 11): "16 at 0 for a table that has not 127 records, before all
--- else", "13 at 0 for a used length past the buffer", "the bundle's own". In each, `refuse` makes the call's answer of a number and a place.
+-- What every call that changes a bundle, or the table beside it, judges first (02, items 1, 6 and 11): "16 at 0 for a table that has not 127 records, before
+-- all else", "13 at 0 for a used length past the buffer", "the bundle's own". In each, `refuse` makes the call's answer of a number and a place.
 use Prim.Native.Nat.{ℕ}
 use mathlib.Core.Bool.{cond}
 use mathlib.Core.List.{List}

@@ -1,5 +1,5 @@
--- Room back in the bundle (02, item 11): "marking by entry number, counted from 0, and a sweep in the caller's buffer". "Order: 16, the appender's 13 at 0 for a
--- used length past the buffer, the bundle's own, 18": the first three are `onBundle` (Calls). Each call's answer, flat, and the buffer afterwards.
+-- Room back in the bundle (02, item 11): "marking by entry number, counted from 0, and a sweep in the caller's buffer". "Order: 16, the appender's 13 at 0 for
+-- a used length past the buffer, the bundle's own, 18": the first three are `onBundle` (Calls). Each call's answer, flat, and the buffer afterwards.
 use Prim.Native.Nat.{ℕ, _+_, _-_, _≤_}
 use mathlib.Core.Path.{_≡_}
 use mathlib.Core.Bool.{true, false, cond}

@@ -23,7 +23,8 @@ ghost use Rattle.output.specs.Splice.{splice, part};
 ghost use Rattle.bundle.specs.Bundle.{wordOf, flockOf, deliveredOf, isFlock, walk};
 ghost use Rattle.flock_table.specs.Table.{picked, isDelivered, tableOf, minus as minusOf};
 ghost use Rattle.bundle_edit.specs.Changes.{tableNumbers};
-ghost use Rattle.bundle_edit.specs.Delivery.{idlePlan, markingPlan, oneUndelivered, markPlanOf, markedOf, keptOctets, judgedCall, Finds, Marks, Sweeps, entryPlace};
+ghost use Rattle.bundle_edit.specs.Delivery.{idlePlan, markingPlan, oneUndelivered, markPlanOf, markedOf, keptOctets};
+ghost use Rattle.bundle_edit.specs.Delivery.{judgedCall, Finds, Marks, Sweeps, entryPlace};
 
 // A plan without a record to change.
 fn idle_plan(used: usize, number: u32, place: usize) -> Plan
@@ -200,7 +201,8 @@ fn move_forward(buf: &mut [u8], to: usize, from: usize, n: usize)
 // An entry of n octets is moved forward to the end of those that are kept, if it is not delivered.
 fn keep_if(buf: &mut [u8], end: usize, at: usize, n: usize, delivered: bool) -> usize
     requires { ⌜ (end ≤ at) × (at + n ≤ length (now buf)) ⌝ }
-    ensures { λ r. ⌜ (r ≡ cond delivered end (end + n)) × (now (buf .exit) ≡ cond delivered (now (buf .entry)) (splice (now (buf .entry)) end (part (now (buf .entry)) at n))) ⌝ }
+    ensures { λ r. ⌜ (r ≡ cond delivered end (end + n))
+        × (now (buf .exit) ≡ cond delivered (now (buf .entry)) (splice (now (buf .entry)) end (part (now (buf .entry)) at n))) ⌝ }
 {
     if delivered {
         return end;

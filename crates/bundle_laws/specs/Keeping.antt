@@ -1,5 +1,5 @@
--- The table kept beside a bundle (02, items 6 and 11): "A flock's answer reads its one record and equals the whole bundle's, given a table built from the bundle and kept by
--- these calls"; from an empty bundle or from a rebuild, through every sequence of calls, refused ones among them.
+-- The table kept beside a bundle (02, items 6 and 11): "A flock's answer reads its one record and equals the whole bundle's, given a table built from the
+-- bundle and kept by these calls"; from an empty bundle or from a rebuild, through every sequence of calls, refused ones among them.
 use Prim.Native.Nat.{ℕ, _+_, _-_, _≤_}
 use mathlib.Core.Path.{_≡_}
 use mathlib.Core.Bool.{true, false}

@@ -1,5 +1,5 @@
--- A small table of bundles (02, items 1, 6, 11 and 12), by computation: "For Figure 13, flock 5, not delivered, the head is `0a 40 00 30`", what each refusal looks
--- like, what is kept of a cut transfer, what a table counts, and what a mark and a sweep leave.
+-- A small table of bundles (02, items 1, 6, 11 and 12), by computation: "For Figure 13, flock 5, not delivered, the head is `0a 40 00 30`", what each refusal
+-- looks like, what is kept of a cut transfer, what a table counts, and what a mark and a sweep leave.
 use Prim.Native.Nat.{ℕ}
 use mathlib.Core.Path.{_≡_}
 use mathlib.Core.List.{List, [], _∷_, _++_}
@@ -57,7 +57,8 @@ Holds (salvages s count kept left stop) = salvageOf s ≡ record { entries = cou
 Holds (prints s line) = salvageLine s ≡ line
 Holds (counts s f e b u) = totals f (walk s .entries) ≡ record { entries = e; bytes = b; undelivered = u }
 Holds (besides n b used f m y) = appendReply n b used f m ≡ y
-Holds (enters e b u n e′ b′ u′) = plus (record { entries = e; bytes = b; undelivered = u }) (newRecord n) ≡ record { entries = e′; bytes = b′; undelivered = u′ }
+Holds (enters e b u n e′ b′ u′) =
+    plus (record { entries = e; bytes = b; undelivered = u }) (newRecord n) ≡ record { entries = e′; bytes = b′; undelivered = u′ }
 Holds (asks n f k) = totalsAnswer (replicate n none) f .number ≡ k
 Holds (rebuilds n s k p) = (rebuildChanges n s .number ≡ k) × (rebuildChanges n s .place ≡ p)
 Holds (marks n b used i k p l) = (markPlan n b used i .number ≡ k) × (markPlan n b used i .place ≡ p) × (marked n b used i ≡ l)
@@ -155,5 +156,10 @@ table =
 
 -- opens the definitions of bundles, so that the rows are proved by computation
 unfoldable pub opened : Unit {0}
-unfolding push wordOf headOctets entriesOctets messageVerdict headed nextAt walkFrom walk ofFlock flockList behindBundle bufferReply appendReply salvageOf salvageLine picked messageOctets plus sum slotOf rebuildChanges markPlan marked sweepChanges swept
+unfolding push wordOf headOctets entriesOctets messageVerdict headed nextAt walkFrom walk ofFlock flockList behindBundle appendReply salvageOf salvageLine
 opened = tt
+
+-- and those of tables
+unfoldable pub openedTables : Unit {0}
+unfolding bufferReply picked messageOctets plus sum slotOf rebuildChanges markPlan marked sweepChanges swept
+openedTables = tt
