@@ -88,19 +88,16 @@ pub fn bundle(input: &[u8]) -> Result<String, &'static str> {
 
 /// An append to a buffer, with a strip behind it that is not lent: the answer, the used length and the buffer afterwards. A refusal alters nothing and leaves the used length;
 /// an acceptance alters nothing before the used length and behind the new one.
-fn append_to(buffer: &[u8], used: usize, flock: u32, message: &[u8]) -> Result<(Answer, usize, Vec<u8>), &'static str> {
+fn append_to(buffer: &[u8], used: usize, flock: u32, message: &[u8]) -> Result<(Answer, usize, Vec<u8>, usize), &'static str> {
     let mut space = buffer.to_vec();
     space.extend([0xAA; 32]);
     let before = space.clone();
     let answer = unsafe { entries::ospirnar_append(space.as_mut_ptr(), buffer.len(), used, flock, message.as_ptr(), message.len()) };
-    if answer.long != 0 {
-        return Err("range");
-    }
     if answer.number != 0 {
-        return match (answer.used == used, space == before) {
+        return match (answer.used == used && answer.long == 0, space == before) {
             (false, _) => Err("range"),
             (_, false) => Err("altered"),
-            _ => Ok((Answer { number: answer.number, place: answer.place }, used, buffer.to_vec())),
+            _ => Ok((Answer { number: answer.number, place: answer.place }, used, buffer.to_vec(), 0)),
         };
     }
     if answer.place != 0 || answer.used < used || answer.used > buffer.len() {
@@ -110,22 +107,26 @@ fn append_to(buffer: &[u8], used: usize, flock: u32, message: &[u8]) -> Result<(
         return Err("altered");
     }
     space.truncate(buffer.len());
-    Ok((Answer { number: 0, place: 0 }, answer.used, space))
+    Ok((Answer { number: 0, place: 0 }, answer.used, space, answer.long))
 }
 
 pub fn append(flock: u32, used: usize, buffer: &[u8], message: &[u8]) -> Result<String, &'static str> {
-    let (answer, end, after) = append_to(buffer, used, flock, message)?;
+    let (answer, end, after, long) = append_to(buffer, used, flock, message)?;
     if answer.number != 0 {
         return Ok(refused(answer));
     }
     // exactly enough room does the same, one octet less is 13 at 0
-    if append_to(&buffer[..end], used, flock, message)? != (answer, end, after[..end].to_vec()) {
+    if append_to(&buffer[..end], used, flock, message)? != (answer, end, after[..end].to_vec(), long) {
         return Err("room");
     }
     if append_to(&buffer[..end - 1], used, flock, message)?.0 != (Answer { number: 13, place: 0 }) {
         return Err("room");
     }
-    let mut out = String::from("{\"n\":0,\"out\":");
+    let mut out = String::from("{");
+    if long > 0 {
+        out.push_str(&format!("\"long\":{long},"));
+    }
+    out.push_str("\"n\":0,\"out\":");
     hex(&mut out, after[..end].iter().copied());
     out.push_str(&format!(",\"used\":{end}}}"));
     Ok(out)

@@ -14,7 +14,12 @@ use Rattle.numbers.specs.Places.{push}
 use Rattle.numbers.specs.Integer.{intLen, tagOf, intBytes, plain}
 use Rattle.numbers.proofs.Places.{push-length}
 use Rattle.script.specs.Script.{Answer, accepted, refused, more}
-use Rattle.messages.specs.Message.{Message}
+use Rattle.messages.specs.Message.{Start, requestStart, responseStart, Message}
+use Rattle.messages.specs.Answers.{readingOf, recordFrom, recordOf}
+use Rattle.messages.specs.declared.Record.{Record}
+use Rattle.messages.specs.declared.Reading.{Reading}
+use Rattle.messages.specs.declared.Outcome.{Outcome}
+use Rattle.messages.specs.declared.Outcome.the-variants as outcome
 use Rattle.messages.specs.Meaning.{Control, request, response, Meaning, meaning}
 use Rattle.messages.specs.Valid.{ofResponse}
 use Rattle.binary.specs.Read.{readBinary}
@@ -27,10 +32,10 @@ use Rattle.output.specs.declared.Written.{Written}
 use Rattle.output.specs.declared.Written.the-variants.{Done, Refused}
 use Rattle.output.proofs.Laws.{splice-is, splice-before}
 use Rattle.turn.specs.Turn.{replyFrom, binaryToBinary}
-use Rattle.bundle.specs.Bundle.{headOf, headOctets, isFlock, kindNumber, walk}
+use Rattle.bundle.specs.Bundle.{headOf, headOctets, isFlock, readMessage, kindNumber, walk}
 use Rattle.bundle.specs.Answers.{bundleOf}
 use Rattle.bundle.specs.declared.Bundle.{Bundle}
-use Rattle.bundle_edit.specs.Append.{withHead, entryFor, messageEntry, behindWalk, behindBundle, appendReply, planOf, appendPlan, appended, Fair}
+use Rattle.bundle_edit.specs.Append.{withHead, entryFor, messageEntry, behindWalk, behindBundle, appendReply, planOf, longIn, appendPlan, appended, Fair}
 use Rattle.bundle_edit.specs.declared.Plan.{Plan}
 
 -- ---- a message's first octet is its kind
@@ -337,15 +342,54 @@ pub fair-done : (room used f n : ℕ) (w : Written) → Fair room used f w → w
 fair-done room used f n w h e = subst (Fair room used f) e h
 
 module _ (b : List ℕ) (used f : ℕ) (m : List ℕ) {r : Plan} where
-  pub plan-served : {b′ : List ℕ} {w : Written} → used ≤ length b → ServedAt (behindBundle b used f m) used b b′ w → r ≡ planOf used f w
+  pub plan-served : {b′ : List ℕ} {w : Written} → used ≤ length b → ServedAt (behindBundle b used f m) used b b′ w → r ≡ planOf used f (longIn (readMessage m)) w
       → (r ≡ appendPlan b used f m) × (b′ ≡ appended b used f m)
   unfolding appendPlan appended appendReply
-  plan-served u v e = rw (le-leb used (length b) u) (e ∙ ap (planOf used f) (v .answer), v .after)
+  plan-served u v e = rw (le-leb used (length b) u) (e ∙ ap (planOf used f (longIn (readMessage m))) (v .answer), v .after)
 
-  pub plan-past : length b < used → r ≡ planOf used f (Refused noRoom 0) → (r ≡ appendPlan b used f m) × (b ≡ appended b used f m)
+  pub plan-past : {n : ℕ} → length b < used → r ≡ planOf used f n (Refused noRoom 0) → (r ≡ appendPlan b used f m) × (b ≡ appended b used f m)
   unfolding appendPlan appended appendReply writtenOf lentAfterAt
   plan-past u e = rw (lt-leb used (length b) u) (e, refl)
+
+-- ---- the count of long integers
+
+module _ (x : Answer Message) {o : Outcome} (e : o ≡ readingOf x .outcome) where
+  pub long-message : {r : Record} → o ≡ outcome.Message r → r .long ≡ longIn x
+  unfolding recordOf
+  long-message {r} q = go x (sym q ∙ e)
+    where
+      by-start : (n : ℕ) (m : Message) (st : Start) → recordFrom st n m .long ≡ m .long
+      by-start n m (requestStart a b c d) = refl
+      by-start n m (responseStart a b) = refl
+
+      go : (y : Answer Message) → outcome.Message r ≡ readingOf y .outcome → r .long ≡ longIn y
+      go (accepted n m) z = let w : r ≡ recordOf n m = cc in ap (λ (c : Record). c .long) w ∙ by-start n m (m .start)
+      go (refused k p) z = let w : _≡_ {A = ℕ} 0 1 = cc in absurd (omega arith)
+      go more z = let w : _≡_ {A = ℕ} 0 1 = cc in absurd (omega arith)
+
+  pub long-refusal : {k p : ℕ} → o ≡ outcome.Refusal k p → 0 ≡ longIn x
+  long-refusal {k} {p} q = go x (sym q ∙ e)
+    where
+      go : (y : Answer Message) → outcome.Refusal k p ≡ readingOf y .outcome → 0 ≡ longIn y
+      go (accepted n m) z = let w : _≡_ {A = ℕ} 0 1 = cc in absurd (omega arith)
+      go (refused i j) z = refl
+      go more z = refl
+
+  pub long-more : o ≡ outcome.More → 0 ≡ longIn x
+  long-more q = go x (sym q ∙ e)
+    where
+      go : (y : Answer Message) → outcome.More ≡ readingOf y .outcome → 0 ≡ longIn y
+      go (accepted n m) z = let w : _≡_ {A = ℕ} 0 1 = cc in absurd (omega arith)
+      go (refused i j) z = refl
+      go more z = refl
 
 -- the answer under another name
 pub served-as : {y : Reply} {k : ℕ} {o o′ : List ℕ} {v w : Written} → ServedAt y k o o′ v → v ≡ w → ServedAt y k o o′ w
 served-as {y} {k} {o} {o′} h e = subst (λ (x : Written). ServedAt y k o o′ x) e h
+
+-- read as the bundle's messages are
+pub long-plain : (m : List ℕ) (t : Told) {r : Reading} → t ≡ toldPlain 0 → r ≡ readingOf (readBinary t m) → r .outcome ≡ readingOf (readMessage m) .outcome
+long-plain m t e q = ap (λ (x : Reading). x .outcome) q ∙ ap (λ (x : Told). readingOf (readBinary x m) .outcome) e
+
+pub plan-long : (m : List ℕ) {used f n : ℕ} {w : Written} {r : Plan} → n ≡ longIn (readMessage m) → r ≡ planOf used f n w → r ≡ planOf used f (longIn (readMessage m)) w
+plan-long m {used} {f} {w = w} e q = q ∙ ap (λ (k : ℕ). planOf used f k w) e

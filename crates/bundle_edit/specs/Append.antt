@@ -16,6 +16,8 @@ use Rattle.output.specs.declared.Written.the-variants.{Done, Refused}
 use Rattle.turn.specs.Turn.{replyFrom}
 use Rattle.octets.specs.Limits.{binaryMost, entriesMost}
 use Rattle.bundle.specs.Bundle.{headOf, headOctets, isFlock, readMessage, kindNumber, Walk, walk}
+use Rattle.script.specs.Script.{Answer, accepted, refused, more}
+use Rattle.messages.specs.Message.{Message}
 use Rattle.bundle_edit.specs.declared.Plan.{Plan}
 
 -- ---- what is written
@@ -51,14 +53,20 @@ appendReply b used f m = cond (leb used (length b)) (behindBundle b used f m) (r
 -- ---- the flat answer, and the buffer afterwards
 
 -- whether a record of a table is to be changed, which one and by how many octets of message; number, place and the used length afterwards; and how many
--- integers of the message were not in their shortest form, which is 0 until item 8
-abbrev pub planOf : ℕ → ℕ → Written → Plan
-planOf used f (Done n) = record { go = true; index = f - 1; size = n - 4; number = 0; place = 0; used = used + n; long = 0 }
-planOf used f (Refused number place) = record { go = false; index = 0; size = 0; number = number; place = place; used = used; long = 0 }
+-- integers of the message were not in their shortest form (item 8)
+abbrev pub planOf : ℕ → ℕ → ℕ → Written → Plan
+planOf used f long (Done n) = record { go = true; index = f - 1; size = n - 4; number = 0; place = 0; used = used + n; long = long }
+planOf used f long (Refused number place) = record { go = false; index = 0; size = 0; number = number; place = place; used = used; long = 0 }
+
+-- how many integers of a message that was read are not in their shortest form; none where it was refused
+abbrev pub longIn : Answer Message → ℕ
+longIn (accepted n m) = m .long
+longIn (refused k p) = 0
+longIn more = 0
 
 -- what an append answers: room is what is behind the used length, 13 at 0
 unfoldable pub appendPlan : List ℕ → ℕ → ℕ → List ℕ → Plan
-appendPlan b used f m = planOf used f (writtenOf (appendReply b used f m) (length b - used))
+appendPlan b used f m = planOf used f (longIn (readMessage m)) (writtenOf (appendReply b used f m) (length b - used))
 
 -- the buffer afterwards: a refusal alters no octet of it
 unfoldable pub appended : List ℕ → ℕ → ℕ → List ℕ → List ℕ

@@ -1,8 +1,10 @@
 // Appending to a bundle. Everything is judged before the head is written, so that a refused append alters no octet of the buffer.
+use binary_reader::whole::read_binary;
 use bundle::Bundle;
 use bundle::Head;
 use bundle::entry::is_flock;
 use bundle::reader::read_bundle;
+use messages::Outcome;
 use messages::call::plain;
 use octets::Limits;
 use octets::Refusals;
@@ -18,9 +20,9 @@ ghost use Rattle.output.specs.Splice.{splice};
 ghost use Rattle.output.specs.Reply.{ServedAt};
 ghost use Rattle.messages.specs.Told.{plain as toldPlain};
 ghost use Rattle.turn.specs.Turn.{binaryToBinary};
-ghost use Rattle.bundle.specs.Bundle.{headOf, headOctets, isFlock, walk};
+ghost use Rattle.bundle.specs.Bundle.{headOf, headOctets, isFlock, readMessage, walk};
 ghost use Rattle.bundle.specs.Answers.{bundleOf};
-ghost use Rattle.bundle_edit.specs.Append.{messageEntry, behindBundle, planOf, Planned, Fair};
+ghost use Rattle.bundle_edit.specs.Append.{messageEntry, behindBundle, planOf, longIn, Planned, Fair};
 
 // What a call that changes a bundle answers, flat: whether a table's record is to be changed, which one, by how many octets of message; number, place, the used
 // length afterwards; integers that were not in their shortest form.
@@ -35,9 +37,9 @@ pub struct Plan {
 }
 
 // The plan of a writer's answer.
-fn plan_of(room: usize, used: usize, flock: u32, w: Written) -> Plan
+fn plan_of(room: usize, used: usize, flock: u32, w: Written, long: usize) -> Plan
     requires { ⌜ Fair room used flock w ⌝ }
-    ensures { λ r. ⌜ r ≡ planOf used flock w ⌝ }
+    ensures { λ r. ⌜ r ≡ planOf used flock long w ⌝ }
 {
     match w {
         Written::Refused { number, place } => return Plan {
@@ -56,7 +58,7 @@ fn plan_of(room: usize, used: usize, flock: u32, w: Written) -> Plan
             number: 0,
             place: 0,
             used: used + n,
-            long: 0,
+            long,
         },
     }
 }
@@ -154,6 +156,23 @@ fn append_entry(buf: &mut [u8], used: usize, flock: u32, message: &[u8]) -> Writ
     }
 }
 
+// How many integers of the message are not in their shortest form.
+fn long_forms(message: &[u8]) -> usize
+    ensures { λ r. ⌜ r ≡ longIn (readMessage (now (message .entry))) ⌝ }
+{
+    let told = plain(0);
+    let m = read_binary(message, told);
+    let o = m.outcome;
+    match o {
+        Outcome::Message(r) => return r.long,
+        Outcome::Refusal {
+            number: _,
+            place: _,
+        } => return 0,
+        Outcome::More => return 0,
+    }
+}
+
 // A Binary message behind a bundle of `used` octets in the buffer, as an undelivered entry of the flock.
 pub fn append(buf: &mut [u8], used: usize, flock: u32, message: &[u8]) -> Plan
     ensures { λ r. ⌜ Planned (now (buf .entry)) used flock (now (message .entry)) (now (buf .exit)) r ⌝ }
@@ -161,7 +180,7 @@ pub fn append(buf: &mut [u8], used: usize, flock: u32, message: &[u8]) -> Plan
     let room = buf.len();
     if used <= room {
         let w = append_entry(buf, used, flock, message);
-        return plan_of(room, used, flock, w);
+        return plan_of(room, used, flock, w, long_forms(message));
     }
     plan_of(
         room,
@@ -171,5 +190,6 @@ pub fn append(buf: &mut [u8], used: usize, flock: u32, message: &[u8]) -> Plan
             number: Refusals::NO_ROOM,
             place: 0,
         },
+        0,
     )
 }
