@@ -243,6 +243,7 @@ struct Message {
     path: Part,
     status: u32,
     stated: Option<u64>,
+    long: u32,
     info: Vec<(u32, Vec<Field>)>,
     headers: Vec<Field>,
     chunks: Vec<Part>,
@@ -302,7 +303,7 @@ fn message(ranges: &[u32], input_len: usize) -> Result<(Message, usize), &'stati
         return Err("range");
     }
     let stated = (is_stated == 1).then_some(length);
-    taker.number_up_to(0)?;
+    let long = taker.number()?;
     taker.number_up_to(0)?;
     let mut info_heads = Vec::new();
     for i in 0..4 {
@@ -321,7 +322,7 @@ fn message(ranges: &[u32], input_len: usize) -> Result<(Message, usize), &'stati
     if chunks.iter().map(|chunk| chunk.len).sum::<usize>() != content {
         return Err("range");
     }
-    Ok((Message { request, scheme, method, authority, path, status, stated, info, headers, chunks, trailers }, taker.next))
+    Ok((Message { request, scheme, method, authority, path, status, stated, long, info, headers, chunks, trailers }, taker.next))
 }
 
 // ---------------------------------------------------------------------------------------- the answers
@@ -455,7 +456,11 @@ fn read(input: &[u8], call: impl Fn(&mut Lent<u32>) -> Answer) -> Result<String,
         return Err("range");
     }
     judge_room(&lent, used, answer, call)?;
-    let mut out = format!("{{\"len\":{},\"m\":", answer.place);
+    let mut out = format!("{{\"len\":{},", answer.place);
+    if m.long > 0 {
+        out.push_str(&format!("\"long\":{},", m.long));
+    }
+    out.push_str("\"m\":");
     meaning(&mut out, input, &m);
     out.push_str(",\"n\":0,\"r\":");
     numbers(&mut out, &m);
@@ -622,6 +627,9 @@ fn trip(line: &[u8]) -> Option<Result<(), &'static str>> {
             };
             if !back.starts_with(&format!("{{\"len\":{},", written.len())) {
                 return Err("the length is another");
+            }
+            if back.contains("\"long\":") {
+                return Err("an integer that was written is long");
             }
             if meaning_of(&back) != Some(before) {
                 return Err("the meaning is another");

@@ -27,7 +27,7 @@
  *   ranges[15]       1 where a response states the length of content that it does not have: a final response to a HEAD, or 304; else 0
  *   ranges[16]       that length, its low 32 bits: it has at most 15 digits, which 32 bits do not hold
  *   ranges[17]       its high 32 bits
- *   ranges[18]       0 (kept for document 02, item 8)
+ *   ranges[18]       how many integers of a Binary message are not in their shortest form, framing and terminators included, padding left out; 0 in HTTP/1.1
  *   ranges[19]       0 (kept for document 02, item 3)
  *   ranges[20..28]   status and number of fields of each informational head; 0 for those that are not there
  *   then             4 numbers for each field of the informational heads, in order,
@@ -129,7 +129,7 @@ struct ospirnar_bundle_answer {
     size_t place, count;
 };
 
-/* number 0: `place` is 0, `used` the length of the bundle afterwards, `long_forms` is 0. Otherwise a refusal: `place` is where it arose, `used` is as it was told. */
+/* number 0: `place` is 0, `used` the length of the bundle afterwards, `long_forms` how many integers of the message were not in their shortest form. Otherwise a refusal: `place` is where it arose, `used` is as it was told. */
 struct ospirnar_append_answer {
     uint32_t number;
     size_t place, used, long_forms;

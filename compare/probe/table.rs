@@ -117,18 +117,15 @@ fn push_table(out: &mut String, table: &Table, shown: bool) {
 
 /// An append to a buffer: the answer, the used length, and buffer and table afterwards. A refusal alters nothing and leaves the used length; an acceptance alters nothing before the used
 /// length and behind the new one, and no record but the flock's.
-fn append_to(table: &Table, buffer: &[u8], used: usize, flock: u32, message: &[u8]) -> Result<(Answer, usize, Vec<u8>, Table), &'static str> {
+fn append_to(table: &Table, buffer: &[u8], used: usize, flock: u32, message: &[u8]) -> Result<(Answer, usize, Vec<u8>, Table, usize), &'static str> {
     let (mut space, mut after) = (lend(buffer), table.clone());
     let before = space.clone();
     let answer = unsafe { entries::ospirnar_append(after.pointer(), table.len(), space.as_mut_ptr(), buffer.len(), used, flock, message.as_ptr(), message.len()) };
-    if answer.long != 0 {
-        return Err("range");
-    }
     if answer.number != 0 {
-        return match (answer.used == used, space == before && after == *table) {
+        return match (answer.used == used && answer.long == 0, space == before && after == *table) {
             (false, _) => Err("range"),
             (_, false) => Err("altered"),
-            _ => Ok((Answer { number: answer.number, place: answer.place }, used, buffer.to_vec(), after)),
+            _ => Ok((Answer { number: answer.number, place: answer.place }, used, buffer.to_vec(), after, 0)),
         };
     }
     if answer.place != 0 || answer.used < used || answer.used > buffer.len() || flock < 1 || flock as usize > table.len() {
@@ -141,22 +138,26 @@ fn append_to(table: &Table, buffer: &[u8], used: usize, flock: u32, message: &[u
         return Err("altered");
     }
     space.truncate(buffer.len());
-    Ok((Answer { number: 0, place: 0 }, answer.used, space, after))
+    Ok((Answer { number: 0, place: 0 }, answer.used, space, after, answer.long))
 }
 
 fn append(table: &Table, shown: bool, flock: u32, used: usize, buffer: &[u8], message: &[u8]) -> Result<String, &'static str> {
-    let (answer, end, after, counted) = append_to(table, buffer, used, flock, message)?;
+    let (answer, end, after, counted, long) = append_to(table, buffer, used, flock, message)?;
     if answer.number != 0 {
         return Ok(refused(answer));
     }
     // exactly enough room does the same, one octet less is 13 at 0
-    if append_to(table, &buffer[..end], used, flock, message)? != (answer, end, after[..end].to_vec(), counted.clone()) {
+    if append_to(table, &buffer[..end], used, flock, message)? != (answer, end, after[..end].to_vec(), counted.clone(), long) {
         return Err("room");
     }
     if append_to(table, &buffer[..end - 1], used, flock, message)?.0 != (Answer { number: 13, place: 0 }) {
         return Err("room");
     }
-    let mut out = String::from("{\"n\":0,\"out\":");
+    let mut out = String::from("{");
+    if long > 0 {
+        out.push_str(&format!("\"long\":{long},"));
+    }
+    out.push_str("\"n\":0,\"out\":");
     hex(&mut out, after[..end].iter().copied());
     push_table(&mut out, &counted, shown);
     out.push_str(&format!(",\"used\":{end}}}"));

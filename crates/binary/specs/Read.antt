@@ -11,7 +11,7 @@ use Rattle.octets.specs.Limits.{methodMost, authorityMost, pathMost, linesMost,
 use Rattle.octets.specs.Refusals.{badSyntax, notSupported, badLength, tooLarge, cutOff, badIndicator, badSection, badPadding, badEdition}
 use Rattle.script.specs.Script.{Answer, accepted, refused}
 use Rattle.script.specs.Do.{Piece, Judged, good, wrong}
-use Rattle.messages.specs.Message.{FieldRead, Section, InformationalRead, Start, requestStart, responseStart, Message, statingMessage, nonEmpty}
+use Rattle.messages.specs.Message.{FieldRead, Section, InformationalRead, Start, requestStart, responseStart, Message, countedMessage, nonEmpty}
 use Rattle.messages.specs.Control.{methodVerdict, pathVerdict, authorityVerdict, statusVerdict, isInformational, endsAtHead, isLowerName, isTrimmedValue}
 use Rattle.messages.specs.Names.{areTrailers, keptTrailers}
 use Rattle.messages.specs.Rules.{authorityIn, binaryFramingOf, nothingStated, bodylessRule, mayState, agrees, statedIn}
@@ -23,7 +23,7 @@ use Rattle.messages.specs.declared.Told.{Told}
 use Rattle.messages.specs.Told.{isEdition}
 use Rattle.messages.specs.Meaning.{contentOf}
 use Rattle.binary.specs.declared.Form.{Form}
-use Rattle.binary.specs.Reader.{Got, got, no, Reader, _>>=_, give, refuse, here, ended, tell, rule, integer, string}
+use Rattle.binary.specs.Reader.{Got, got, no, cursor, Reader, _>>=_, give, refuse, here, longs, ended, tell, rule, integer, string}
 
 -- ---- what an edition allows
 
@@ -145,14 +145,14 @@ knownLines form (suc f) fs = do
         h ← knownLine form
         knownLines form f (fs ++ h ∷ [])))
 
--- the body is read by itself; behind it the reading goes on
+-- the body is read by itself, with the count so far; behind it the reading goes on with its count
 abbrev pub onBody : Got (List FieldRead) → Reader (List FieldRead)
-onBody (got fs e r) at s = got fs at s
-onBody (no n p) at s = no n p
+onBody (got fs e r) c s = got fs (cursor (c .at) (e .long)) s
+onBody (no n p) c s = no n p
 
 -- the lines that fill the body b of a known-length section
 unfoldable pub bodyLines : Form → Piece → Reader (List FieldRead)
-bodyLines form b = onBody (knownLines form (suc linesMost) [] (b .place) (b .text))
+bodyLines form b c = onBody (knownLines form (suc linesMost) [] (cursor (b .place) (c .long)) (b .text)) c
 
 -- a known-length section: its length, and the lines that fill its body
 unfoldable pub knownSection : Form → Reader (List FieldRead)
@@ -261,18 +261,19 @@ trailers form body = do
         tell (trailerRule body h))
 
 -- zero octets may follow, to the end, where the edition allows padding; any other octet is refused at its place
-unfoldable pub padding : Form → ℕ → List ℕ → Got ℕ
-padding form at [] = got at at []
-padding form at (b ∷ s) = cond (cond (form .padded) (eqb b 0) false) (padding form (at + 1) s) (no badPadding at)
+unfoldable pub padding : Form → Reader ℕ
+padding form c [] = got (c .at) c []
+padding form c (b ∷ s) = cond (cond (form .padded) (eqb b 0) false) (padding form (cursor (c .at + 1) (c .long)) s) (no badPadding (c .at))
 
 -- ---- whole messages
 
--- behind the content: trailers and padding
+-- behind the content: trailers and padding. What follows the trailers is padding, in which no integer is counted
 unfoldable pub afterContent : Form → Bool → StatedLength → Start → List FieldRead → List Piece → Reader Message
 afterContent form body stated start lines c = do
   ts ← trailers form body
+  n ← longs
   z ← padding form
-  give (statingMessage stated start lines c ts)
+  give (countedMessage n stated start lines c ts)
 
 -- behind a header section that was judged: content, trailers, padding. `body` says whether the message may have content, `stated` the length it states if not
 unfoldable pub afterHeaders : Form → Bool → StatedLength → Start → Section → Framing → Reader Message
@@ -368,12 +369,12 @@ message t = do
 
 -- the whole input is the message, padding too
 abbrev pub messageAnswer : Got Message → Answer Message
-messageAnswer (got m n r) = accepted n m
+messageAnswer (got m c r) = accepted (c .at) m
 messageAnswer (no k p) = refused k p
 
 -- the input in an edition; above the size it is 8 at 0, first
 unfoldable pub readSized : Told → List ℕ → Answer Message
-readSized t s = cond (leb (length s) binaryMost) (messageAnswer (message t 0 s)) (refused tooLarge 0)
+readSized t s = cond (leb (length s) binaryMost) (messageAnswer (message t (cursor 0 0) s)) (refused tooLarge 0)
 
 -- a whole Binary message in the edition told; another number is 17 at 0, before all else
 unfoldable pub readBinary : Told → List ℕ → Answer Message

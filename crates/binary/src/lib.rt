@@ -8,3 +8,9 @@ pub struct Form {
     pub padded: bool,
     pub headless: bool,
 }
+
+// How far a reader has come: a place, and how many integers before it are not in their shortest form.
+pub struct Cursor {
+    pub at: usize,
+    pub long: usize,
+}

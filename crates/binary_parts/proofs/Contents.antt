@@ -1,6 +1,6 @@
 -- Content that was read: chunks one behind the other, content of known length.
 use Prim.Native.Nat.{ℕ, suc, _+_, _-_, _*_, _<_, _≤_}
-use mathlib.Core.Path.{_≡_, refl, sym, _∙_, subst}
+use mathlib.Core.Path.{_≡_, refl, sym, ap, _∙_, subst}
 use mathlib.Core.List.{List, [], _∷_, _++_}
 use mathlib.Core.Bool.{Bool, true, false}
 use native.Mathlib.Omega.{arith}
@@ -14,7 +14,8 @@ use Rattle.ranges.proofs.Stored.{chunk-next}
 use Rattle.messages.specs.Meaning.{contentOf}
 use Rattle.messages.specs.Answers.{chunksNumbers}
 use Rattle.sound.proofs.Each.{content-snoc}
-use Rattle.binary.specs.Reader.{Got, got, no, _>>=_}
+use Rattle.binary.specs.declared.Cursor.{Cursor}
+use Rattle.binary.specs.Reader.{cursor, Got, got, no, _>>=_}
 use Rattle.binary.specs.Read.{partWithin, openChunks, knownContent, content, openContent}
 use Rattle.binary_parts.specs.Control.{Parted}
 use Rattle.binary_parts.specs.Content.{ChunkSays, ChunkLies, Chunked, ContentSays, Contented}
@@ -32,36 +33,37 @@ contented-as {s} {o = o} {o′ = o′} {r = r} e h = subst (λ (z : Got (List Pi
 pub contented-no : {s : List ℕ} {x : Got (List Piece)} {n p : ℕ} {o o′ : List ℕ} → x ≡ no n p → Contented s x o o′ (Refused n p)
 contented-no e = contented-as e (record { says = refl })
 
-same-done : {a b c x y z : ℕ} → a ≡ x → b ≡ y → c ≡ z → Done a b c ≡ Done x y z
+same-done : {a x : Cursor} {b c y z : ℕ} → a ≡ x → b ≡ y → c ≡ z → Done a b c ≡ Done x y z
 same-done e f g = rw (e, f, g)
 
-pub contented-got : {s : List ℕ} {x : Got (List Piece)} {end count total : ℕ} {o o′ : List ℕ} (cs : List Piece) → x ≡ got cs end (drop end s)
-    → end ≤ length s → length cs ≡ count → length (contentOf cs) ≡ total → o′ ≡ splice o 0 (chunksNumbers cs) → Contented s x o o′ (Done end count total)
-contented-got cs e h a b c = contented-as e (record { says = (same-done refl (sym a) (sym b), c, (h, refl)) })
+pub contented-got : {s : List ℕ} {x : Got (List Piece)} {end : Cursor} {count total : ℕ} {o o′ : List ℕ} (cs : List Piece) → x ≡ got cs end (drop (end .at) s)
+    → (end .at ≤ length s) × (end .long ≤ end .at) → length cs ≡ count → length (contentOf cs) ≡ total → o′ ≡ splice o 0 (chunksNumbers cs) → Contented s x o o′ (Done end count total)
+contented-got cs e h a b c = contented-as e (record { says = (same-done refl (sym a) (sym b), c, (h .0, refl, h .1)) })
 
 -- ---- chunks
 
-module _ {s : List ℕ} {at count total : ℕ} {r : ChunkRead} (h : Chunked s at count total r) where
-  pub chunk-bounds : {start len : ℕ} → r ≡ chunk-is.Next start len → (start + len ≤ length s) × (total + len ≤ contentMost) × (count < chunksMost)
+module _ {s : List ℕ} {at : Cursor} {count total : ℕ} {r : ChunkRead} (h : Chunked s at count total r) where
+  pub chunk-bounds : {start len long : ℕ} → r ≡ chunk-is.Next start len long
+      → (start + len ≤ length s) × (total + len ≤ contentMost) × (count < chunksMost) × (long ≤ start + len)
   chunk-bounds e = subst (λ (q : ChunkRead). ChunkLies s count total q) e (h .lies)
 
-  pub last-bounds : {end : ℕ} → r ≡ chunk-is.Last end → end ≤ length s
+  pub last-bounds : {end : Cursor} → r ≡ chunk-is.Last end → (end .at ≤ length s) × (end .long ≤ end .at)
   last-bounds e = subst (λ (q : ChunkRead). ChunkLies s count total q) e (h .lies)
 
-  module _ (cs : List Piece) (c : length cs ≡ count) {x : Got (List Piece)} (g : x ≡ openChunks (suc (chunksMost - count)) cs total at (drop at s)) where
+  module _ (cs : List Piece) (c : length cs ≡ count) {x : Got (List Piece)} (g : x ≡ openChunks (suc (chunksMost - count)) cs total at (drop (at .at) s)) where
     said : {q : ChunkRead} → r ≡ q → ChunkSays s (chunksMost - count) cs total x q
     said {q} e = subst (λ (y : Got (List Piece)). ChunkSays s (chunksMost - count) cs total y q) (sym g)
-        (subst (λ (y : ChunkRead). ChunkSays s (chunksMost - count) cs total (openChunks (suc (chunksMost - count)) cs total at (drop at s)) y) e
+        (subst (λ (y : ChunkRead). ChunkSays s (chunksMost - count) cs total (openChunks (suc (chunksMost - count)) cs total at (drop (at .at) s)) y) e
         (h .says (chunksMost - count) cs c))
 
     pub refused-said : {n p : ℕ} → r ≡ chunk-is.Refused n p → x ≡ no n p
     refused-said e = said e
 
-    pub last-said : {end : ℕ} → r ≡ chunk-is.Last end → x ≡ got cs end (drop end s)
+    pub last-said : {end : Cursor} → r ≡ chunk-is.Last end → x ≡ got cs end (drop (end .at) s)
     last-said e = said e
 
-    pub next-said : {start len : ℕ} → r ≡ chunk-is.Next start len
-        → x ≡ openChunks (suc (chunksMost - (count + 1))) (cs ++ piece start (take len (drop start s)) ∷ []) (total + len) (start + len) (drop (start + len) s)
+    pub next-said : {start len long : ℕ} → r ≡ chunk-is.Next start len long
+        → x ≡ openChunks (suc (chunksMost - (count + 1))) (cs ++ piece start (take len (drop start s)) ∷ []) (total + len) (cursor (start + len) long) (drop (start + len) s)
     next-said e = let f : chunksMost - count ≡ suc (chunksMost - (count + 1)) = omega (arith, chunk-bounds e) in rw (← f) (said e)
 
 -- one chunk more
@@ -76,21 +78,21 @@ module _ (s : List ℕ) (start len : ℕ) (within : start + len ≤ length s) wh
 
 -- ---- content of known length
 
-module _ (s : List ℕ) (from : ℕ) {r : PartRead} (h : Parted s (partWithin contentMost from (drop from s)) r) {o o′ : List ℕ} where
-  pub known-no : {n p : ℕ} → r ≡ part-is.Refused n p → Contented s (knownContent from (drop from s)) o o′ (Refused n p)
+module _ (s : List ℕ) (from : Cursor) {r : PartRead} (h : Parted s (partWithin contentMost from (drop (from .at) s)) r) {o o′ : List ℕ} where
+  pub known-no : {n p : ℕ} → r ≡ part-is.Refused n p → Contented s (knownContent from (drop (from .at) s)) o o′ (Refused n p)
   unfolding knownContent _>>=_
   known-no e = contented-no (rw (part-no h e))
 
-  module _ {a n : ℕ} (e : r ≡ part-is.Is a n) where
-    pub known-none : n ≡ 0 → o′ ≡ o → Contented s (knownContent from (drop from s)) o o′ (Done (a + n) 0 0)
+  module _ {a n k : ℕ} (e : r ≡ part-is.Is a n k) where
+    pub known-none : n ≡ 0 → o′ ≡ o → Contented s (knownContent from (drop (from .at) s)) o o′ (Done (cursor (a + n) k) 0 0)
     unfolding knownContent _>>=_ isEmpty contentOf chunksNumbers
     known-none z q =
-        contented-got [] (rw (part-got h e .0, part-length s a n (part-got h e .1), eq-eqb n 0 z)) (part-got h e .1) refl refl q
+        contented-got [] (rw (part-got h e .0, part-length s a n (part-got h e .1), eq-eqb n 0 z)) (part-got h e .1, part-got h e .2) refl refl q
 
-    pub known-one : (n ≡ 0 → ⊥) → o′ ≡ splice o 0 (a ∷ n ∷ []) → Contented s (knownContent from (drop from s)) o o′ (Done (a + n) 1 n)
+    pub known-one : (n ≡ 0 → ⊥) → o′ ≡ splice o 0 (a ∷ n ∷ []) → Contented s (knownContent from (drop (from .at) s)) o o′ (Done (cursor (a + n) k) 1 n)
     unfolding knownContent _>>=_ isEmpty contentOf chunksNumbers
     known-one z q = let b = part-got h e .1 in
-        contented-got (piece a (take n (drop a s)) ∷ []) (rw (part-got h e .0, part-length s a n b, ne-eqb n 0 z)) b refl
+        contented-got (piece a (take n (drop a s)) ∷ []) (rw (part-got h e .0, part-length s a n b, ne-eqb n 0 z)) (b, part-got h e .2) refl
         (content-next s a n b [] refl ∙ omega arith) (chunk-stored s a n b [] o refl refl q)
 
 -- ---- content
@@ -99,31 +101,32 @@ some-left : (s : List ℕ) (from : ℕ) → from < length s → isEmpty (drop fr
 unfolding isEmpty
 some-left s from h = rw (length-drop from s, ne-eqb (length s - from) 0 (λ z. omega (arith, z)))
 
-module _ (s : List ℕ) (from : ℕ) (known : Bool) {o o′ : List ℕ} where
-  pub content-none : from ≤ length s → length s ≤ from → o′ ≡ o → Contented s (content known from (drop from s)) o o′ (Done from 0 0)
+module _ (s : List ℕ) (from : Cursor) (known : Bool) {o o′ : List ℕ} where
+  pub content-none : from .at ≤ length s → from .long ≤ from .at → length s ≤ from .at → o′ ≡ o → Contented s (content known from (drop (from .at) s)) o o′ (Done from 0 0)
   unfolding content _>>=_ isEmpty contentOf chunksNumbers
-  content-none g h q =
-      let z : length s - from ≡ 0 = omega arith in
-      contented-got [] (rw (length-drop from s, eq-eqb (length s - from) 0 z)) g refl refl q
+  content-none g b h q =
+      let z : length s - from .at ≡ 0 = omega arith in
+      contented-got [] (rw (length-drop (from .at) s, eq-eqb (length s - from .at) 0 z)) (g, b) refl refl q
 
-  module _ {r : ContentRead} (h : from < length s) where
-    pub content-known : known ≡ true → Contented s (knownContent from (drop from s)) o o′ r → Contented s (content known from (drop from s)) o o′ r
+  module _ {r : ContentRead} (h : from .at < length s) where
+    pub content-known : known ≡ true → Contented s (knownContent from (drop (from .at) s)) o o′ r → Contented s (content known from (drop (from .at) s)) o o′ r
     unfolding content _>>=_
-    content-known k q = contented-as (rw (some-left s from h, k)) q
+    content-known k q = contented-as (rw (some-left s (from .at) h, k)) q
 
-    pub content-open : known ≡ false → Contented s (openContent from (drop from s)) o o′ r → Contented s (content known from (drop from s)) o o′ r
+    pub content-open : known ≡ false → Contented s (openContent from (drop (from .at) s)) o o′ r → Contented s (content known from (drop (from .at) s)) o o′ r
     unfolding content _>>=_
-    content-open k q = contented-as (rw (some-left s from h, k)) q
+    content-open k q = contented-as (rw (some-left s (from .at) h, k)) q
 
 -- ---- what the caller learns
 
-pub record ContentDone (s : List ℕ) (x : Got (List Piece)) (o o′ : List ℕ) (end count total : ℕ) : Type 0 where
+pub record ContentDone (s : List ℕ) (x : Got (List Piece)) (o o′ : List ℕ) (end : Cursor) (count total : ℕ) : Type 0 where
   pub chunks : List Piece
-  pub taken : x ≡ got chunks end (drop end s)
+  pub taken : x ≡ got chunks end (drop (end .at) s)
   pub counted : length chunks ≡ count
   pub sum : length (contentOf chunks) ≡ total
   pub stored : o′ ≡ splice o 0 (chunksNumbers chunks)
-  pub within : end ≤ length s
+  pub within : end .at ≤ length s
+  pub few : end .long ≤ end .at
 
 module _ {s : List ℕ} {x : Got (List Piece)} {o o′ : List ℕ} {r : ContentRead} (h : Contented s x o o′ r) where
   pub content-no : {n p : ℕ} → r ≡ Refused n p → x ≡ no n p
@@ -133,7 +136,7 @@ module _ {s : List ℕ} {x : Got (List Piece)} {o o′ : List ℕ} {r : ContentR
       go (got cs i l) q = let d = q .0 in cc
       go (no m k) q = cc
 
-  pub content-done : {end count total : ℕ} → r ≡ Done end count total → ContentDone s x o o′ end count total
+  pub content-done : {end : Cursor} {count total : ℕ} → r ≡ Done end count total → ContentDone s x o o′ end count total
   content-done {end} {count} {total} e = go x (h .says)
     where
       go : (y : Got (List Piece)) → ContentSays s y o o′ r → ContentDone s y o o′ end count total
@@ -142,6 +145,14 @@ module _ {s : List ℕ} {x : Got (List Piece)} {o o′ : List ℕ} {r : ContentR
           let a : i ≡ end = cc in
           let b : length cs ≡ count = cc in
           let c : length (contentOf cs) ≡ total = cc in
-          let l′ : l ≡ drop end s = q .2 .1 ∙ rw a in
-          record { chunks = cs; taken = rw (a, l′); counted = b; sum = c; stored = q .1; within = omega (arith, q .2 .0, a) }
+          let l′ : l ≡ drop (end .at) s = q .2 .1 ∙ ap (λ (z : Cursor). drop (z .at) s) a in
+          record {
+            chunks = cs;
+            taken = rw (a, l′);
+            counted = b;
+            sum = c;
+            stored = q .1;
+            within = subst (λ (z : Cursor). z .at ≤ length s) a (q .2 .0);
+            few = subst (λ (z : Cursor). z .long ≤ z .at) a (q .2 .2);
+          }
       go (no m k) q = let z : _≡_ {A = ℕ} 0 1 = cc in absurd (omega arith)

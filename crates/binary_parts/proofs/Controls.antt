@@ -7,7 +7,8 @@ use lib.ListN.{length, drop}
 use Rattle.octets.specs.Limits.{methodMost, authorityMost, pathMost}
 use Rattle.script.specs.Do.{Piece, piece}
 use Rattle.messages.specs.Control.{methodVerdict, authorityVerdict, pathVerdict}
-use Rattle.binary.specs.Reader.{Got, got, no, _>>=_}
+use Rattle.binary.specs.declared.Cursor.{Cursor}
+use Rattle.binary.specs.Reader.{Got, got, no, cursor, _>>=_}
 use Rattle.binary.specs.Read.{RequestControl, ruledPart, schemePart, afterScheme, requestControl}
 use Rattle.binary_parts.specs.Control.{StandsIn, Parted, Schemed, spanOf, pieceOf, Inside, controlOf, ControlSays, Controlled}
 use Rattle.binary_parts.specs.declared.Span.{Span}
@@ -32,59 +33,60 @@ controlled-as {s} {r = r} e h = subst (λ (z : Got RequestControl). Controlled s
 controlled-no : {s : List ℕ} {x : Got RequestControl} {n p : ℕ} → x ≡ no n p → Controlled s x (control-is.Refused n p)
 controlled-no e = controlled-as e (record { says = refl })
 
-controlled-got : (s : List ℕ) (m a p : Span) {v e : ℕ} {x : Got RequestControl} → Inside s m → v < 2 → Inside s a → Inside s p → e ≤ length s
-    → x ≡ got (controlOf s m v a p) e (drop e s) → Controlled s x (control-is.Done m v a p e)
-controlled-got s m a p f g h i j q =
+controlled-got : (s : List ℕ) (m a p : Span) {v : ℕ} {e : Cursor} {x : Got RequestControl} → Inside s m → v < 2 → Inside s a → Inside s p → e .at ≤ length s → e .long ≤ e .at
+    → x ≡ got (controlOf s m v a p) e (drop (e .at) s) → Controlled s x (control-is.Done m v a p e)
+controlled-got s m a p f g h i j k q =
     controlled-as q
     (record {
       says =
-          (rw (span-back s m f, span-back s a h, span-back s p i), stands-in s (m .start) (m .len) f, g, stands-in s (a .start) (a .len) h, stands-in s (p .start) (p .len) i, (j, refl));
+          (rw (span-back s m f, span-back s a h, span-back s p i), stands-in s (m .start) (m .len) f, g, stands-in s (a .start) (a .len) h, stands-in s (p .start) (p .len) i, (j, refl, k));
     })
 
 -- ---- behind method and scheme
 
-module _ (s : List ℕ) (from : ℕ) (m : Span) (v : ℕ) (f : Inside s m) (g : v < 2) {r : PartRead}
-    (a : Parted s (ruledPart authorityMost authorityVerdict from (drop from s)) r) where
-  pub authority-no : {n p : ℕ} → r ≡ Refused n p → Controlled s (afterScheme (pieceOf s m) v from (drop from s)) (control-is.Refused n p)
+module _ (s : List ℕ) (from : Cursor) (m : Span) (v : ℕ) (f : Inside s m) (g : v < 2) {r : PartRead}
+    (a : Parted s (ruledPart authorityMost authorityVerdict from (drop (from .at) s)) r) where
+  pub authority-no : {n p : ℕ} → r ≡ Refused n p → Controlled s (afterScheme (pieceOf s m) v from (drop (from .at) s)) (control-is.Refused n p)
   unfolding afterScheme _>>=_
   authority-no e = controlled-no (rw (part-no a e))
 
-  module _ {i k : ℕ} (e : r ≡ Is i k) {q : PartRead} (p : Parted s (ruledPart pathMost pathVerdict (i + k) (drop (i + k) s)) q) where
-    pub path-no : {n o : ℕ} → q ≡ Refused n o → Controlled s (afterScheme (pieceOf s m) v from (drop from s)) (control-is.Refused n o)
+  module _ {i k x : ℕ} (e : r ≡ Is i k x) {q : PartRead} (p : Parted s (ruledPart pathMost pathVerdict (cursor (i + k) x) (drop (i + k) s)) q) where
+    pub path-no : {n o : ℕ} → q ≡ Refused n o → Controlled s (afterScheme (pieceOf s m) v from (drop (from .at) s)) (control-is.Refused n o)
     unfolding afterScheme _>>=_
     path-no d = controlled-no (rw (part-got a e .0, part-no p d))
 
-    pub rest-got : {j n : ℕ} → q ≡ Is j n → Controlled s (afterScheme (pieceOf s m) v from (drop from s)) (control-is.Done m v (span i k) (span j n) (j + n))
+    pub rest-got : {j n y : ℕ} → q ≡ Is j n y → Controlled s (afterScheme (pieceOf s m) v from (drop (from .at) s)) (control-is.Done m v (span i k) (span j n) (cursor (j + n) y))
     unfolding afterScheme _>>=_
-    rest-got {j} {n} d =
-        controlled-got s m (span i k) (span j n) f g (part-got a e .1) (part-got p d .1) (part-got p d .1) (rw (part-got a e .0, part-got p d .0))
+    rest-got {j} {n} {y} d =
+        controlled-got s m (span i k) (span j n) f g (part-got a e .1) (part-got p d .1) (part-got p d .1) (part-got p d .2) (rw (part-got a e .0, part-got p d .0))
 
 -- ---- method and scheme
 
-module _ (s : List ℕ) (from : ℕ) {r : PartRead} (m : Parted s (ruledPart methodMost methodVerdict from (drop from s)) r) where
-  pub method-no : {n p : ℕ} → r ≡ Refused n p → Controlled s (requestControl from (drop from s)) (control-is.Refused n p)
+module _ (s : List ℕ) (from : Cursor) {r : PartRead} (m : Parted s (ruledPart methodMost methodVerdict from (drop (from .at) s)) r) where
+  pub method-no : {n p : ℕ} → r ≡ Refused n p → Controlled s (requestControl from (drop (from .at) s)) (control-is.Refused n p)
   unfolding requestControl _>>=_
   method-no e = controlled-no (rw (part-no m e))
 
-  module _ {i k : ℕ} (e : r ≡ Is i k) {q : SchemeRead} (c : Schemed s (schemePart (i + k) (drop (i + k) s)) q) where
-    pub scheme-bad : {n p : ℕ} → q ≡ scheme-is.Refused n p → Controlled s (requestControl from (drop from s)) (control-is.Refused n p)
+  module _ {i k x : ℕ} (e : r ≡ Is i k x) {q : SchemeRead} (c : Schemed s (schemePart (cursor (i + k) x) (drop (i + k) s)) q) where
+    pub scheme-bad : {n p : ℕ} → q ≡ scheme-is.Refused n p → Controlled s (requestControl from (drop (from .at) s)) (control-is.Refused n p)
     unfolding requestControl _>>=_
     scheme-bad d = controlled-no (rw (part-got m e .0, schemed-no c d))
 
-    pub behind-scheme : {v end : ℕ} {o : ControlRead} → q ≡ scheme-is.Is v end → Controlled s (afterScheme (pieceOf s (span i k)) v end (drop end s)) o
-        → Controlled s (requestControl from (drop from s)) o
+    pub behind-scheme : {v : ℕ} {end : Cursor} {o : ControlRead} → q ≡ scheme-is.Is v end → Controlled s (afterScheme (pieceOf s (span i k)) v end (drop (end .at) s)) o
+        → Controlled s (requestControl from (drop (from .at) s)) o
     unfolding requestControl _>>=_
     behind-scheme d h = controlled-as (rw (part-got m e .0, schemed-got c d .0)) h
 
 -- ---- what the caller learns
 
-pub record ControlDone (s : List ℕ) (x : Got RequestControl) (m : Span) (v : ℕ) (a p : Span) (e : ℕ) : Type 0 where
-  pub taken : x ≡ got (controlOf s m v a p) e (drop e s)
+pub record ControlDone (s : List ℕ) (x : Got RequestControl) (m : Span) (v : ℕ) (a p : Span) (e : Cursor) : Type 0 where
+  pub taken : x ≡ got (controlOf s m v a p) e (drop (e .at) s)
   pub method : Inside s m
   pub scheme : v < 2
   pub authority : Inside s a
   pub path : Inside s p
-  pub within : e ≤ length s
+  pub within : e .at ≤ length s
+  pub few : e .long ≤ e .at
 
 piece-back : (s : List ℕ) (w : Piece) {a : Span} → spanOf w ≡ a → StandsIn s w → (w ≡ pieceOf s a) × Inside s a
 piece-back s w e h = subst (λ (a : Span). (w ≡ pieceOf s a) × Inside s a) e (ap (λ (t : List ℕ). piece (w .place) t) (h .taken), h .inside)
@@ -93,7 +95,7 @@ same-control : {m m′ a a′ p p′ : Piece} {v v′ : ℕ} → m ≡ m′ → 
     → _≡_ {A = RequestControl} (record { method = m; scheme = v; authority = a; path = p }) (record { method = m′; scheme = v′; authority = a′; path = p′ })
 same-control d e f g = rw (d, e, f, g)
 
-same-got : (s : List ℕ) {l : List ℕ} {q q′ : RequestControl} {i e : ℕ} → q ≡ q′ → i ≡ e → l ≡ drop i s → got q i l ≡ got q′ e (drop e s)
+same-got : (s : List ℕ) {l : List ℕ} {q q′ : RequestControl} {i e : Cursor} → q ≡ q′ → i ≡ e → l ≡ drop (i .at) s → got q i l ≡ got q′ e (drop (e .at) s)
 same-got s d e f = rw (d, f, e)
 
 module _ {s : List ℕ} {x : Got RequestControl} {r : ControlRead} (h : Controlled s x r) where
@@ -104,7 +106,7 @@ module _ {s : List ℕ} {x : Got RequestControl} {r : ControlRead} (h : Controll
       go (got q i l) z = let d = z .0 in cc
       go (no m k) z = cc
 
-  pub control-done : {m a p : Span} {v e : ℕ} → r ≡ control-is.Done m v a p e → ControlDone s x m v a p e
+  pub control-done : {m a p : Span} {v : ℕ} {e : Cursor} → r ≡ control-is.Done m v a p e → ControlDone s x m v a p e
   control-done {m} {a} {p} {v} {e} b = go x (h .says)
     where
       go : (y : Got RequestControl) → ControlSays s y r → ControlDone s y m v a p e
@@ -124,6 +126,7 @@ module _ {s : List ℕ} {x : Got RequestControl} {r : ControlRead} (h : Controll
             scheme = omega (arith, z .2, v′);
             authority = g .1;
             path = j .1;
-            within = omega (arith, z .5 .0, e′);
+            within = subst (λ (c : Cursor). c .at ≤ length s) e′ (z .5 .0);
+            few = subst (λ (c : Cursor). c .long ≤ c .at) e′ (z .5 .2);
           }
       go (no n k) z = let o : _≡_ {A = ℕ} 0 1 = cc in absurd (omega arith)

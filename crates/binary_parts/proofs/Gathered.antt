@@ -53,8 +53,8 @@ module _ {host : Bool} {base : ℕ} {o : List ℕ} {fs : List FieldRead} {l k : 
   gathered-few = omega (arith, gathered-less, g .lines)
 
   -- with the next line, which leaves the notes m
-  pub gathered-next : {s : List ℕ} {a : ℕ} {x : Got FieldRead} {o″ : List ℕ} {end c : ℕ} {kind : Kind} {place len : ℕ} {m : Notes}
-      (f : NextLine s a x host k o′ o″ end c kind place len) → m ≡ noteLine false n (f .line) → Gathered host base o (fs ++ f .line ∷ []) (l + 1) c m o″
+  pub gathered-next : {s : List ℕ} {a : ℕ} {x : Got FieldRead} {o″ : List ℕ} {end c : ℕ} {kind : Kind} {place len long : ℕ} {m : Notes}
+      (f : NextLine s a x host k o′ o″ end c kind place len long) → m ≡ noteLine false n (f .line) → Gathered host base o (fs ++ f .line ∷ []) (l + 1) c m o″
   gathered-next f e =
       record {
         lines = length-append fs (f .line ∷ []) ∙ omega (arith, g .lines);

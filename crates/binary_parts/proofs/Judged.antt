@@ -9,7 +9,8 @@ use lib.ListN.{length, take, drop}
 use Rattle.octets.specs.Ascii.{ascii}
 use Rattle.octets.specs.Text.{sameText}
 use Rattle.octets.specs.Refusals.{notSupported}
-use Rattle.binary.specs.Reader.{Got, got, no, _>>=_}
+use Rattle.binary.specs.declared.Cursor.{Cursor}
+use Rattle.binary.specs.Reader.{Got, got, no, cursor, _>>=_}
 use Rattle.binary.specs.Read.{part, partWithin, ruledPart, schemeOf, schemePart}
 use Rattle.binary_parts.specs.Control.{Parted, SchemeSays, Schemed}
 use Rattle.binary_parts.specs.declared.PartRead.{PartRead}
@@ -24,23 +25,23 @@ taken-part s a n = let z : a + n - a ≡ n = omega arith in rw z
 
 -- ---- a rule by its number
 
-module _ (s : List ℕ) (from most : ℕ) (verdict : List ℕ → ℕ) {m : ℕ} (k : m ≡ most) {r : PartRead} (h : Parted s (partWithin m from (drop from s)) r) where
-  within : Parted s (partWithin most from (drop from s)) r
-  within = subst (λ (y : ℕ). Parted s (partWithin y from (drop from s)) r) k h
+module _ (s : List ℕ) (from : Cursor) (most : ℕ) (verdict : List ℕ → ℕ) {m : ℕ} (k : m ≡ most) {r : PartRead} (h : Parted s (partWithin m from (drop (from .at) s)) r) where
+  within : Parted s (partWithin most from (drop (from .at) s)) r
+  within = subst (λ (y : ℕ). Parted s (partWithin y from (drop (from .at) s)) r) k h
 
-  pub ruled-no : {n p : ℕ} → r ≡ Refused n p → Parted s (ruledPart most verdict from (drop from s)) r
+  pub ruled-no : {n p : ℕ} → r ≡ Refused n p → Parted s (ruledPart most verdict from (drop (from .at) s)) r
   unfolding ruledPart _>>=_
-  ruled-no e = subst (λ (y : PartRead). Parted s (ruledPart most verdict from (drop from s)) y) (sym e) (parted-no (rw (part-no within e)))
+  ruled-no e = subst (λ (y : PartRead). Parted s (ruledPart most verdict from (drop (from .at) s)) y) (sym e) (parted-no (rw (part-no within e)))
 
-  module _ {a n v : ℕ} (e : r ≡ Is a n) (q : v ≡ verdict (take (a + n - a) (drop a s))) where
+  module _ {a n o v : ℕ} (e : r ≡ Is a n o) (q : v ≡ verdict (take (a + n - a) (drop a s))) where
     judged : verdict (take n (drop a s)) ≡ v
     judged = ap verdict (sym (taken-part s a n)) ∙ sym q
 
-    pub ruled-good : v ≡ 0 → Parted s (ruledPart most verdict from (drop from s)) (Is a n)
+    pub ruled-good : v ≡ 0 → Parted s (ruledPart most verdict from (drop (from .at) s)) (Is a n o)
     unfolding ruledPart _>>=_
-    ruled-good z = parted-got s a n (part-got within e .1) (rw (part-got within e .0, judged, z))
+    ruled-good z = parted-got s a n (part-got within e .1) (part-got within e .2) (rw (part-got within e .0, judged, z))
 
-    pub ruled-bad : (v ≡ 0 → ⊥) → Parted s (ruledPart most verdict from (drop from s)) (Refused v from)
+    pub ruled-bad : (v ≡ 0 → ⊥) → Parted s (ruledPart most verdict from (drop (from .at) s)) (Refused v (from .at))
     unfolding ruledPart _>>=_
     ruled-bad z = parted-no (rw (part-got within e .0, judged, ne-eqb v 0 z))
 
@@ -52,28 +53,28 @@ schemed-as {s} {r = r} e h = subst (λ (z : Got ℕ). Schemed s z r) (sym e) h
 schemed-refused : {s : List ℕ} {x : Got ℕ} {n p : ℕ} → x ≡ no n p → Schemed s x (scheme-is.Refused n p)
 schemed-refused e = schemed-as e (record { says = refl })
 
-schemed-found : {s : List ℕ} {x : Got ℕ} {v e : ℕ} → v < 2 → e ≤ length s → x ≡ got v e (drop e s) → Schemed s x (scheme-is.Is v e)
-schemed-found g h q = schemed-as q (record { says = (refl, g, (h, refl)) })
+schemed-found : {s : List ℕ} {x : Got ℕ} {v : ℕ} {e : Cursor} → v < 2 → e .at ≤ length s → e .long ≤ e .at → x ≡ got v e (drop (e .at) s) → Schemed s x (scheme-is.Is v e)
+schemed-found g h f q = schemed-as q (record { says = (refl, g, (h, refl, f)) })
 
-module _ (s : List ℕ) (from : ℕ) {r : PartRead} (h : Parted s (part from (drop from s)) r) where
-  pub scheme-no : {n p : ℕ} → r ≡ Refused n p → Schemed s (schemePart from (drop from s)) (scheme-is.Refused n p)
+module _ (s : List ℕ) (from : Cursor) {r : PartRead} (h : Parted s (part from (drop (from .at) s)) r) where
+  pub scheme-no : {n p : ℕ} → r ≡ Refused n p → Schemed s (schemePart from (drop (from .at) s)) (scheme-is.Refused n p)
   unfolding schemePart _>>=_
   scheme-no e = schemed-refused (rw (part-no h e))
 
-  module _ {a n : ℕ} (e : r ≡ Is a n) where
-    pub scheme-http : sameText (take (a + n - a) (drop a s)) (ascii "http") ≡ true → Schemed s (schemePart from (drop from s)) (scheme-is.Is 0 (a + n))
+  module _ {a n k : ℕ} (e : r ≡ Is a n k) where
+    pub scheme-http : sameText (take (a + n - a) (drop a s)) (ascii "http") ≡ true → Schemed s (schemePart from (drop (from .at) s)) (scheme-is.Is 0 (cursor (a + n) k))
     unfolding schemePart _>>=_ schemeOf
     scheme-http q = let q′ = rw (taken-part s a n) at q in
-        schemed-found (omega arith) (part-got h e .1) (rw (part-got h e .0, q′))
+        schemed-found (omega arith) (part-got h e .1) (part-got h e .2) (rw (part-got h e .0, q′))
 
     module _ (o : sameText (take (a + n - a) (drop a s)) (ascii "http") ≡ false) where
-      pub scheme-https : sameText (take (a + n - a) (drop a s)) (ascii "https") ≡ true → Schemed s (schemePart from (drop from s)) (scheme-is.Is 1 (a + n))
+      pub scheme-https : sameText (take (a + n - a) (drop a s)) (ascii "https") ≡ true → Schemed s (schemePart from (drop (from .at) s)) (scheme-is.Is 1 (cursor (a + n) k))
       unfolding schemePart _>>=_ schemeOf
       scheme-https q = let o′ = rw (taken-part s a n) at o in let q′ = rw (taken-part s a n) at q in
-          schemed-found (omega arith) (part-got h e .1) (rw (part-got h e .0, o′, q′))
+          schemed-found (omega arith) (part-got h e .1) (part-got h e .2) (rw (part-got h e .0, o′, q′))
 
       pub scheme-other : sameText (take (a + n - a) (drop a s)) (ascii "https") ≡ false
-          → Schemed s (schemePart from (drop from s)) (scheme-is.Refused notSupported from)
+          → Schemed s (schemePart from (drop (from .at) s)) (scheme-is.Refused notSupported (from .at))
       unfolding schemePart _>>=_ schemeOf
       scheme-other q = let o′ = rw (taken-part s a n) at o in let q′ = rw (taken-part s a n) at q in
           schemed-refused (rw (part-got h e .0, o′, q′))
@@ -87,14 +88,14 @@ module _ {s : List ℕ} {x : Got ℕ} {r : SchemeRead} (h : Schemed s x r) where
       go (got v i l) q = let d = q .0 in cc
       go (no m k) q = cc
 
-  pub schemed-got : {v i : ℕ} → r ≡ scheme-is.Is v i → (x ≡ got v i (drop i s)) × (v < 2) × (i ≤ length s)
+  pub schemed-got : {v : ℕ} {i : Cursor} → r ≡ scheme-is.Is v i → (x ≡ got v i (drop (i .at) s)) × (v < 2) × (i .at ≤ length s) × (i .long ≤ i .at)
   schemed-got {v} {i} e = go x (h .says)
     where
-      go : (y : Got ℕ) → SchemeSays s y r → (y ≡ got v i (drop i s)) × (v < 2) × (i ≤ length s)
+      go : (y : Got ℕ) → SchemeSays s y r → (y ≡ got v i (drop (i .at) s)) × (v < 2) × (i .at ≤ length s) × (i .long ≤ i .at)
       go (got w j l) q =
           let d = q .0 in
           let a : w ≡ v = cc in
           let b : j ≡ i = cc in
-          let l′ : l ≡ drop i s = q .2 .1 ∙ rw b in
-          (rw (a, b, l′), omega (arith, q .1, a), omega (arith, q .2 .0, b))
+          let l′ : l ≡ drop (i .at) s = q .2 .1 ∙ ap (λ (z : Cursor). drop (z .at) s) b in
+          (rw (a, b, l′), omega (arith, q .1, a), subst (λ (z : Cursor). z .at ≤ length s) b (q .2 .0), subst (λ (z : Cursor). z .long ≤ z .at) b (q .2 .2))
       go (no m k) q = let z : _≡_ {A = ℕ} 0 1 = cc in absurd (omega arith)

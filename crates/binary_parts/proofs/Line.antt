@@ -31,29 +31,29 @@ line-as form p n v y e = rw e (go (isLowerName (n .text)) (isLineValue form (v .
     go true b x = refl
     go false b x = refl
 
-judged-as : {i j : Judged FieldRead} {end : ℕ} {host : Bool} {k : ℕ} {o o′ : List ℕ} {r : LineRead}
-    → i ≡ j → JudgedSays j end host k o o′ r → JudgedLine i end host k o o′ r
-judged-as {end = end} {host = host} {k = k} {o = o} {o′ = o′} {r = r} e h =
-    record { says = subst (λ (z : Judged FieldRead). JudgedSays z end host k o o′ r) (sym e) h }
+judged-as : {i j : Judged FieldRead} {end : ℕ} {host : Bool} {k long : ℕ} {o o′ : List ℕ} {r : LineRead}
+    → i ≡ j → JudgedSays j end host k long o o′ r → JudgedLine i end host k long o o′ r
+judged-as {end = end} {host = host} {k = k} {long = long} {o = o} {o′ = o′} {r = r} e h =
+    record { says = subst (λ (z : Judged FieldRead). JudgedSays z end host k long o o′ r) (sym e) h }
 
 module _ (form : Form) (p n v : ℕ) (name value : List ℕ) {y : Bool} (e : y ≡ cond (isLowerName name) (isLineValue form value) false) where
   -- a line that is none
-  pub line-wrong : {end : ℕ} {host : Bool} {k : ℕ} {o o′ : List ℕ} → y ≡ false
-      → JudgedLine (judgedLine form p (piece n name) (piece v value)) end host k o o′ (read.Refused badSyntax p)
+  pub line-wrong : {end : ℕ} {host : Bool} {k long : ℕ} {o o′ : List ℕ} → y ≡ false
+      → JudgedLine (judgedLine form p (piece n name) (piece v value)) end host k long o o′ (read.Refused badSyntax p)
   line-wrong h = judged-as {j = wrong badSyntax p} (line-as form p (piece n name) (piece v value) y e ∙ rw h refl) refl
 
   line : FieldRead
   line = record { name = piece n name; value = piece v value; place = p }
 
-  pub line-good : {end : ℕ} {host : Bool} {k : ℕ} {o o′ : List ℕ} {kind : Kind} {t : Bool} {r : ℕ} → y ≡ true
+  pub line-good : {end : ℕ} {host : Bool} {k long : ℕ} {o o′ : List ℕ} {kind : Kind} {t : Bool} {r : ℕ} → y ≡ true
       → kind ≡ kindOf (map lowerOf name) → t ≡ isEndToEnd host kind → StoredIf t k (n ∷ length name ∷ v ∷ length value ∷ []) o o′ r
-      → JudgedLine (judgedLine form p (piece n name) (piece v value)) end host k o o′ (read.Next end r kind p (length value))
+      → JudgedLine (judgedLine form p (piece n name) (piece v value)) end host k long o o′ (read.Next end r kind p (length value) long)
   unfolding kept fieldsNumbers lineKind line
-  line-good {end} {host} {k} {o} {o′} {kind} {t} {r} h ek et u =
+  line-good {end} {host} {k} {long} {o} {o′} {kind} {t} {r} h ek et u =
       judged-as {j = good line} (line-as form p (piece n name) (piece v value) y e ∙ rw h refl) (rw (← ek, ← et) (pick t u))
     where
       pick : (x : Bool) → StoredIf x k (n ∷ length name ∷ v ∷ length value ∷ []) o o′ r
-          → (read.Next end r kind p (length value) ≡ read.Next end (k + length (cond x (line ∷ []) [])) kind p (length value))
+          → (read.Next end r kind p (length value) long ≡ read.Next end (k + length (cond x (line ∷ []) [])) kind p (length value) long)
           × (o′ ≡ splice o (k * 4) (fieldsNumbers (cond x (line ∷ []) [])))
       pick true g = (rw (g .count), g .stored)
       pick false g =

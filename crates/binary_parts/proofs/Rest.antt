@@ -9,11 +9,11 @@ use lib.Seq.{length-take-le}
 use Rattle.octets.specs.Refusals.{badSyntax}
 use Rattle.numbers.specs.Integer.{readInt}
 use Rattle.numbers.specs.declared.Integer.the-variants.{Value, Cut}
-use Rattle.numbers.proofs.IntegerLaws.{int-within}
+use Rattle.numbers.proofs.IntegerLaws.{int-within, int-once}
 use Rattle.script.specs.Do.{Piece, piece, Judged, good, wrong}
 use Rattle.messages.specs.Message.{FieldRead}
 use Rattle.messages.specs.Control.{isLowerName}
-use Rattle.binary.specs.Reader.{Got, no, _>>=_, tell}
+use Rattle.binary.specs.Reader.{Got, no, cursor, _>>=_, tell}
 use Rattle.binary.specs.declared.Form.{Form}
 use Rattle.binary.specs.Read.{isLineValue, judgedLine, cutNumber, cutPlace, afterNameLength}
 use Rattle.binary_parts.specs.Section.{JudgedSays, JudgedLine, EndsAt, LineSays, Lined}
@@ -55,54 +55,55 @@ module _ {s : List ℕ} {a : ℕ} {host : Bool} {k : ℕ} {o o′ : List ℕ} {r
   lined-no {x} {number} {place} e h = lined-as {y = no number place} e (record { says = h })
 
   -- a line that was judged, read up to `end`
-  lined-judged : (form : Form) (p : ℕ) (w v : Piece) {end : ℕ} → end ≤ length s → EndsAt s a end v → JudgedLine (judgedLine form p w v) end host k o o′ r
-      → Lined s a (tell (judgedLine form p w v) (a + end) (drop end s)) host k o o′ r
-  lined-judged form p w v {end} b u h = record { says = go (judgedLine form p w v) (line-value form p w v) (h .says) }
+  lined-judged : (form : Form) (p : ℕ) (w v : Piece) {end : ℕ} → end ≤ length s → EndsAt s a end v → {long : ℕ} → long ≤ a + end → JudgedLine (judgedLine form p w v) end host k long o o′ r
+      → Lined s a (tell (judgedLine form p w v) (cursor (a + end) long) (drop end s)) host k o o′ r
+  lined-judged form p w v {end} b u {long} few h = record { says = go (judgedLine form p w v) (line-value form p w v) (h .says) }
     where
-      go : (j : Judged FieldRead) → OfValue v j → JudgedSays j end host k o o′ r → LineSays s a (tell j (a + end) (drop end s)) host k o o′ r
-      go (good f) e q = (end, q .0, q .1, subst (EndsAt s a end) (sym e) u, refl, b, refl)
+      go : (j : Judged FieldRead) → OfValue v j → JudgedSays j end host k long o o′ r → LineSays s a (tell j (cursor (a + end) long) (drop end s)) host k o o′ r
+      go (good f) e q = (end, q .0, q .1, subst (EndsAt s a end) (sym e) u, refl, b, refl, few)
       go (wrong x p) e q = q
 
 -- the part from i to e is no longer than that
 pub part-short : (s : List ℕ) (i e : ℕ) → length (take (e - i) (drop i s)) ≤ e - i
 part-short s i e = simp (length-take) (omega arith)
 
-module _ (form : Form) (p a : ℕ) (s : List ℕ) (at n : ℕ) where
-  pub rest-name-cut : length s - at < n → afterNameLength form p n (a + at) (drop at s) ≡ no (cutNumber form) p
+module _ (form : Form) (p a : ℕ) (s : List ℕ) (at n c : ℕ) where
+  pub rest-name-cut : length s - at < n → afterNameLength form p n (cursor (a + at) c) (drop at s) ≡ no (cutNumber form) p
   unfolding afterNameLength _>>=_
-  rest-name-cut h = rw (octets-cut a s at (cutNumber form) p n h)
+  rest-name-cut h = rw (octets-cut a s at c (cutNumber form) p n h)
 
   module _ (h : n ≤ length s - at) where
     pub rest-length-cut : readInt (at + n) (drop (at + n) s) ≡ Cut
-        → afterNameLength form p n (a + at) (drop at s) ≡ no (cutNumber form) (cutPlace form p (a + (at + n)))
+        → afterNameLength form p n (cursor (a + at) c) (drop at s) ≡ no (cutNumber form) (cutPlace form p (a + (at + n)))
     unfolding afterNameLength _>>=_
     rest-length-cut e =
-        rw (octets-in a s at (cutNumber form) p n h, integer-cut a s (at + n) (cutNumber form) (cutPlace form p (a + (at + n))) e)
+        rw (octets-in a s at c (cutNumber form) p n h, integer-cut a s (at + n) c (cutNumber form) (cutPlace form p (a + (at + n))) e)
 
-    module _ {len next : ℕ} (e : readInt (at + n) (drop (at + n) s) ≡ Value len next) where
-      pub rest-value-cut : length s - next < len → afterNameLength form p n (a + at) (drop at s) ≡ no (cutNumber form) (cutPlace form p (a + (at + n)))
+    module _ {len next l : ℕ} (e : readInt (at + n) (drop (at + n) s) ≡ Value len next l) where
+      pub rest-value-cut : length s - next < len → afterNameLength form p n (cursor (a + at) c) (drop at s) ≡ no (cutNumber form) (cutPlace form p (a + (at + n)))
       unfolding afterNameLength _>>=_
       rest-value-cut g =
           let k = cutNumber form in
           let q = cutPlace form p (a + (at + n)) in
-          rw (octets-in a s at k p n h, integer-in a s (at + n) k q e, octets-cut a s next k q len g)
+          rw (octets-in a s at c k p n h, integer-in a s (at + n) c k q e, octets-cut a s next (c + l) k q len g)
 
       pub rest-in : len ≤ length s - next
-          → afterNameLength form p n (a + at) (drop at s)
-          ≡ tell (judgedLine form p (piece (a + at) (take n (drop at s))) (piece (a + next) (take len (drop next s)))) (a + (next + len)) (drop (next + len) s)
+          → afterNameLength form p n (cursor (a + at) c) (drop at s)
+          ≡ tell (judgedLine form p (piece (a + at) (take n (drop at s))) (piece (a + next) (take len (drop next s)))) (cursor (a + (next + len)) (c + l)) (drop (next + len) s)
       unfolding afterNameLength _>>=_
       rest-in g =
           let k = cutNumber form in
           let q = cutPlace form p (a + (at + n)) in
-          rw (octets-in a s at k p n h, integer-in a s (at + n) k q e, octets-in a s next k q len g)
+          rw (octets-in a s at c k p n h, integer-in a s (at + n) c k q e, octets-in a s next (c + l) k q len g)
 
       -- both halves are in
-      pub rest-judged : {host : Bool} {k : ℕ} {o o′ : List ℕ} {r : LineRead} → len ≤ length s - next
-          → JudgedLine (judgedLine form p (piece (a + at) (take (at + n - at) (drop at s))) (piece (a + next) (take (next + len - next) (drop next s)))) (next + len) host k o o′ r
-          → Lined s a (afterNameLength form p n (a + at) (drop at s)) host k o o′ r
-      rest-judged {host} {k} {o} {o′} {r} g j =
+      pub rest-judged : {host : Bool} {k : ℕ} {o o′ : List ℕ} {r : LineRead} → c ≤ a + at → len ≤ length s - next
+          → JudgedLine (judgedLine form p (piece (a + at) (take (at + n - at) (drop at s))) (piece (a + next) (take (next + len - next) (drop next s)))) (next + len) host k (c + l) o o′ r
+          → Lined s a (afterNameLength form p n (cursor (a + at) c) (drop at s)) host k o o′ r
+      rest-judged {host} {k} {o} {o′} {r} f g j =
           let x : at + n - at ≡ n = omega arith in
           let y : next + len - next ≡ len = omega arith in
           let b : next + len ≤ length s = omega (arith, int-within s (at + n) e) in
-          let i : JudgedLine (judgedLine form p (piece (a + at) (take n (drop at s))) (piece (a + next) (take len (drop next s)))) (next + len) host k o o′ r = rw (x, y) at j in
-          lined-as (rest-in g) (lined-judged form p _ _ b (value-ends s a next len b) i)
+          let i : JudgedLine (judgedLine form p (piece (a + at) (take n (drop at s))) (piece (a + next) (take len (drop next s)))) (next + len) host k (c + l) o o′ r = rw (x, y) at j in
+          lined-as (rest-in g)
+          (lined-judged form p _ _ b (value-ends s a next len b) (omega (arith, f, int-within s (at + n) e, int-once (at + n) (drop (at + n) s) e)) i)

@@ -19,7 +19,8 @@ use Rattle.messages.specs.Notes.{noNotes}
 use Rattle.messages.specs.Answers.{fieldsNumbers}
 use Rattle.messages.specs.declared.Notes.{Notes}
 use Rattle.messages.proofs.Noting.{notes-none}
-use Rattle.binary.specs.Reader.{Got, got, no, onGot, _>>=_, give}
+use Rattle.binary.specs.declared.Cursor.{Cursor}
+use Rattle.binary.specs.Reader.{Got, got, no, cursor, onGot, _>>=_, give}
 use Rattle.binary.specs.declared.Form.{Form}
 use Rattle.binary.specs.Read.{part, knownLines, onBody, bodyLines, knownSection, openLines, openSection, section, noSection, headerSection}
 use Rattle.binary_parts.specs.Section.{BodySays, Bodied, SectionSays, Sectioned}
@@ -34,14 +35,14 @@ bodied-as {end = end} {host = host} {k = k} {o = o} {o′ = o′} {r = r} e h =
     record { says = subst (λ (z : Got (List FieldRead)). BodySays z end host k o o′ r) (sym e) h }
 
 -- the body from its first line on
-pub known-start : (form : Form) (n a : ℕ) (s : List ℕ) → knownLines form n [] a s ≡ knownLines form n [] (a + 0) (drop 0 s)
-known-start form n a s = let z : a + 0 ≡ a = omega arith in rw z
+pub known-start : (form : Form) (n a c : ℕ) (s : List ℕ) → knownLines form n [] (cursor a c) s ≡ knownLines form n [] (cursor (a + 0) c) (drop 0 s)
+known-start form n a c s = let z : a + 0 ≡ a = omega arith in rw z
 
 -- ---- sections
 
 -- a section from its lines
 abbrev pub closed : Got (List FieldRead) → Got Section
-closed (got fs e l) = got (record { lines = fs; end = e }) e l
+closed (got fs e l) = got (record { lines = fs; end = e .at }) e l
 closed (no n p) = no n p
 
 on-closed : (x : Got (List FieldRead)) → onGot x (λ fs e l. closed (got fs e l)) ≡ closed x
@@ -49,14 +50,14 @@ on-closed (got fs e l) = refl
 on-closed (no n p) = refl
 
 -- a section of known length or not
-abbrev from-lines : Form → ℕ → List ℕ → Bool → Got Section
+abbrev from-lines : Form → Cursor → List ℕ → Bool → Got Section
 from-lines form at l known = onGot (cond known (knownSection form) (openSection form) at l) (λ fs e l. closed (got fs e l))
 
-known-closed : (form : Form) (at : ℕ) (l : List ℕ) → form .known ≡ true → section form at l ≡ closed (knownSection form at l)
+known-closed : (form : Form) (at : Cursor) (l : List ℕ) → form .known ≡ true → section form at l ≡ closed (knownSection form at l)
 unfolding section _>>=_
 known-closed form at l k = ap (from-lines form at l) k ∙ on-closed (knownSection form at l)
 
-open-closed : (form : Form) (at : ℕ) (l : List ℕ) → form .known ≡ false → section form at l ≡ closed (openLines form (suc linesMost) [] at l)
+open-closed : (form : Form) (at : Cursor) (l : List ℕ) → form .known ≡ false → section form at l ≡ closed (openLines form (suc linesMost) [] at l)
 unfolding section _>>=_
 open-closed form at l k = ap (from-lines form at l) k ∙ on-closed (openLines form (suc linesMost) [] at l)
 
@@ -65,44 +66,45 @@ module _ {s : List ℕ} {host : Bool} {k : ℕ} {o o′ : List ℕ} {r : answer.
   sectioned-as e h = record { says = subst (λ (z : Got Section). SectionSays s z host k o o′ r) (sym e) h }
 
   -- the lines of an indeterminate section are the section
-  pub sectioned-open : (form : Form) (at : ℕ) (l : List ℕ) {y : Got (List FieldRead)} → form .known ≡ false → openLines form (suc linesMost) [] at l ≡ y
+  pub sectioned-open : (form : Form) (at : Cursor) (l : List ℕ) {y : Got (List FieldRead)} → form .known ≡ false → openLines form (suc linesMost) [] at l ≡ y
       → SectionSays s (closed y) host k o o′ r → Sectioned s (section form at l) host k o o′ r
   sectioned-open form at l {y} u e h = sectioned-as {y = closed y} (open-closed form at l u ∙ ap closed e) h
 
   -- the body fills the section, behind which the reading goes on
-  sectioned-body : {end : ℕ} (x : Got (List FieldRead)) → end ≤ length s → Bodied x end host k o o′ r
-      → Sectioned s (closed (onBody x end (drop end s))) host k o o′ r
-  sectioned-body {end} x b h = record { says = go x (h .says) }
+  sectioned-body : {end : ℕ} (c : ℕ) (x : Got (List FieldRead)) → end ≤ length s → Bodied x end host k o o′ r
+      → Sectioned s (closed (onBody x (cursor end c) (drop end s))) host k o o′ r
+  sectioned-body {end} c x b h = record { says = go x (h .says) }
     where
-      go : (x : Got (List FieldRead)) → BodySays x end host k o o′ r → SectionSays s (closed (onBody x end (drop end s))) host k o o′ r
-      go (got fs e l) q = (q .0, q .1, refl, b, refl)
+      go : (x : Got (List FieldRead)) → BodySays x end host k o o′ r → SectionSays s (closed (onBody x (cursor end c) (drop end s))) host k o o′ r
+      go (got fs e l) q = (q .0, q .1, refl, b, refl, q .2)
       go (no n p) q = q
 
-module _ (form : Form) (known : form .known ≡ true) (s : List ℕ) (from : ℕ) where
-  pub section-cut : readInt from (drop from s) ≡ Cut → section form from (drop from s) ≡ no cutOff from
+module _ (form : Form) (known : form .known ≡ true) (s : List ℕ) (from : Cursor) where
+  pub section-cut : readInt (from .at) (drop (from .at) s) ≡ Cut → section form from (drop (from .at) s) ≡ no cutOff (from .at)
   unfolding knownSection part _>>=_
-  section-cut e = rw (known-closed form from (drop from s) known, integer-cut s from cutOff from e)
+  section-cut e = rw (known-closed form from (drop (from .at) s) known, integer-cut s from cutOff (from .at) e)
 
-  module _ {n next : ℕ} (e : readInt from (drop from s) ≡ Value n next) where
-    pub section-short : length s - next < n → section form from (drop from s) ≡ no cutOff from
+  module _ {n next l : ℕ} (e : readInt (from .at) (drop (from .at) s) ≡ Value n next l) where
+    pub section-short : length s - next < n → section form from (drop (from .at) s) ≡ no cutOff (from .at)
     unfolding knownSection part _>>=_
-    section-short h = rw (known-closed form from (drop from s) known, integer-got s from cutOff from e, octets-cut s next n cutOff from h)
+    section-short h = rw (known-closed form from (drop (from .at) s) known, integer-got s from cutOff (from .at) e, octets-cut s (cursor next (from .long + l)) n cutOff (from .at) h)
 
     section-in : n ≤ length s - next
-        → section form from (drop from s) ≡ closed (onBody (knownLines form (suc linesMost) [] next (take n (drop next s))) (next + n) (drop (next + n) s))
+        → section form from (drop (from .at) s)
+        ≡ closed (onBody (knownLines form (suc linesMost) [] (cursor next (from .long + l)) (take n (drop next s))) (cursor (next + n) (from .long + l)) (drop (next + n) s))
     unfolding knownSection part bodyLines _>>=_
-    section-in h = rw (known-closed form from (drop from s) known, integer-got s from cutOff from e, octets-got s next n cutOff from h)
+    section-in h = rw (known-closed form from (drop (from .at) s) known, integer-got s from cutOff (from .at) e, octets-got s (cursor next (from .long + l)) n cutOff (from .at) h)
 
     -- the body was read by itself
     pub section-body : {host : Bool} {k : ℕ} {o o′ : List ℕ} {r : answer.Section} → n ≤ length s - next
-        → Bodied (knownLines form (suc linesMost) [] next (take (next + n - next) (drop next s))) (next + length (take (next + n - next) (drop next s))) host k o o′ r
-        → Sectioned s (section form from (drop from s)) host k o o′ r
+        → Bodied (knownLines form (suc linesMost) [] (cursor next (from .long + l)) (take (next + n - next) (drop next s))) (next + length (take (next + n - next) (drop next s))) host k o o′ r
+        → Sectioned s (section form from (drop (from .at) s)) host k o o′ r
     section-body {host} {k} {o} {o′} {r} h b =
         let x : next + n - next ≡ n = omega arith in
         let y : length (take n (drop next s)) ≡ n = length-take-le n (drop next s) (omega (arith, length-drop next s)) in
-        let z : Bodied (knownLines form (suc linesMost) [] next (take n (drop next s))) (next + n) host k o o′ r = rw (x, y) at b in
-        let w : next + n ≤ length s = omega (arith, int-within s from e) in
-        sectioned-as (section-in h) (sectioned-body (knownLines form (suc linesMost) [] next (take n (drop next s))) w z .says)
+        let z : Bodied (knownLines form (suc linesMost) [] (cursor next (from .long + l)) (take n (drop next s))) (next + n) host k o o′ r = rw (x, y) at b in
+        let w : next + n ≤ length s = omega (arith, int-within s (from .at) e) in
+        sectioned-as (section-in h) (sectioned-body (from .long + l) (knownLines form (suc linesMost) [] (cursor next (from .long + l)) (take n (drop next s))) w z .says)
 
 -- ---- header sections
 
@@ -116,24 +118,26 @@ module _ (form : Form) (s : List ℕ) (from : ℕ) where
   unfolding isEmpty
   headless-left h = rw (length-drop from s, ne-eqb (length s - from) 0 (λ z. omega (arith, z)))
 
-  header-is : {b : Bool} → b ≡ cond (isEmpty (drop from s)) (form .headless) false
-      → headerSection form from (drop from s) ≡ cond b (got (noSection from) from (drop from s)) (section form from (drop from s))
+module _ (form : Form) (s : List ℕ) (from : Cursor) where
+  header-is : {b : Bool} → b ≡ cond (isEmpty (drop (from .at) s)) (form .headless) false
+      → headerSection form from (drop (from .at) s) ≡ cond b (got (noSection (from .at)) from (drop (from .at) s)) (section form from (drop (from .at) s))
   unfolding headerSection _>>=_
   header-is {b} e = rw (← e) (on b)
     where
-      on : (b : Bool) → cond b (give (noSection from)) (section form) from (drop from s) ≡ cond b (got (noSection from) from (drop from s)) (section form from (drop from s))
+      on : (b : Bool) → cond b (give (noSection (from .at))) (section form) from (drop (from .at) s)
+          ≡ cond b (got (noSection (from .at)) from (drop (from .at) s)) (section form from (drop (from .at) s))
       on true = refl
       on false = refl
 
-module _ (form : Form) (s : List ℕ) (from : ℕ) {host : Bool} {k : ℕ} {o o′ : List ℕ} where
+module _ (form : Form) (s : List ℕ) (from : Cursor) {host : Bool} {k : ℕ} {o o′ : List ℕ} where
   -- the message may end before it, and does
-  pub header-none : {b : Bool} {n : Notes} → b ≡ cond (isEmpty (drop from s)) (form .headless) false → b ≡ true → from ≤ length s → n ≡ noNotes → o′ ≡ o
-      → Sectioned s (headerSection form from (drop from s)) host k o o′ (done.Done from k n)
+  pub header-none : {b : Bool} {n : Notes} → b ≡ cond (isEmpty (drop (from .at) s)) (form .headless) false → b ≡ true → from .at ≤ length s → from .long ≤ from .at → n ≡ noNotes → o′ ≡ o
+      → Sectioned s (headerSection form from (drop (from .at) s)) host k o o′ (done.Done from k n)
   unfolding kept fieldsNumbers
-  header-none e t w n q =
+  header-none e t w f n q =
       let z : k + 0 ≡ k = omega arith in
-      sectioned-as {y = got (noSection from) from (drop from s)} (header-is form s from e ∙ rw t refl) (rw (z, n, notes-none false) refl, q, refl, w, refl)
+      sectioned-as {y = got (noSection (from .at)) from (drop (from .at) s)} (header-is form s from e ∙ rw t refl) (rw (z, n, notes-none false) refl, q, refl, w, refl, f)
 
-  pub header-some : {b : Bool} {r : answer.Section} → b ≡ cond (isEmpty (drop from s)) (form .headless) false → b ≡ false
-      → Sectioned s (section form from (drop from s)) host k o o′ r → Sectioned s (headerSection form from (drop from s)) host k o o′ r
-  header-some e t h = sectioned-as {y = section form from (drop from s)} (header-is form s from e ∙ rw t refl) (h .says)
+  pub header-some : {b : Bool} {r : answer.Section} → b ≡ cond (isEmpty (drop (from .at) s)) (form .headless) false → b ≡ false
+      → Sectioned s (section form from (drop (from .at) s)) host k o o′ r → Sectioned s (headerSection form from (drop (from .at) s)) host k o o′ r
+  header-some e t h = sectioned-as {y = section form from (drop (from .at) s)} (header-is form s from e ∙ rw t refl) (h .says)

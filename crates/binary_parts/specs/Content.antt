@@ -10,7 +10,8 @@ use Rattle.script.specs.Do.{Piece, piece}
 use Rattle.output.specs.Splice.{splice}
 use Rattle.messages.specs.Meaning.{contentOf}
 use Rattle.messages.specs.Answers.{chunksNumbers}
-use Rattle.binary.specs.Reader.{Got, got, no}
+use Rattle.binary.specs.declared.Cursor.{Cursor}
+use Rattle.binary.specs.Reader.{Got, got, no, cursor}
 use Rattle.binary.specs.Read.{openChunks}
 use Rattle.binary_parts.specs.Control.{GoesOn}
 use Rattle.binary_parts.specs.declared.ChunkRead.{ChunkRead}
@@ -24,20 +25,20 @@ use Rattle.binary_parts.specs.declared.Padding.the-variants as padding-i
 
 -- where the chunks go on: x is what the reader gets that stood before the chunk, behind chunks cs of so many octets in all
 abbrev pub ChunkSays : List ℕ → ℕ → List Piece → ℕ → Got (List Piece) → ChunkRead → Type 0
-ChunkSays s f cs total x (chunk-is.Next start len) =
-    x ≡ openChunks f (cs ++ piece start (take len (drop start s)) ∷ []) (total + len) (start + len) (drop (start + len) s)
-ChunkSays s f cs total x (chunk-is.Last end) = x ≡ got cs end (drop end s)
+ChunkSays s f cs total x (chunk-is.Next start len long) =
+    x ≡ openChunks f (cs ++ piece start (take len (drop start s)) ∷ []) (total + len) (cursor (start + len) long) (drop (start + len) s)
+ChunkSays s f cs total x (chunk-is.Last end) = x ≡ got cs end (drop (end .at) s)
 ChunkSays s f cs total x (chunk-is.Refused n p) = x ≡ no n p
 
 -- where a chunk or the end of the content lies
 abbrev pub ChunkLies : List ℕ → ℕ → ℕ → ChunkRead → Type 0
-ChunkLies s count total (chunk-is.Next start len) = (start + len ≤ length s) × (total + len ≤ contentMost) × (count < chunksMost)
-ChunkLies s count total (chunk-is.Last end) = end ≤ length s
+ChunkLies s count total (chunk-is.Next start len long) = (start + len ≤ length s) × (total + len ≤ contentMost) × (count < chunksMost) × (long ≤ start + len)
+ChunkLies s count total (chunk-is.Last end) = (end .at ≤ length s) × (end .long ≤ end .at)
 ChunkLies s count total (chunk-is.Refused n p) = Unit {0}
 
--- the chunk that was read from the place `at` on, behind `count` chunks of `total` octets
-pub record Chunked (s : List ℕ) (at count total : ℕ) (r : ChunkRead) : Type 0 where
-  pub says : (f : ℕ) (cs : List Piece) → length cs ≡ count → ChunkSays s f cs total (openChunks (suc f) cs total at (drop at s)) r
+-- the chunk that was read from where the cursor `at` is on, behind `count` chunks of `total` octets
+pub record Chunked (s : List ℕ) (at : Cursor) (count total : ℕ) (r : ChunkRead) : Type 0 where
+  pub says : (f : ℕ) (cs : List Piece) → length cs ≡ count → ChunkSays s f cs total (openChunks (suc f) cs total at (drop (at .at) s)) r
   pub lies : ChunkLies s count total r
 
 -- content that was read from s into the lent ranges o: number and octets of its chunks, behind which the reading goes on
@@ -54,7 +55,7 @@ pub record Contented (s : List ℕ) (x : Got (List Piece)) (o o′ : List ℕ) (
 
 -- what follows the message: zero octets to the end of s, or another one at its place
 abbrev pub PaddingSays : List ℕ → Got ℕ → Padding → Type 0
-PaddingSays s (got z e l) r = (r ≡ padding-is.Clean) × (e ≡ length s)
+PaddingSays s (got z e l) r = (r ≡ padding-is.Clean) × (e .at ≡ length s)
 PaddingSays s (no n p) r = (r ≡ padding-is.Bad p) × (n ≡ badPadding)
 
 -- the promise of padding that is checked

@@ -7,6 +7,7 @@ use lib.ListN.{length, take, drop}
 use Rattle.octets.specs.Limits.{methodMost, authorityMost, pathMost}
 use Rattle.script.specs.Do.{Piece, piece}
 use Rattle.messages.specs.Control.{methodVerdict, authorityVerdict, pathVerdict}
+use Rattle.binary.specs.declared.Cursor.{Cursor}
 use Rattle.binary.specs.Reader.{Got, got, no}
 use Rattle.binary.specs.Read.{RequestControl}
 use Rattle.binary_parts.specs.declared.Span.{Span}
@@ -24,13 +25,13 @@ pub record StandsIn (s : List ℕ) (w : Piece) : Type 0 where
   pub inside : w .place + length (w .text) ≤ length s
   pub taken : w .text ≡ take (length (w .text)) (drop (w .place) s)
 
--- behind what was read the reading goes on in s, at the place e
-abbrev pub GoesOn : List ℕ → ℕ → List ℕ → Type 0
-GoesOn s e l = (e ≤ length s) × (l ≡ drop e s)
+-- behind what was read the reading goes on in s, where the cursor e is; no more integers are counted than octets stand before it
+abbrev pub GoesOn : List ℕ → Cursor → List ℕ → Type 0
+GoesOn s e l = (e .at ≤ length s) × (l ≡ drop (e .at) s) × (e .long ≤ e .at)
 
 -- a part that was read from s: place and length of its octets, behind which the reading goes on
 abbrev pub PartSays : List ℕ → Got Piece → PartRead → Type 0
-PartSays s (got w e l) r = (r ≡ Is (w .place) (length (w .text))) × StandsIn s w × (e ≡ w .place + length (w .text)) × GoesOn s e l
+PartSays s (got w e l) r = (r ≡ Is (w .place) (length (w .text)) (e .long)) × StandsIn s w × (e .at ≡ w .place + length (w .text)) × GoesOn s e l
 PartSays s (no n p) r = r ≡ Refused n p
 
 -- the promise of a part that is read

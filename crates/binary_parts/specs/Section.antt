@@ -10,7 +10,7 @@ use Rattle.messages.specs.Message.{FieldRead, Section}
 use Rattle.messages.specs.Names.{lineKind, kept}
 use Rattle.messages.specs.Notes.{notesOf}
 use Rattle.messages.specs.Answers.{fieldsNumbers}
-use Rattle.binary.specs.Reader.{Got, got, no}
+use Rattle.binary.specs.Reader.{Got, got, no, cursor}
 use Rattle.binary_parts.specs.declared.LineRead.{LineRead}
 use Rattle.binary_parts.specs.declared.LineRead.the-variants as line
 use Rattle.binary_parts.specs.declared.Section as answer
@@ -18,18 +18,18 @@ use Rattle.binary_parts.specs.declared.Section.the-variants as section
 
 -- ---- one line
 
--- a good line f as the code answers it, where k fields are kept before it and the reading goes on at `end`
-abbrev pub nextLine : FieldRead → ℕ → Bool → ℕ → LineRead
-nextLine f end host k = line.Next end (k + length (kept host (f ∷ []))) (lineKind f) (f .place) (length (f .value .text))
+-- a good line f as the code answers it, where k fields are kept before it, the reading goes on at `end`, and so many integers are long so far
+abbrev pub nextLine : FieldRead → ℕ → Bool → ℕ → ℕ → LineRead
+nextLine f end host k long = line.Next end (k + length (kept host (f ∷ []))) (lineKind f) (f .place) (length (f .value .text)) long
 
 -- a line that was judged: where it is kept it is stored behind the k entries of o; the reading goes on at `end`
-abbrev pub JudgedSays : Judged FieldRead → ℕ → Bool → ℕ → List ℕ → List ℕ → LineRead → Type 0
-JudgedSays (good f) end host k o o′ r = (r ≡ nextLine f end host k) × (o′ ≡ splice o (k * 4) (fieldsNumbers (kept host (f ∷ []))))
-JudgedSays (wrong x p) end host k o o′ r = r ≡ line.Refused x p
+abbrev pub JudgedSays : Judged FieldRead → ℕ → Bool → ℕ → ℕ → List ℕ → List ℕ → LineRead → Type 0
+JudgedSays (good f) end host k long o o′ r = (r ≡ nextLine f end host k long) × (o′ ≡ splice o (k * 4) (fieldsNumbers (kept host (f ∷ []))))
+JudgedSays (wrong x p) end host k long o o′ r = r ≡ line.Refused x p
 
 -- what a judged line promises, as one fact
-pub record JudgedLine (j : Judged FieldRead) (end : ℕ) (host : Bool) (k : ℕ) (o o′ : List ℕ) (r : LineRead) : Type 0 where
-  pub says : JudgedSays j end host k o o′ r
+pub record JudgedLine (j : Judged FieldRead) (end : ℕ) (host : Bool) (k long : ℕ) (o o′ : List ℕ) (r : LineRead) : Type 0 where
+  pub says : JudgedSays j end host k long o o′ r
 
 -- the piece v ends at the index `end` of the part s, whose first octet is at the place a
 pub record EndsAt (s : List ℕ) (a end : ℕ) (v : Piece) : Type 0 where
@@ -41,12 +41,13 @@ pub record EndsAt (s : List ℕ) (a end : ℕ) (v : Piece) : Type 0 where
 abbrev pub LineSays : List ℕ → ℕ → Got FieldRead → Bool → ℕ → List ℕ → List ℕ → LineRead → Type 0
 LineSays s a (got f e l) host k o o′ r =
     (end : ℕ)
-    × (r ≡ nextLine f end host k)
+    × (r ≡ nextLine f end host k (e .long))
     × (o′ ≡ splice o (k * 4) (fieldsNumbers (kept host (f ∷ []))))
     × EndsAt s a end (f .value)
-    × (e ≡ a + end)
+    × (e .at ≡ a + end)
     × (end ≤ length s)
     × (l ≡ drop end s)
+    × (e .long ≤ a + end)
 LineSays s a (no x p) host k o o′ r = r ≡ line.Refused x p
 
 -- what a line that was read promises, as one fact
@@ -58,7 +59,8 @@ pub record Lined (s : List ℕ) (a : ℕ) (x : Got FieldRead) (host : Bool) (k :
 -- the lines of a section's body, behind the k entries of o; the section ends at `end`
 abbrev pub BodySays : Got (List FieldRead) → ℕ → Bool → ℕ → List ℕ → List ℕ → answer.Section → Type 0
 BodySays (got fs e l) end host k o o′ r =
-    (r ≡ section.Done end (k + length (kept host fs)) (notesOf false fs)) × (o′ ≡ splice o (k * 4) (fieldsNumbers (kept host fs)))
+    (r ≡ section.Done (cursor end (e .long)) (k + length (kept host fs)) (notesOf false fs)) × (o′ ≡ splice o (k * 4) (fieldsNumbers (kept host fs)))
+    × (e .long ≤ end)
 BodySays (no n p) end host k o o′ r = r ≡ section.Refused n p
 
 -- what the lines of a body promise, as one fact
@@ -70,9 +72,10 @@ abbrev pub SectionSays : List ℕ → Got Section → Bool → ℕ → List ℕ 
 SectionSays s (got h e l) host k o o′ r =
     (r ≡ section.Done e (k + length (kept host (h .lines))) (notesOf false (h .lines)))
     × (o′ ≡ splice o (k * 4) (fieldsNumbers (kept host (h .lines))))
-    × (h .end ≡ e)
-    × (e ≤ length s)
-    × (l ≡ drop e s)
+    × (h .end ≡ e .at)
+    × (e .at ≤ length s)
+    × (l ≡ drop (e .at) s)
+    × (e .long ≤ e .at)
 SectionSays s (no n p) host k o o′ r = r ≡ section.Refused n p
 
 -- what a section that was read promises, as one fact

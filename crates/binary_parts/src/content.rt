@@ -4,6 +4,7 @@ use crate::ContentRead;
 use crate::Padding;
 use crate::PartRead;
 use crate::parts::part_within;
+use binary::Cursor;
 use binary::Form;
 use messages::Framing;
 use messages::sections::does_agree;
@@ -19,6 +20,7 @@ ghost use Prim.Native.Nat.{_≤_, _<_};
 ghost use lib.ListN.{length, drop};
 ghost use Rattle.octets.specs.Limits.{chunksMost, contentMost};
 ghost use Rattle.ranges.specs.Ranges.{placesEnd};
+ghost use Rattle.binary.specs.Reader.{cursor};
 ghost use Rattle.binary.specs.Read.{knownContent, openContent, content, contentAgrees, padding};
 ghost use Rattle.messages.specs.Room.{chunksRoom};
 ghost use Rattle.binary_parts.specs.Content.{Chunked, Contented, Padded};
@@ -34,11 +36,11 @@ fn is_padding(form: Form, b: u8) -> bool
 }
 
 // The padding from `from` on, to the end of the input.
-pub fn check_padding(s: &[u8], from: usize, form: Form) -> Padding
-    requires { ⌜ from ≤ length (now s) ⌝ }
-    ensures { λ r. ⌜ Padded (now (s .entry)) (padding form from (drop from (now (s .entry)))) r ⌝ }
+pub fn check_padding(s: &[u8], from: Cursor, form: Form) -> Padding
+    requires { ⌜ from .at ≤ length (now s) ⌝ }
+    ensures { λ r. ⌜ Padded (now (s .entry)) (padding form from (drop (from .at) (now (s .entry)))) r ⌝ }
 {
-    let mut i = from;
+    let mut i = from.at;
     while i < s.len() {
         if is_padding(form, s[i]) {
             i += 1;
@@ -49,20 +51,31 @@ pub fn check_padding(s: &[u8], from: usize, form: Form) -> Padding
     Padding::Clean
 }
 
-// The chunk whose length stands at i, behind `count` chunks of `total` octets.
-fn open_chunk(s: &[u8], i: usize, count: usize, total: usize) -> ChunkRead
-    requires { ⌜ (total ≤ contentMost) × (count ≤ chunksMost) ⌝ }
-    ensures { λ r. ⌜ Chunked (now (s .entry)) i count total r ⌝ }
+// The chunk whose length stands at i, behind `count` chunks of `total` octets and so many long integers.
+fn open_chunk(s: &[u8], i: usize, count: usize, total: usize, long: usize) -> ChunkRead
+    requires { ⌜ (total ≤ contentMost) × (count ≤ chunksMost) × (long ≤ i) ⌝ }
+    ensures { λ r. ⌜ Chunked (now (s .entry)) (cursor i long) count total r ⌝ }
 {
     let v = read_int(s, i);
-    let Integer::Value { value, next } = v else {
+    let Integer::Value {
+        value,
+        next,
+        long: l,
+    } = v
+    else {
         return ChunkRead::Refused {
             number: Refusals::CUT_OFF,
             place: i,
         };
     };
+    let sum = long + l;
     if value == 0 {
-        return ChunkRead::Last { end: next };
+        return ChunkRead::Last {
+            end: Cursor {
+                at: next,
+                long: sum,
+            },
+        };
     }
     if Limits::fits(count + 1, Limits::CHUNKS) {
         if Limits::fits(total + value, Limits::CONTENT) {
@@ -75,6 +88,7 @@ fn open_chunk(s: &[u8], i: usize, count: usize, total: usize) -> ChunkRead
             return ChunkRead::Next {
                 start: next,
                 len: value,
+                long: sum,
             };
         }
         return ChunkRead::Refused {
@@ -89,15 +103,16 @@ fn open_chunk(s: &[u8], i: usize, count: usize, total: usize) -> ChunkRead
 }
 
 // Chunks from `from` on, up to a length of zero.
-fn open_content(s: &[u8], from: usize, out: &mut [u32]) -> ContentRead
-    requires { ⌜ (from ≤ length (now s)) × (length (now s) < placesEnd) × (chunksRoom ≤ length (now out)) ⌝ }
-    ensures { λ r. ⌜ Contented (now (s .entry)) (openContent from (drop from (now (s .entry)))) (now (out .entry)) (now (out .exit)) r ⌝ }
+fn open_content(s: &[u8], from: Cursor, out: &mut [u32]) -> ContentRead
+    requires { ⌜ (from .at ≤ length (now s)) × (length (now s) < placesEnd) × (chunksRoom ≤ length (now out)) × (from .long ≤ from .at) ⌝ }
+    ensures { λ r. ⌜ Contented (now (s .entry)) (openContent from (drop (from .at) (now (s .entry)))) (now (out .entry)) (now (out .exit)) r ⌝ }
 {
-    let mut i = from;
+    let mut i = from.at;
     let mut count: usize = 0;
     let mut total: usize = 0;
+    let mut longs = from.long;
     loop {
-        let c = open_chunk(s, i, count, total);
+        let c = open_chunk(s, i, count, total, longs);
         match c {
             ChunkRead::Refused { number, place } => return ContentRead::Refused { number, place },
             ChunkRead::Last { end } => return ContentRead::Done {
@@ -105,10 +120,11 @@ fn open_content(s: &[u8], from: usize, out: &mut [u32]) -> ContentRead
                 chunks: count,
                 total,
             },
-            ChunkRead::Next { start, len } => {
+            ChunkRead::Next { start, len, long } => {
                 store(out, count, start as u32, len as u32);
                 count += 1;
                 total += len;
+                longs = long;
                 i = start + len;
             }
         }
@@ -116,15 +132,18 @@ fn open_content(s: &[u8], from: usize, out: &mut [u32]) -> ContentRead
 }
 
 // Content of known length at `from`: one chunk, or none.
-fn known_content(s: &[u8], from: usize, out: &mut [u32]) -> ContentRead
-    requires { ⌜ (length (now s) < placesEnd) × (chunksRoom ≤ length (now out)) ⌝ }
-    ensures { λ r. ⌜ Contented (now (s .entry)) (knownContent from (drop from (now (s .entry)))) (now (out .entry)) (now (out .exit)) r ⌝ }
+fn known_content(s: &[u8], from: Cursor, out: &mut [u32]) -> ContentRead
+    requires { ⌜ (length (now s) < placesEnd) × (chunksRoom ≤ length (now out)) × (from .long ≤ from .at) ⌝ }
+    ensures { λ r. ⌜ Contented (now (s .entry)) (knownContent from (drop (from .at) (now (s .entry)))) (now (out .entry)) (now (out .exit)) r ⌝ }
 {
     let w = part_within(s, from, Limits::CONTENT);
     match w {
         PartRead::Refused { number, place } => return ContentRead::Refused { number, place },
-        PartRead::Is { start, len } => {
-            let end = start + len;
+        PartRead::Is { start, len, long } => {
+            let end = Cursor {
+                at: start + len,
+                long,
+            };
             if len == 0 {
                 return ContentRead::Done {
                     end,
@@ -143,11 +162,11 @@ fn known_content(s: &[u8], from: usize, out: &mut [u32]) -> ContentRead
 }
 
 // The content from `from` on, of known length or in chunks; where the message ends before it there is none.
-pub fn read_content(s: &[u8], from: usize, known: bool, out: &mut [u32]) -> ContentRead
-    requires { ⌜ (from ≤ length (now s)) × (length (now s) < placesEnd) × (chunksRoom ≤ length (now out)) ⌝ }
-    ensures { λ r. ⌜ Contented (now (s .entry)) (content known from (drop from (now (s .entry)))) (now (out .entry)) (now (out .exit)) r ⌝ }
+pub fn read_content(s: &[u8], from: Cursor, known: bool, out: &mut [u32]) -> ContentRead
+    requires { ⌜ (from .at ≤ length (now s)) × (length (now s) < placesEnd) × (chunksRoom ≤ length (now out)) × (from .long ≤ from .at) ⌝ }
+    ensures { λ r. ⌜ Contented (now (s .entry)) (content known from (drop (from .at) (now (s .entry)))) (now (out .entry)) (now (out .exit)) r ⌝ }
 {
-    if s.len() <= from {
+    if s.len() <= from.at {
         return ContentRead::Done {
             end: from,
             chunks: 0,

@@ -4,6 +4,7 @@ pub mod control;
 pub mod lines;
 mod parts;
 
+use binary::Cursor;
 use messages::Kind;
 use messages::Notes;
 
@@ -13,10 +14,17 @@ pub struct Span {
     pub len: usize,
 }
 
-// A part that was read: where the octets behind its length start and how many they are.
+// A part that was read: where the octets behind its length start, how many they are, and how many integers so far are long.
 enum PartRead {
-    Is { start: usize, len: usize },
-    Refused { number: u32, place: usize },
+    Is {
+        start: usize,
+        len: usize,
+        long: usize,
+    },
+    Refused {
+        number: u32,
+        place: usize,
+    },
 }
 
 // The parts of control data that have a size and a rule of their octets.
@@ -28,7 +36,7 @@ enum Ruled {
 
 // A scheme that was read, by its number, and the place behind it.
 enum SchemeRead {
-    Is { scheme: u32, end: usize },
+    Is { scheme: u32, end: Cursor },
     Refused { number: u32, place: usize },
 }
 
@@ -39,7 +47,7 @@ pub enum ControlRead {
         scheme: u32,
         authority: Span,
         path: Span,
-        end: usize,
+        end: Cursor,
     },
     Refused {
         number: u32,
@@ -47,17 +55,27 @@ pub enum ControlRead {
     },
 }
 
-// A chunk that was read: where its octets start and how many they are; or the place behind the length zero that ends the content.
+// A chunk that was read: where its octets start, how many they are, and how many integers so far are long; or how far the content goes, the length zero
+// that ends it included.
 enum ChunkRead {
-    Next { start: usize, len: usize },
-    Last { end: usize },
-    Refused { number: u32, place: usize },
+    Next {
+        start: usize,
+        len: usize,
+        long: usize,
+    },
+    Last {
+        end: Cursor,
+    },
+    Refused {
+        number: u32,
+        place: usize,
+    },
 }
 
 // Content that was read: the place behind it, how many non-empty chunks it has, how many octets they are.
 pub enum ContentRead {
     Done {
-        end: usize,
+        end: Cursor,
         chunks: usize,
         total: usize,
     },
@@ -76,7 +94,7 @@ pub enum Padding {
 // A section that was read: the place behind it, how many kept fields stand in the lent ranges now, and what its lines state.
 pub enum Section {
     Done {
-        end: usize,
+        end: Cursor,
         kept: usize,
         notes: Notes,
     },
@@ -87,7 +105,7 @@ pub enum Section {
 }
 
 // A field line that was read: the index behind it in the part that was lent, the count of kept fields with it, its kind, its place, and the
-// size of its value, which ends where the line ends.
+// size of its value, which ends where the line ends; how many integers so far are long.
 enum LineRead {
     Next {
         end: usize,
@@ -95,6 +113,7 @@ enum LineRead {
         kind: Kind,
         place: usize,
         len: usize,
+        long: usize,
     },
     Refused {
         number: u32,

@@ -1,6 +1,7 @@
 // Field lines and field sections, of known and of indeterminate length.
 use crate::LineRead;
 use crate::Section;
+use binary::Cursor;
 use binary::Form;
 use messages::parts::is_end_to_end;
 use messages::parts::is_lower_name;
@@ -25,6 +26,7 @@ ghost use Rattle.octets.specs.Limits.{linesMost};
 ghost use Rattle.script.specs.Do.{piece};
 ghost use Rattle.messages.specs.Control.{isLowerName};
 ghost use Rattle.ranges.specs.Ranges.{placesEnd};
+ghost use Rattle.binary.specs.Reader.{cursor};
 ghost use Rattle.binary.specs.Read.{isLineValue, judgedLine, cutNumber, cutPlace, afterNameLength, knownLine, knownLines, section, headerSection};
 ghost use Rattle.messages.specs.Room.{sectionRoom};
 ghost use Rattle.binary_parts.specs.Section.{JudgedLine, Lined, Bodied, Sectioned};
@@ -86,9 +88,10 @@ fn store_line(
     host: bool,
     kept: usize,
     out: &mut [u32],
+    long: usize,
 ) -> LineRead
     requires { ⌜ (now t ≡ classes) × (n + length (now name) < placesEnd) × (v + length (now value) < placesEnd) × (kept * 4 + 4 ≤ length (now out)) ⌝ }
-    ensures { λ r. ⌜ JudgedLine (judgedLine form p (piece n (now (name .entry))) (piece v (now (value .entry)))) end host kept
+    ensures { λ r. ⌜ JudgedLine (judgedLine form p (piece n (now (name .entry))) (piece v (now (value .entry)))) end host kept long
         (now (out .entry)) (now (out .exit)) r ⌝ }
 {
     if is_line(t, form, name, value) {
@@ -108,6 +111,7 @@ fn store_line(
             kind,
             place: p,
             len: value.len(),
+            long,
         };
     } else {
         return LineRead::Refused {
@@ -129,9 +133,10 @@ fn after_name_length(
     host: bool,
     kept: usize,
     out: &mut [u32],
+    long: usize,
 ) -> LineRead
-    requires { ⌜ (now t ≡ classes) × (at ≤ length (now s)) × (a + length (now s) < placesEnd) × (kept * 4 + 4 ≤ length (now out)) ⌝ }
-    ensures { λ r. ⌜ Lined (now (s .entry)) a (afterNameLength form p n (a + at) (drop at (now (s .entry)))) host kept
+    requires { ⌜ (now t ≡ classes) × (at ≤ length (now s)) × (a + length (now s) < placesEnd) × (kept * 4 + 4 ≤ length (now out)) × (long ≤ a + at) ⌝ }
+    ensures { λ r. ⌜ Lined (now (s .entry)) a (afterNameLength form p n (cursor (a + at) long) (drop at (now (s .entry)))) host kept
         (now (out .entry)) (now (out .exit)) r ⌝ }
 {
     let number = cut_number(form);
@@ -140,7 +145,12 @@ fn after_name_length(
     }
     let m = at + n;
     let place = cut_place(form, p, a + m);
-    let Integer::Value { value: len, next } = read_int(s, m) else {
+    let Integer::Value {
+        value: len,
+        next,
+        long: l,
+    } = read_int(s, m)
+    else {
         return LineRead::Refused { number, place };
     };
     if s.len() - next < len {
@@ -159,6 +169,7 @@ fn after_name_length(
         host,
         kept,
         out,
+        long + l,
     )
 }
 
@@ -172,12 +183,18 @@ fn known_line(
     host: bool,
     kept: usize,
     out: &mut [u32],
+    long: usize,
 ) -> LineRead
-    requires { ⌜ (now t ≡ classes) × (at ≤ length (now s)) × (a + length (now s) < placesEnd) × (kept * 4 + 4 ≤ length (now out)) ⌝ }
-    ensures { λ r. ⌜ Lined (now (s .entry)) a (knownLine form (a + at) (drop at (now (s .entry)))) host kept (now (out .entry)) (now (out .exit)) r ⌝ }
+    requires { ⌜ (now t ≡ classes) × (at ≤ length (now s)) × (a + length (now s) < placesEnd) × (kept * 4 + 4 ≤ length (now out)) × (long ≤ a + at) ⌝ }
+    ensures { λ r. ⌜ Lined (now (s .entry)) a (knownLine form (cursor (a + at) long) (drop at (now (s .entry)))) host kept (now (out .entry)) (now (out .exit)) r ⌝ }
 {
     let p = a + at;
-    let Integer::Value { value: n, next } = read_int(s, at) else {
+    let Integer::Value {
+        value: n,
+        next,
+        long: l,
+    } = read_int(s, at)
+    else {
         return LineRead::Refused {
             number: Refusals::BAD_SECTION,
             place: p,
@@ -189,7 +206,7 @@ fn known_line(
             place: p,
         };
     }
-    after_name_length(t, s, a, p, next, n, form, host, kept, out)
+    after_name_length(t, s, a, p, next, n, form, host, kept, out, long + l)
 }
 
 // The lines that fill the body s of a known-length section, whose first octet is at the place a: at most 64 of them. Kept fields are stored behind
@@ -202,25 +219,30 @@ fn known_lines(
     host: bool,
     base: usize,
     out: &mut [u32],
+    before: usize,
 ) -> Section
-    requires { ⌜ (now t ≡ classes) × (a + length (now s) < placesEnd) × (base * 4 + sectionRoom ≤ length (now out)) ⌝ }
-    ensures { λ r. ⌜ Bodied (knownLines form (suc linesMost) [] a (now (s .entry))) (a + length (now (s .entry))) host base
+    requires { ⌜ (now t ≡ classes) × (a + length (now s) < placesEnd) × (base * 4 + sectionRoom ≤ length (now out)) × (before ≤ a) ⌝ }
+    ensures { λ r. ⌜ Bodied (knownLines form (suc linesMost) [] (cursor a before) (now (s .entry))) (a + length (now (s .entry))) host base
         (now (out .entry)) (now (out .exit)) r ⌝ }
 {
     let mut i: usize = 0;
     let mut lines: usize = 0;
     let mut count = base;
     let mut notes = no_notes();
+    let mut longs = before;
     loop {
         if s.len() <= i {
             return Section::Done {
-                end: a + s.len(),
+                end: Cursor {
+                    at: a + s.len(),
+                    long: longs,
+                },
                 kept: count,
                 notes,
             };
         }
         if Limits::fits(lines + 1, Limits::LINES) {
-            let line = known_line(t, s, a, i, form, host, count, out);
+            let line = known_line(t, s, a, i, form, host, count, out, longs);
             match line {
                 LineRead::Refused { number, place } => return Section::Refused { number, place },
                 LineRead::Next {
@@ -229,9 +251,11 @@ fn known_lines(
                     kind,
                     place,
                     len,
+                    long,
                 } => {
                     count = kept;
                     lines += 1;
+                    longs = long;
                     i = end;
                     if is_noted(kind) {
                         let v = end - len;
@@ -252,65 +276,90 @@ fn known_lines(
 fn known_section(
     t: &[u8; 256],
     s: &[u8],
-    from: usize,
+    from: Cursor,
     form: Form,
     host: bool,
     base: usize,
     out: &mut [u32],
 ) -> Section
-    requires { ⌜ (now t ≡ classes) × (from ≤ length (now s)) × (length (now s) < placesEnd) × (base * 4 + sectionRoom ≤ length (now out))
-        × (form .known ≡ true) ⌝ }
-    ensures { λ r. ⌜ Sectioned (now (s .entry)) (section form from (drop from (now (s .entry)))) host base (now (out .entry)) (now (out .exit)) r ⌝ }
+    requires { ⌜ (now t ≡ classes) × (from .at ≤ length (now s)) × (length (now s) < placesEnd) × (base * 4 + sectionRoom ≤ length (now out))
+        × (form .known ≡ true) × (from .long ≤ from .at) ⌝ }
+    ensures { λ r. ⌜ Sectioned (now (s .entry)) (section form from (drop (from .at) (now (s .entry)))) host base (now (out .entry)) (now (out .exit)) r ⌝ }
 {
-    let Integer::Value { value: n, next } = read_int(s, from) else {
+    let at = from.at;
+    let Integer::Value {
+        value: n,
+        next,
+        long,
+    } = read_int(s, at)
+    else {
         return Section::Refused {
             number: Refusals::CUT_OFF,
-            place: from,
+            place: at,
         };
     };
     if s.len() - next < n {
         return Section::Refused {
             number: Refusals::CUT_OFF,
-            place: from,
+            place: at,
         };
     }
-    known_lines(t, &s[next..next + n], next, form, host, base, out)
+    known_lines(
+        t,
+        &s[next..next + n],
+        next,
+        form,
+        host,
+        base,
+        out,
+        from.long + long,
+    )
 }
 
 // An indeterminate section: at most 64 lines, up to a name length of zero.
 fn open_section(
     t: &[u8; 256],
     s: &[u8],
-    from: usize,
+    from: Cursor,
     form: Form,
     host: bool,
     base: usize,
     out: &mut [u32],
 ) -> Section
-    requires { ⌜ (now t ≡ classes) × (from ≤ length (now s)) × (length (now s) < placesEnd) × (base * 4 + sectionRoom ≤ length (now out))
-        × (form .known ≡ false) ⌝ }
-    ensures { λ r. ⌜ Sectioned (now (s .entry)) (section form from (drop from (now (s .entry)))) host base (now (out .entry)) (now (out .exit)) r ⌝ }
+    requires { ⌜ (now t ≡ classes) × (from .at ≤ length (now s)) × (length (now s) < placesEnd) × (base * 4 + sectionRoom ≤ length (now out))
+        × (form .known ≡ false) × (from .long ≤ from .at) ⌝ }
+    ensures { λ r. ⌜ Sectioned (now (s .entry)) (section form from (drop (from .at) (now (s .entry)))) host base (now (out .entry)) (now (out .exit)) r ⌝ }
 {
-    let mut i = from;
+    let mut i = from.at;
     let mut lines: usize = 0;
     let mut count = base;
     let mut notes = no_notes();
+    let mut longs = from.long;
     loop {
-        let Integer::Value { value: n, next } = read_int(s, i) else {
+        let Integer::Value {
+            value: n,
+            next,
+            long: l,
+        } = read_int(s, i)
+        else {
             return Section::Refused {
                 number: Refusals::CUT_OFF,
                 place: i,
             };
         };
+        let sum = longs + l;
         if n == 0 {
             return Section::Done {
-                end: next,
+                end: Cursor {
+                    at: next,
+                    long: sum,
+                },
                 kept: count,
                 notes,
             };
         }
         if Limits::fits(lines + 1, Limits::LINES) {
-            let line = after_name_length(t, s, 0, i, next, n, form, host, count, out);
+            let line = after_name_length(t, s, 0, i, next, n, form, host, count, out, sum);
             match line {
                 LineRead::Refused { number, place } => return Section::Refused { number, place },
                 LineRead::Next {
@@ -319,9 +368,11 @@ fn open_section(
                     kind,
                     place,
                     len,
+                    long,
                 } => {
                     count = kept;
                     lines += 1;
+                    longs = long;
                     i = end;
                     if is_noted(kind) {
                         let v = end - len;
@@ -342,14 +393,15 @@ fn open_section(
 pub fn read_section(
     t: &[u8; 256],
     s: &[u8],
-    from: usize,
+    from: Cursor,
     form: Form,
     host: bool,
     base: usize,
     out: &mut [u32],
 ) -> Section
-    requires { ⌜ (now t ≡ classes) × (from ≤ length (now s)) × (length (now s) < placesEnd) × (base * 4 + sectionRoom ≤ length (now out)) ⌝ }
-    ensures { λ r. ⌜ Sectioned (now (s .entry)) (section form from (drop from (now (s .entry)))) host base (now (out .entry)) (now (out .exit)) r ⌝ }
+    requires { ⌜ (now t ≡ classes) × (from .at ≤ length (now s)) × (length (now s) < placesEnd) × (base * 4 + sectionRoom ≤ length (now out))
+        × (from .long ≤ from .at) ⌝ }
+    ensures { λ r. ⌜ Sectioned (now (s .entry)) (section form from (drop (from .at) (now (s .entry)))) host base (now (out .entry)) (now (out .exit)) r ⌝ }
 {
     if form.known {
         return known_section(t, s, from, form, host, base, out);
@@ -372,16 +424,17 @@ fn is_headless(s: &[u8], from: usize, form: Form) -> bool
 pub fn header_section(
     t: &[u8; 256],
     s: &[u8],
-    from: usize,
+    from: Cursor,
     form: Form,
     host: bool,
     base: usize,
     out: &mut [u32],
 ) -> Section
-    requires { ⌜ (now t ≡ classes) × (from ≤ length (now s)) × (length (now s) < placesEnd) × (base * 4 + sectionRoom ≤ length (now out)) ⌝ }
-    ensures { λ r. ⌜ Sectioned (now (s .entry)) (headerSection form from (drop from (now (s .entry)))) host base (now (out .entry)) (now (out .exit)) r ⌝ }
+    requires { ⌜ (now t ≡ classes) × (from .at ≤ length (now s)) × (length (now s) < placesEnd) × (base * 4 + sectionRoom ≤ length (now out))
+        × (from .long ≤ from .at) ⌝ }
+    ensures { λ r. ⌜ Sectioned (now (s .entry)) (headerSection form from (drop (from .at) (now (s .entry)))) host base (now (out .entry)) (now (out .exit)) r ⌝ }
 {
-    if is_headless(s, from, form) {
+    if is_headless(s, from.at, form) {
         return Section::Done {
             end: from,
             kept: base,

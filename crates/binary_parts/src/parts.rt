@@ -1,5 +1,6 @@
 // Parts: a length, and the octets that it counts.
 use crate::PartRead;
+use binary::Cursor;
 use numbers::Integer;
 use numbers::read_int;
 use octets::Limits;
@@ -7,14 +8,14 @@ use octets::Refusals;
 ghost use Prim.Native.Nat.{_≤_};
 ghost use lib.ListN.{length, drop};
 ghost use Rattle.octets.specs.Refusals.{cutOff};
-ghost use Rattle.binary.specs.Reader.{string};
+ghost use Rattle.binary.specs.Reader.{cursor, string};
 ghost use Rattle.binary.specs.Read.{part, partWithin};
 ghost use Rattle.binary_parts.specs.Control.{Parted};
 
-// The n octets from `at` on of a part that starts at `place`.
-fn part_octets(s: &[u8], place: usize, at: usize, n: usize) -> PartRead
-    requires { ⌜ at ≤ length (now s) ⌝ }
-    ensures { λ r. ⌜ Parted (now (s .entry)) (string n cutOff place at (drop at (now (s .entry)))) r ⌝ }
+// The n octets from `at` on of a part that starts at `place`, behind which so many integers are long.
+fn part_octets(s: &[u8], place: usize, at: usize, n: usize, long: usize) -> PartRead
+    requires { ⌜ (at ≤ length (now s)) × (long ≤ at) ⌝ }
+    ensures { λ r. ⌜ Parted (now (s .entry)) (string n cutOff place (cursor at long) (drop at (now (s .entry)))) r ⌝ }
 {
     if s.len() - at < n {
         return PartRead::Refused {
@@ -22,39 +23,47 @@ fn part_octets(s: &[u8], place: usize, at: usize, n: usize) -> PartRead
             place,
         };
     }
-    PartRead::Is { start: at, len: n }
+    PartRead::Is {
+        start: at,
+        len: n,
+        long,
+    }
 }
 
 // The part at `from`, of any size.
-pub(crate) fn part_at(s: &[u8], from: usize) -> PartRead
-    ensures { λ r. ⌜ Parted (now (s .entry)) (part from (drop from (now (s .entry)))) r ⌝ }
+pub(crate) fn part_at(s: &[u8], from: Cursor) -> PartRead
+    requires { ⌜ from .long ≤ from .at ⌝ }
+    ensures { λ r. ⌜ Parted (now (s .entry)) (part from (drop (from .at) (now (s .entry)))) r ⌝ }
 {
-    let v = read_int(s, from);
-    let Integer::Value { value, next } = v else {
+    let at = from.at;
+    let v = read_int(s, at);
+    let Integer::Value { value, next, long } = v else {
         return PartRead::Refused {
             number: Refusals::CUT_OFF,
-            place: from,
+            place: at,
         };
     };
-    part_octets(s, from, next, value)
+    part_octets(s, at, next, value, from.long + long)
 }
 
 // The part at `from`, of at most so many octets.
-pub(crate) fn part_within(s: &[u8], from: usize, most: usize) -> PartRead
-    ensures { λ r. ⌜ Parted (now (s .entry)) (partWithin most from (drop from (now (s .entry)))) r ⌝ }
+pub(crate) fn part_within(s: &[u8], from: Cursor, most: usize) -> PartRead
+    requires { ⌜ from .long ≤ from .at ⌝ }
+    ensures { λ r. ⌜ Parted (now (s .entry)) (partWithin most from (drop (from .at) (now (s .entry)))) r ⌝ }
 {
-    let v = read_int(s, from);
-    let Integer::Value { value, next } = v else {
+    let at = from.at;
+    let v = read_int(s, at);
+    let Integer::Value { value, next, long } = v else {
         return PartRead::Refused {
             number: Refusals::CUT_OFF,
-            place: from,
+            place: at,
         };
     };
     if Limits::fits(value, most) {
-        return part_octets(s, from, next, value);
+        return part_octets(s, at, next, value, from.long + long);
     }
     PartRead::Refused {
         number: Refusals::TOO_LARGE,
-        place: from,
+        place: at,
     }
 }

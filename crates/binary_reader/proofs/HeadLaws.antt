@@ -23,7 +23,8 @@ use Rattle.messages.specs.declared.Notes.{Notes}
 use Rattle.messages.specs.declared.Told.{Told}
 use Rattle.messages.proofs.Noting.{notes-binary}
 use Rattle.messages.proofs.Lengths.{body-read, body-refused}
-use Rattle.binary.specs.Reader.{Got, no, _>>=_}
+use Rattle.binary.specs.declared.Cursor.{Cursor}
+use Rattle.binary.specs.Reader.{Got, no, cursor, _>>=_}
 use Rattle.binary.specs.declared.Form.{Form}
 use Rattle.binary.specs.Read.{section, headerSection, afterFinal, afterFinalStatus, afterInformational, afterInformationalStatus, heads}
 use Rattle.binary_parts.specs.Section.{Sectioned}
@@ -48,95 +49,95 @@ says-as form f is s base hs hs′ (head.Refused i p) q u = λ t. q t ∙ u t
 -- ---- the section behind a status
 
 module _ (s : List ℕ) {base : ℕ} {hs hs′ : List ℕ} where
-  head-stored : {x : Got Section} {e c : ℕ} {n : Notes} (d : SectionDone s x true base hs hs′ e c n) → HeadStored s base hs hs′ e c (d .read)
-  head-stored d = record { end = d .end; within = d .within; few = d .lines .section .few; count = d .count; stored = d .stored }
+  head-stored : {x : Got Section} {e : Cursor} {c : ℕ} {n : Notes} (d : SectionDone s x true base hs hs′ e c n) → HeadStored s base hs hs′ e c (d .read)
+  head-stored d = record { end = d .end; within = d .within; few = d .lines .section .few; count = d .count; stored = d .stored; counted = d .counted }
 
-module _ (s : List ℕ) (form : Form) (next status : ℕ) {base : ℕ} {hs hs′ : List ℕ} {r : answer.Section} (w : Sectioned s (section form next (drop next s)) true base hs hs′ r) where
+module _ (s : List ℕ) (form : Form) (next : Cursor) (status : ℕ) {base : ℕ} {hs hs′ : List ℕ} {r : answer.Section} (w : Sectioned s (section form next (drop (next .at) s)) true base hs hs′ r) where
   pub informational-no : {i p : ℕ} → r ≡ section-read.Refused i p
-      → Headed FewHeads (λ f is t. afterInformationalStatus form (heads t form f) is status next (drop next s)) form s base hs hs′ (head.Refused i p)
+      → Headed FewHeads (λ f is t. afterInformationalStatus form (heads t form f) is status next (drop (next .at) s)) form s base hs hs′ (head.Refused i p)
   unfolding afterInformationalStatus
   informational-no e = record { by = λ f is z t. behind-no (section form) (afterInformational (heads t form f) is status) s next (section-no w e) }
 
-  module _ (within : next ≤ length s) {e c : ℕ} {n : Notes} (q : r ≡ section-read.Done e c n) where
-    done : SectionDone s (section form next (drop next s)) true base hs hs′ e c n
-    done = section-done w (section-lines form s next within) q
+  module _ (within : next .at ≤ length s) (few : next .long ≤ next .at) {e : Cursor} {c : ℕ} {n : Notes} (q : r ≡ section-read.Done e c n) where
+    done : SectionDone s (section form next (drop (next .at) s)) true base hs hs′ e c n
+    done = section-done w (section-lines form s next within few) q
 
-    judged : (d : SectionDone s (section form next (drop next s)) true base hs hs′ e c n)
-        → nothingStated e (n .framing) ≡ nothingStated (d .read .end) (binaryFramingOf (d .read .lines))
+    judged : (d : SectionDone s (section form next (drop (next .at) s)) true base hs hs′ e c n)
+        → nothingStated (e .at) (n .framing) ≡ nothingStated (d .read .end) (binaryFramingOf (d .read .lines))
     judged d = rw (d .end, framing-noted n (d .read) (d .noted)) refl
 
-    pub informational-states : {i p : ℕ} → bodyAnswer (nothingStated e (n .framing)) ≡ body.Refused i p
-        → Headed FewHeads (λ f is t. afterInformationalStatus form (heads t form f) is status next (drop next s)) form s base hs hs′ (head.Refused i p)
+    pub informational-states : {i p : ℕ} → bodyAnswer (nothingStated (e .at) (n .framing)) ≡ body.Refused i p
+        → Headed FewHeads (λ f is t. afterInformationalStatus form (heads t form f) is status next (drop (next .at) s)) form s base hs hs′ (head.Refused i p)
     unfolding afterInformationalStatus afterInformational _>>=_
     informational-states {i} {p} g =
         let z : nothingStated (done .read .end) (binaryFramingOf (done .read .lines)) ≡ wrong i p = sym (judged done) ∙ body-refused _ i p g in
         record { by = λ f is few t. behind-got (section form) (afterInformational (heads t form f) is status) s next (done .gives) ∙ rw z }
 
-    pub informational-ends : (b : Body) → bodyAnswer (nothingStated e (n .framing)) ≡ body.Read b
-        → Headed FewHeads (λ f is t. afterInformationalStatus form (heads t form f) is status next (drop next s)) form s base hs hs′ (head.Informational status e c)
+    pub informational-ends : (b : Body) → bodyAnswer (nothingStated (e .at) (n .framing)) ≡ body.Read b
+        → Headed FewHeads (λ f is t. afterInformationalStatus form (heads t form f) is status next (drop (next .at) s)) form s base hs hs′ (head.Informational status e c)
     unfolding afterInformationalStatus afterInformational _>>=_
     informational-ends b g =
         let z : nothingStated (done .read .end) (binaryFramingOf (done .read .lines)) ≡ good b = sym (judged done) ∙ body-read _ b g in
         record { by = λ f is few. (done .read, head-stored s done, few, λ t. behind-got (section form) (afterInformational (heads t form f) is status) s next (done .gives) ∙ rw z) }
 
-module _ (s : List ℕ) (form : Form) (next status : ℕ) {base : ℕ} {hs hs′ : List ℕ} {r : answer.Section}
-    (w : Sectioned s (headerSection form next (drop next s)) true base hs hs′ r) where
+module _ (s : List ℕ) (form : Form) (next : Cursor) (status : ℕ) {base : ℕ} {hs hs′ : List ℕ} {r : answer.Section}
+    (w : Sectioned s (headerSection form next (drop (next .at) s)) true base hs hs′ r) where
   pub final-no : {i p : ℕ} → r ≡ section-read.Refused i p
-      → Headed AnyHeads (λ f is t. afterFinalStatus t form is status next (drop next s)) form s base hs hs′ (head.Refused i p)
+      → Headed AnyHeads (λ f is t. afterFinalStatus t form is status next (drop (next .at) s)) form s base hs hs′ (head.Refused i p)
   unfolding afterFinalStatus
   final-no e = record { by = λ f is z t. behind-no (headerSection form) (afterFinal t form is status) s next (section-no w e) }
 
-  pub final-ends : next ≤ length s → {e c : ℕ} {n : Notes} → r ≡ section-read.Done e c n → FinalStatus status
-      → Headed AnyHeads (λ f is t. afterFinalStatus t form is status next (drop next s)) form s base hs hs′ (head.Final status e c n)
+  pub final-ends : next .at ≤ length s → next .long ≤ next .at → {e : Cursor} {c : ℕ} {n : Notes} → r ≡ section-read.Done e c n → FinalStatus status
+      → Headed AnyHeads (λ f is t. afterFinalStatus t form is status next (drop (next .at) s)) form s base hs hs′ (head.Final status e c n)
   unfolding afterFinalStatus
-  final-ends within q u =
-      let d = section-done w (header-lines form s next within) q in
+  final-ends within few q u =
+      let d = section-done w (header-lines form s next within few) q in
       record { by = λ f is z. (d .read, head-stored s d, d .noted, u, λ t. behind-got (headerSection form) (afterFinal t form is status) s next (d .gives)) }
 
 -- ---- the status
 
-module _ (s : List ℕ) (form : Form) (i f : ℕ) (is : List InformationalRead) (t : Told) where
-  status-cut : readInt i (drop i s) ≡ Cut → heads t form (suc f) is i (drop i s) ≡ no cutOff i
+module _ (s : List ℕ) (form : Form) (i : Cursor) (f : ℕ) (is : List InformationalRead) (t : Told) where
+  status-cut : readInt (i .at) (drop (i .at) s) ≡ Cut → heads t form (suc f) is i (drop (i .at) s) ≡ no cutOff (i .at)
   unfolding heads _>>=_
-  status-cut e = rw (integer-cut s i cutOff i e)
+  status-cut e = rw (integer-cut s i cutOff (i .at) e)
 
-  module _ {n next : ℕ} (e : readInt i (drop i s) ≡ Value n next) where
-    status-wrong : (statusVerdict n ≡ 0 → ⊥) → heads t form (suc f) is i (drop i s) ≡ no (statusVerdict n) i
+  module _ {n next l : ℕ} (e : readInt (i .at) (drop (i .at) s) ≡ Value n next l) where
+    status-wrong : (statusVerdict n ≡ 0 → ⊥) → heads t form (suc f) is i (drop (i .at) s) ≡ no (statusVerdict n) (i .at)
     unfolding heads _>>=_
-    status-wrong z = rw (integer-got s i cutOff i e, ne-eqb (statusVerdict n) 0 z)
+    status-wrong z = rw (integer-got s i cutOff (i .at) e, ne-eqb (statusVerdict n) 0 z)
 
     module _ (z : statusVerdict n ≡ 0) where
-      status-full : isInformational n ≡ true → informationalMost ≤ length is → heads t form (suc f) is i (drop i s) ≡ no tooLarge i
+      status-full : isInformational n ≡ true → informationalMost ≤ length is → heads t form (suc f) is i (drop (i .at) s) ≡ no tooLarge (i .at)
       unfolding heads _>>=_
-      status-full b g = rw (integer-got s i cutOff i e, eq-eqb (statusVerdict n) 0 z, b, le-leb _ _ g)
+      status-full b g = rw (integer-got s i cutOff (i .at) e, eq-eqb (statusVerdict n) 0 z, b, le-leb _ _ g)
 
       status-informational : isInformational n ≡ true → length is < informationalMost
-          → heads t form (suc f) is i (drop i s) ≡ afterInformationalStatus form (heads t form f) is n next (drop next s)
+          → heads t form (suc f) is i (drop (i .at) s) ≡ afterInformationalStatus form (heads t form f) is n (cursor next (i .long + l)) (drop next s)
       unfolding heads _>>=_
-      status-informational b g = rw (integer-got s i cutOff i e, eq-eqb (statusVerdict n) 0 z, b, lt-leb _ _ g)
+      status-informational b g = rw (integer-got s i cutOff (i .at) e, eq-eqb (statusVerdict n) 0 z, b, lt-leb _ _ g)
 
-      status-final : isInformational n ≡ false → heads t form (suc f) is i (drop i s) ≡ afterFinalStatus t form is n next (drop next s)
+      status-final : isInformational n ≡ false → heads t form (suc f) is i (drop (i .at) s) ≡ afterFinalStatus t form is n (cursor next (i .long + l)) (drop next s)
       unfolding heads _>>=_
-      status-final b = rw (integer-got s i cutOff i e, eq-eqb (statusVerdict n) 0 z, b)
+      status-final b = rw (integer-got s i cutOff (i .at) e, eq-eqb (statusVerdict n) 0 z, b)
 
-module _ (s : List ℕ) (form : Form) (i count base : ℕ) (hs hs′ : List ℕ) where
-  pub next-cut : readInt i (drop i s) ≡ Cut
-      → Headed (SoManyHeads count) (λ f is t. heads t form (suc f) is i (drop i s)) form s base hs hs′ (head.Refused cutOff i)
+module _ (s : List ℕ) (form : Form) (i : Cursor) (count base : ℕ) (hs hs′ : List ℕ) where
+  pub next-cut : readInt (i .at) (drop (i .at) s) ≡ Cut
+      → Headed (SoManyHeads count) (λ f is t. heads t form (suc f) is i (drop (i .at) s)) form s base hs hs′ (head.Refused cutOff (i .at))
   next-cut e = record { by = λ f is z t. status-cut s form i f is t e }
 
-  module _ {n next : ℕ} (e : readInt i (drop i s) ≡ Value n next) {v : ℕ} (q : v ≡ statusVerdict n) where
-    pub next-wrong : (v ≡ 0 → ⊥) → Headed (SoManyHeads count) (λ f is t. heads t form (suc f) is i (drop i s)) form s base hs hs′ (head.Refused v i)
+  module _ {n next l : ℕ} (e : readInt (i .at) (drop (i .at) s) ≡ Value n next l) {v : ℕ} (q : v ≡ statusVerdict n) where
+    pub next-wrong : (v ≡ 0 → ⊥) → Headed (SoManyHeads count) (λ f is t. heads t form (suc f) is i (drop (i .at) s)) form s base hs hs′ (head.Refused v (i .at))
     next-wrong z = record { by = λ f is c t. status-wrong s form i f is t e (λ u. z (q ∙ u)) ∙ rw q }
 
     module _ (z : v ≡ 0) where
       pub next-full : isInformational n ≡ true → leb (count + 1) informationalMost ≡ false
-          → Headed (SoManyHeads count) (λ f is t. heads t form (suc f) is i (drop i s)) form s base hs hs′ (head.Refused tooLarge i)
+          → Headed (SoManyHeads count) (λ f is t. heads t form (suc f) is i (drop (i .at) s)) form s base hs hs′ (head.Refused tooLarge (i .at))
       next-full b g = record { by = λ f is c t. status-full s form i f is t e (sym q ∙ z) b (omega (arith, leb-false (count + 1) informationalMost g, c)) }
 
       module _ {r : HeadRead} where
         pub next-informational : isInformational n ≡ true → leb (count + 1) informationalMost ≡ true
-            → Headed FewHeads (λ f is t. afterInformationalStatus form (heads t form f) is n next (drop next s)) form s base hs hs′ r
-            → Headed (SoManyHeads count) (λ f is t. heads t form (suc f) is i (drop i s)) form s base hs hs′ r
+            → Headed FewHeads (λ f is t. afterInformationalStatus form (heads t form f) is n (cursor next (i .long + l)) (drop next s)) form s base hs hs′ r
+            → Headed (SoManyHeads count) (λ f is t. heads t form (suc f) is i (drop (i .at) s)) form s base hs hs′ r
         next-informational b g h =
             record {
               by = λ f is c.
@@ -144,7 +145,7 @@ module _ (s : List ℕ) (form : Form) (i count base : ℕ) (hs hs′ : List ℕ)
                   says-as form f is s base hs hs′ r (λ t. status-informational s form i f is t e (sym q ∙ z) b few) (h .by f is few);
             }
 
-        pub next-final : isInformational n ≡ false → Headed AnyHeads (λ f is t. afterFinalStatus t form is n next (drop next s)) form s base hs hs′ r
-            → Headed (SoManyHeads count) (λ f is t. heads t form (suc f) is i (drop i s)) form s base hs hs′ r
+        pub next-final : isInformational n ≡ false → Headed AnyHeads (λ f is t. afterFinalStatus t form is n (cursor next (i .long + l)) (drop next s)) form s base hs hs′ r
+            → Headed (SoManyHeads count) (λ f is t. heads t form (suc f) is i (drop (i .at) s)) form s base hs hs′ r
         next-final b h =
             record { by = λ f is c. says-as form f is s base hs hs′ r (λ t. status-final s form i f is t e (sym q ∙ z) b) (h .by f is tt) }

@@ -15,7 +15,8 @@ use Rattle.messages.specs.declared.Notes.{Notes}
 use Rattle.messages.specs.declared.Told.{Told}
 use Rattle.messages.proofs.Noting.{kept-few}
 use Rattle.ranges.proofs.HeadsStored.{lines-snoc, fields-more, numbers-more}
-use Rattle.binary.specs.Reader.{Got}
+use Rattle.binary.specs.declared.Cursor.{Cursor}
+use Rattle.binary.specs.Reader.{Got, cursor}
 use Rattle.binary.specs.declared.Form.{Form}
 use Rattle.binary.specs.Read.{informationalRead, heads, responseMessage}
 use Rattle.binary_reader.specs.Heads.{HeadStored, HeadSays, Headed, HeadsTaken}
@@ -26,7 +27,7 @@ use Rattle.binary_reader.proofs.HeadLaws.{says-as}
 
 -- what was read of s up to the place i, where the reader of the whole answers x, whatever is told: informational heads whose fields are stored in hs and whose numbers
 -- are stored in ns
-pub record HeadsTo (x : Told → Got Message) (form : Form) (s hs₀ hs ns₀ ns : List ℕ) (i count base : ℕ) : Type 0 where
+pub record HeadsTo (x : Told → Got Message) (form : Form) (s hs₀ hs ns₀ ns : List ℕ) (i count base longs : ℕ) : Type 0 where
   pub read : List InformationalRead
   pub counted : length read ≡ count
   pub most : count ≤ informationalMost
@@ -34,12 +35,13 @@ pub record HeadsTo (x : Told → Got Message) (form : Form) (s hs₀ hs ns₀ ns
   pub few : base ≤ count * linesMost
   pub stored : hs ≡ splice hs₀ 0 (fieldsNumbers (informationalLines read))
   pub numbers : ns ≡ splice ns₀ 0 (informationalNumbers read)
-  pub turn : (t : Told) → x t ≡ heads t form (suc (informationalMost - count)) read i (drop i s)
+  pub turn : (t : Told) → x t ≡ heads t form (suc (informationalMost - count)) read (cursor i longs) (drop i s)
+  pub long : longs ≤ i
 
-pub heads-start : (form : Form) (s hs ns : List ℕ) (from : ℕ)
-    → HeadsTo (λ t. responseMessage t form from (drop from s)) form s hs hs ns ns from 0 0
+pub heads-start : (form : Form) (s hs ns : List ℕ) (from : Cursor) → from .long ≤ from .at
+    → HeadsTo (λ t. responseMessage t form from (drop (from .at) s)) form s hs hs ns ns (from .at) 0 0 (from .long)
 unfolding informationalLines informationalNumbers fieldsNumbers
-heads-start form s hs ns from =
+heads-start form s hs ns from few =
     record {
       read = [];
       counted = refl;
@@ -49,26 +51,27 @@ heads-start form s hs ns from =
       stored = refl;
       numbers = refl;
       turn = λ t. refl;
+      long = few;
     }
 
-module _ {x : Told → Got Message} {form : Form} {s hs₀ hs hs′ ns₀ ns : List ℕ} {i count base : ℕ} (to : HeadsTo x form s hs₀ hs ns₀ ns i count base) {r : HeadRead}
-    (w : Headed (SoManyHeads count) (λ f is t. heads t form (suc f) is i (drop i s)) form s base hs hs′ r) where
+module _ {x : Told → Got Message} {form : Form} {s hs₀ hs hs′ ns₀ ns : List ℕ} {i count base longs : ℕ} (to : HeadsTo x form s hs₀ hs ns₀ ns i count base longs) {r : HeadRead}
+    (w : Headed (SoManyHeads count) (λ f is t. heads t form (suc f) is (cursor i longs) (drop i s)) form s base hs hs′ r) where
   says : {q : HeadRead} → r ≡ q → HeadSays x form (informationalMost - count) (to .read) s base hs hs′ q
   says {q} e =
       says-as form (informationalMost - count) (to .read) s base hs hs′ q (to .turn)
       (subst
       (λ (z : HeadRead).
-      HeadSays (λ t. heads t form (suc (informationalMost - count)) (to .read) i (drop i s)) form (informationalMost - count) (to .read) s base hs hs′ z)
+      HeadSays (λ t. heads t form (suc (informationalMost - count)) (to .read) (cursor i longs) (drop i s)) form (informationalMost - count) (to .read) s base hs hs′ z)
       e (w .by (informationalMost - count) (to .read) (to .counted)))
 
   pub heads-refused : (ns′ : List ℕ) {k p : ℕ} → r ≡ head.Refused k p → HeadsTaken x form s hs₀ hs′ ns₀ ns′ (heads-read.Refused k p)
   heads-refused ns′ e = record { says = says e }
 
   -- the fields of one head more
-  stored-more : {e k : ℕ} {h : Section} → HeadStored s base hs hs′ e k h → hs′ ≡ splice hs₀ 0 (fieldsNumbers (informationalLines (to .read) ++ kept true (h .lines)))
+  stored-more : {e : Cursor} {k : ℕ} {h : Section} → HeadStored s base hs hs′ e k h → hs′ ≡ splice hs₀ 0 (fieldsNumbers (informationalLines (to .read) ++ kept true (h .lines)))
   stored-more {h = h} q = fields-more hs₀ (informationalLines (to .read)) (kept true (h .lines)) (to .fields) (to .stored) (q .stored)
 
-  module _ {n e k : ℕ} where
+  module _ {n : ℕ} {e : Cursor} {k : ℕ} where
     module _ {notes : Notes} (q : r ≡ head.Final n e k notes) where
       pub final-some : base ≤ k
       final-some = omega (arith, says q .1 .count)
@@ -80,7 +83,7 @@ module _ {x : Told → Got Message} {form : Form} {s hs₀ hs hs′ ns₀ ns : L
             says = (
               to .read,
               d .0,
-              record { end = d .1 .end; within = d .1 .within; heads = to .counted; fields = omega (arith, d .1 .count); noted = d .2; status = d .3 },
+              record { end = d .1 .end; within = d .1 .within; heads = to .counted; fields = omega (arith, d .1 .count); noted = d .2; status = d .3; counted = d .1 .counted },
               d .4,
               stored-more (d .1),
               to .numbers,
@@ -93,7 +96,7 @@ module _ {x : Told → Got Message} {form : Form} {s hs₀ hs hs′ ns₀ ns : L
           let d = says q in
           (omega (arith, d .1 .count), omega (arith, d .1 .count, d .1 .few, kept-few true (d .0 .lines)), omega (arith, d .2, to .counted))
 
-      pub heads-next : {ns′ : List ℕ} → ns′ ≡ splice ns (count * 2) (n ∷ (k - base) ∷ []) → HeadsTo x form s hs₀ hs′ ns₀ ns′ e (count + 1) k
+      pub heads-next : {ns′ : List ℕ} → ns′ ≡ splice ns (count * 2) (n ∷ (k - base) ∷ []) → HeadsTo x form s hs₀ hs′ ns₀ ns′ (e .at) (count + 1) k (e .long)
       heads-next stores =
           let d = says q in
           let h : Section = d .0 in
@@ -109,5 +112,6 @@ module _ {x : Told → Got Message} {form : Form} {s hs₀ hs hs′ ns₀ ns : L
             few = omega (arith, few, to .few);
             stored = stored-more (d .1) ∙ rw (lines-snoc (to .read) y) refl;
             numbers = numbers-more ns₀ (to .read) y (to .counted) (to .numbers) f stores;
-            turn = λ t. d .3 t ∙ ap (λ (m : ℕ). heads t form m (to .read ++ y ∷ []) e (drop e s)) g;
+            turn = λ t. d .3 t ∙ ap (λ (m : ℕ). heads t form m (to .read ++ y ∷ []) e (drop (e .at) s)) g;
+            long = d .1 .counted;
           }

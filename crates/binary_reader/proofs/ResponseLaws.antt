@@ -23,6 +23,7 @@ use Rattle.messages.specs.declared.StatedLength.{StatedLength}
 use Rattle.messages.specs.declared.StatedLength.the-variants.{Missing}
 use Rattle.messages.specs.declared.Told.{Told}
 use Rattle.messages.proofs.Lengths.{body-read, body-refused, may-state, may-not-state}
+use Rattle.binary.specs.declared.Cursor.{Cursor}
 use Rattle.binary.specs.Reader.{Got, got, no, _>>=_}
 use Rattle.binary.specs.declared.Form.{Form}
 use Rattle.binary.specs.Read.{afterHeaders, afterFinal, messageAnswer}
@@ -41,7 +42,7 @@ use Rattle.binary_reader.proofs.Answered.{message-as, message-no, answe
 
 -- ---- what a final head states
 
-module _ (t : Told) (form : Form) (is : List InformationalRead) (n : ℕ) (h : Section) (at : ℕ) (l : List ℕ) where
+module _ (t : Told) (form : Form) (is : List InformationalRead) (n : ℕ) (h : Section) (at : Cursor) (l : List ℕ) where
   module _ (b : endsAtHead t n ≡ true) where
     bodyless-no : {k p : ℕ} → bodylessRule t n (h .end) (binaryFramingOf (h .lines)) ≡ wrong k p → afterFinal t form is n h at l ≡ no k p
     unfolding afterFinal _>>=_
@@ -93,12 +94,12 @@ rest-says s stated is status c k lines (got x e l) cs cs′ ts ts′ d r f g o u
     (o ∙ rw (u .0, u .3, u .4, u .5, u .6, f, g) refl, u .1, u .2, u .4, ap isResponse (u .3), ap informationalIn (u .3))
 rest-says s stated is status c k lines (no i j) cs cs′ ts ts′ d r f g o u = o ∙ rw u refl
 
-module _ (t : Told) (s : List ℕ) (form : Form) (status e c k : ℕ) (notes : Notes) {r : FinalAnswer} (j : FinalJudged t status (notes .framing) e r) where
+module _ (t : Told) (s : List ℕ) (form : Form) (status : ℕ) (e : Cursor) (c k : ℕ) (notes : Notes) {r : FinalAnswer} (j : FinalJudged t status (notes .framing) (e .at) r) where
   said : {o : FinalAnswer} → r ≡ o → (is : List InformationalRead) (h : Section) → HeadsFacts s is h status e c k notes
-      → FinalSays t form is status h e (drop e s) o
+      → FinalSays t form is status h e (drop (e .at) s) o
   said q is h f =
-      subst (λ (o : FinalAnswer). FinalSays t form is status h e (drop e s) o) q
-      (j .by form is h e (drop e s) (f .end) (sym (framing-noted notes h (f .noted))))
+      subst (λ (o : FinalAnswer). FinalSays t form is status h e (drop (e .at) s) o) q
+      (j .by form is h e (drop (e .at) s) (f .end) (sym (framing-noted notes h (f .noted))))
 
   pub final-refused : {i p : ℕ} {cs cs′ ts ts′ : List ℕ} → r ≡ final.Refused i p → FinalRead t s form status e c k notes cs cs′ ts ts′ (outcome.Refusal i p)
   final-refused q = record { by = λ is h f. message-no (said q is h f) }
@@ -110,7 +111,7 @@ module _ (t : Told) (s : List ℕ) (form : Form) (status e c k : ℕ) (notes : N
         by = λ is h y.
             message-as (said q is h y)
             (record {
-              says = rest-says s stated is status c k (h .lines) (afterHeaders form body stated (responseStart is status) h f e (drop e s)) cs cs′ ts ts′ d o (y .heads)
+              says = rest-says s stated is status c k (h .lines) (afterHeaders form body stated (responseStart is status) h f e (drop (e .at) s)) cs cs′ ts ts′ d o (y .heads)
                   (y .fields) g (w .by stated (responseStart is status) h .says);
             });
       }
@@ -124,11 +125,14 @@ module _ {x : Told → Got Message} {form : Form} {s hs hs′ ns ns′ : List �
   pub responded-no : (t : Told) {cs cs′ ts ts′ : List ℕ} {i p : ℕ} → r ≡ heads-read.Refused i p → Responded (messageAnswer (x t)) hs hs′ ns ns′ cs cs′ ts ts′ (outcome.Refusal i p)
   responded-no t q = answered-no (taken q t)
 
-  module _ {n e c k : ℕ} {notes : Notes} (q : r ≡ heads-read.Done n e c k notes) where
-    pub final-within : e ≤ length s
+  module _ {n : ℕ} {e : Cursor} {c k : ℕ} {notes : Notes} (q : r ≡ heads-read.Done n e c k notes) where
+    pub final-within : e .at ≤ length s
     final-within = taken q .2 .within
+
+    pub final-few : e .long ≤ e .at
+    final-few = taken q .2 .counted
 
     pub responded-final : (t : Told) {cs cs′ ts ts′ : List ℕ} {o : Outcome} → FinalRead t s form n e c k notes cs cs′ ts ts′ o → Responded (messageAnswer (x t)) hs hs′ ns ns′ cs cs′ ts ts′ o
     responded-final t f =
         let d = taken q in
-        answered-as (d .3 t) (with-headers (afterFinal t form (d .0) n (d .1) e (drop e s)) (d .4) (d .5) (f .by (d .0) (d .1) (d .2)))
+        answered-as (d .3 t) (with-headers (afterFinal t form (d .0) n (d .1) e (drop (e .at) s)) (d .4) (d .5) (f .by (d .0) (d .1) (d .2)))

@@ -6,9 +6,10 @@ use mathlib.Core.List.{List}
 use lib.ListN.{length, drop}
 use Rattle.octets.specs.Refusals.{badLength, badPadding}
 use Rattle.script.specs.Do.{Piece, good, wrong}
-use Rattle.messages.specs.Message.{FieldRead, Section, Start, Message, statingMessage}
+use Rattle.messages.specs.Message.{FieldRead, Section, Start, Message, countedMessage}
 use Rattle.messages.specs.declared.Framing.{Framing}
 use Rattle.messages.specs.declared.StatedLength.{StatedLength}
+use Rattle.binary.specs.declared.Cursor.{Cursor}
 use Rattle.binary.specs.Reader.{Got, got, no, _>>=_}
 use Rattle.binary.specs.declared.Form.{Form}
 use Rattle.binary.specs.Read.{content, contentAgrees, contentRule, trailers, padding, afterContent, afterHeaders}
@@ -36,57 +37,57 @@ rest-no : {s : List ℕ} {stated : StatedLength} {start : Start} {lines : List F
     → RestIs s stated start lines x cs cs′ ts ts′ (Refused n p)
 rest-no {n = n} {p = p} e = rest-as {y = no n p} e (record { says = refl })
 
-same-done : {a b c x y z : ℕ} → a ≡ x → b ≡ y → c ≡ z → Done a b c ≡ Done x y z
+same-done : {a b c x y z n : ℕ} → a ≡ x → b ≡ y → c ≡ z → Done a b c n ≡ Done x y z n
 same-done e f g = rw (e, f, g)
 
 -- ---- behind the content
 
-trailers-then : (s : List ℕ) (from : ℕ) (form : Form) (body : Bool) (stated : StatedLength) (start : Start) (lines : List FieldRead) (c : List Piece) {fs : List FieldRead} {end v n : ℕ} {l : List ℕ}
-    → trailers form body from (drop from s) ≡ got fs end (drop end s) → padding form end (drop end s) ≡ got v n l
-    → afterContent form body stated start lines c from (drop from s) ≡ got (statingMessage stated start lines c fs) n l
+trailers-then : (s : List ℕ) (from : Cursor) (form : Form) (body : Bool) (stated : StatedLength) (start : Start) (lines : List FieldRead) (c : List Piece) {fs : List FieldRead} {end n : Cursor} {v : ℕ} {l : List ℕ}
+    → trailers form body from (drop (from .at) s) ≡ got fs end (drop (end .at) s) → padding form end (drop (end .at) s) ≡ got v n l
+    → afterContent form body stated start lines c from (drop (from .at) s) ≡ got (countedMessage (end .long) stated start lines c fs) n l
 unfolding afterContent _>>=_
 trailers-then s from form body stated start lines c e f = rw (e, f)
 
-module _ (s : List ℕ) (from : ℕ) (form : Form) (body : Bool) (count total : ℕ) {ts ts′ : List ℕ} {r : TrailersRead}
-    (h : Trailed s (trailers form body from (drop from s)) ts ts′ r) where
+module _ (s : List ℕ) (from : Cursor) (form : Form) (body : Bool) (count total : ℕ) {ts ts′ : List ℕ} {r : TrailersRead}
+    (h : Trailed s (trailers form body from (drop (from .at) s)) ts ts′ r) where
   pub behind-no : {n p : ℕ} → r ≡ trailers-are.Refused n p → Behind s from form body count total ts ts′ (Refused n p)
   unfolding afterContent _>>=_
   behind-no e = record { by = λ stated start lines c cs cs′ a b g. rest-no (rw (trailed-refused h e)) }
 
-  module _ {end k : ℕ} (e : r ≡ trailers-are.Done end k) {q : Padding} (z : Padded s (padding form end (drop end s)) q) where
+  module _ {end : Cursor} {k : ℕ} (e : r ≡ trailers-are.Done end k) {q : Padding} (z : Padded s (padding form end (drop (end .at) s)) q) where
     pub behind-padding : {p : ℕ} → q ≡ padding-is.Bad p → Behind s from form body count total ts ts′ (Refused badPadding p)
     unfolding afterContent _>>=_
     behind-padding f = record { by = λ stated start lines c cs cs′ a b g. rest-no (rw (trailed-done h e .taken, padding-bad z f)) }
 
-    pub behind-done : q ≡ padding-is.Clean → Behind s from form body count total ts ts′ (Done count total k)
+    pub behind-done : q ≡ padding-is.Clean → Behind s from form body count total ts ts′ (Done count total k (end .long))
     behind-done f = let d = trailed-done h e in let w = padding-clean z f in
         record {
           by = λ stated start lines c cs cs′ a b g.
-              rest-as {y = got (statingMessage stated start lines c (d .lines)) (length s) (w .rest)}
+              rest-as {y = got (countedMessage (end .long) stated start lines c (d .lines)) (w .end) (w .rest)}
               (trailers-then s from form body stated start lines c (d .taken) (w .taken))
-              (record { says = (same-done (sym a) (sym b) (sym (d .counted)), g, d .stored, refl, refl, refl, refl) });
+              (record { says = (same-done (sym a) (sym b) (sym (d .counted)), g, d .stored, refl, refl, w .whole, refl) });
         }
 
 -- ---- the content
 
-content-then : (s : List ℕ) (from : ℕ) (form : Form) (body : Bool) (f : Framing) (stated : StatedLength) (start : Start) (h : Section) {c : List Piece} {end : ℕ}
-    → content (form .known) from (drop from s) ≡ got c end (drop end s) → contentRule body f end c ≡ good c
-    → afterHeaders form body stated start h f from (drop from s) ≡ afterContent form body stated start (h .lines) c end (drop end s)
+content-then : (s : List ℕ) (from : Cursor) (form : Form) (body : Bool) (f : Framing) (stated : StatedLength) (start : Start) (h : Section) {c : List Piece} {end : Cursor}
+    → content (form .known) from (drop (from .at) s) ≡ got c end (drop (end .at) s) → contentRule body f (end .at) c ≡ good c
+    → afterHeaders form body stated start h f from (drop (from .at) s) ≡ afterContent form body stated start (h .lines) c end (drop (end .at) s)
 unfolding afterHeaders _>>=_
 content-then s from form body f stated start h e j = rw (e, j)
 
-module _ (s : List ℕ) (from : ℕ) (form : Form) (body : Bool) (f : Framing) {cs cs′ : List ℕ} {r : ContentRead}
-    (h : Contented s (content (form .known) from (drop from s)) cs cs′ r) where
+module _ (s : List ℕ) (from : Cursor) (form : Form) (body : Bool) (f : Framing) {cs cs′ : List ℕ} {r : ContentRead}
+    (h : Contented s (content (form .known) from (drop (from .at) s)) cs cs′ r) where
   pub rested-no : {n p : ℕ} {ts ts′ : List ℕ} → r ≡ content-is.Refused n p → Rested s from form body f cs cs′ ts ts′ (Refused n p)
   unfolding afterHeaders _>>=_
   rested-no e = record { by = λ stated start l. rest-no (rw (content-no h e)) }
 
-  module _ {end count total : ℕ} (e : r ≡ content-is.Done end count total) {b : Bool} (a : b ≡ contentAgrees f body total) where
-    judged : {t : Bool} → b ≡ t → contentRule body f end (content-done h e .chunks) ≡ cond t (good (content-done h e .chunks)) (wrong badLength end)
+  module _ {end : Cursor} {count total : ℕ} (e : r ≡ content-is.Done end count total) {b : Bool} (a : b ≡ contentAgrees f body total) where
+    judged : {t : Bool} → b ≡ t → contentRule body f (end .at) (content-done h e .chunks) ≡ cond t (good (content-done h e .chunks)) (wrong badLength (end .at))
     unfolding contentRule
     judged g = rw (content-done h e .sum, ← a, g)
 
-    pub rested-bad : {ts ts′ : List ℕ} → b ≡ false → Rested s from form body f cs cs′ ts ts′ (Refused badLength end)
+    pub rested-bad : {ts ts′ : List ℕ} → b ≡ false → Rested s from form body f cs cs′ ts ts′ (Refused badLength (end .at))
     unfolding afterHeaders _>>=_
     rested-bad g = record { by = λ stated start l. rest-no (rw (content-done h e .taken, judged g)) }
 

@@ -15,6 +15,7 @@ use Rattle.messages.specs.Names.{areTrailers, kept, keptTrailers}
 use Rattle.messages.specs.Answers.{fieldsNumbers}
 use Rattle.messages.specs.declared.Notes.{Notes}
 use Rattle.messages.proofs.Noting.{trailers-noted}
+use Rattle.binary.specs.declared.Cursor.{Cursor}
 use Rattle.binary.specs.Reader.{Got, got, no, _>>=_, tell}
 use Rattle.binary.specs.declared.Form.{Form}
 use Rattle.binary.specs.Read.{section, trailersAgree, trailerRule, trailers}
@@ -36,53 +37,53 @@ some-left : (s : List ℕ) (from : ℕ) → from < length s → isEmpty (drop fr
 unfolding isEmpty
 some-left s from h = rw (length-drop from s, ne-eqb (length s - from) 0 (λ z. omega (arith, z)))
 
-section-then : (s : List ℕ) (from : ℕ) (form : Form) (body : Bool) {h : Section} {end : ℕ} {j : Judged (List FieldRead)} → from < length s
-    → section form from (drop from s) ≡ got h end (drop end s) → trailerRule body h ≡ j → trailers form body from (drop from s) ≡ tell j end (drop end s)
+section-then : (s : List ℕ) (from : Cursor) (form : Form) (body : Bool) {h : Section} {end : Cursor} {j : Judged (List FieldRead)} → from .at < length s
+    → section form from (drop (from .at) s) ≡ got h end (drop (end .at) s) → trailerRule body h ≡ j → trailers form body from (drop (from .at) s) ≡ tell j end (drop (end .at) s)
 unfolding trailers _>>=_
-section-then s from form body g e j = rw (some-left s from g, e, j)
+section-then s from form body g e j = rw (some-left s (from .at) g, e, j)
 
-module _ (s : List ℕ) (from : ℕ) (form : Form) (body : Bool) {o o′ : List ℕ} where
-  pub trailers-none : from ≤ length s → length s ≤ from → o′ ≡ o → Trailed s (trailers form body from (drop from s)) o o′ (Done from 0)
+module _ (s : List ℕ) (from : Cursor) (form : Form) (body : Bool) {o o′ : List ℕ} where
+  pub trailers-none : from .at ≤ length s → from .long ≤ from .at → length s ≤ from .at → o′ ≡ o → Trailed s (trailers form body from (drop (from .at) s)) o o′ (Done from 0)
   unfolding trailers _>>=_ isEmpty keptTrailers kept fieldsNumbers
-  trailers-none g h q =
-      let z : length s - from ≡ 0 = omega arith in
-      trailed-as {y = got [] from (drop from s)} (rw (length-drop from s, eq-eqb (length s - from) 0 z)) (refl, q, (g, refl))
+  trailers-none g b h q =
+      let z : length s - from .at ≡ 0 = omega arith in
+      trailed-as {y = got [] from (drop (from .at) s)} (rw (length-drop (from .at) s, eq-eqb (length s - from .at) 0 z)) (refl, q, (g, refl, b))
 
-  module _ {r : answer.Section} (h : from < length s) (w : Sectioned s (section form from (drop from s)) false 0 o o′ r) where
-    pub trailers-no : {n p : ℕ} → r ≡ section-is.Refused n p → Trailed s (trailers form body from (drop from s)) o o′ (Refused n p)
+  module _ {r : answer.Section} (h : from .at < length s) (few : from .long ≤ from .at) (w : Sectioned s (section form from (drop (from .at) s)) false 0 o o′ r) where
+    pub trailers-no : {n p : ℕ} → r ≡ section-is.Refused n p → Trailed s (trailers form body from (drop (from .at) s)) o o′ (Refused n p)
     unfolding trailers _>>=_
-    trailers-no e = trailed-no (rw (some-left s from h, section-no w e))
+    trailers-no e = trailed-no (rw (some-left s (from .at) h, section-no w e))
 
-    within : from ≤ length s
+    within : from .at ≤ length s
     within = omega (arith, h)
 
-    module _ {end count : ℕ} {notes : Notes} (e : r ≡ section-is.Done end count notes) {t : Bool} (q : t ≡ trailersAgree (notes .trailers) body count) where
+    module _ {end : Cursor} {count : ℕ} {notes : Notes} (e : r ≡ section-is.Done end count notes) {t : Bool} (q : t ≡ trailersAgree (notes .trailers) body count) where
       judged : {b : Bool} → t ≡ b
-          → trailerRule body (section-done w (section-lines form s from within) e .read)
-          ≡ cond b (good (section-done w (section-lines form s from within) e .read .lines)) (wrong badLength end)
+          → trailerRule body (section-done w (section-lines form s from within few) e .read)
+          ≡ cond b (good (section-done w (section-lines form s from within few) e .read .lines)) (wrong badLength (end .at))
       unfolding trailerRule keptTrailers
-      judged {b} g = let d = section-done w (section-lines form s from within) e in
+      judged {b} g = let d = section-done w (section-lines form s from within few) e in
           let c : length (kept false (d .read .lines)) ≡ count = omega (arith, d .count) in
           let n : areTrailers (d .read .lines) ≡ notes .trailers = trailers-noted false (d .read .lines) ∙ ap (λ (n : Notes). n .trailers) (sym (d .noted)) in
           rw (n, c, ← q, g, d .end)
 
-      pub trailers-good : t ≡ true → Trailed s (trailers form body from (drop from s)) o o′ (Done end count)
+      pub trailers-good : t ≡ true → Trailed s (trailers form body from (drop (from .at) s)) o o′ (Done end count)
       unfolding keptTrailers
-      trailers-good g = let d = section-done w (section-lines form s from within) e in
+      trailers-good g = let d = section-done w (section-lines form s from within few) e in
           let c : count ≡ length (kept false (d .read .lines)) = omega (arith, d .count) in
-          trailed-as {y = got (d .read .lines) end (drop end s)} (section-then s from form body h (d .gives) (judged g)) (ap (Done end) c, d .stored, (d .within, refl))
+          trailed-as {y = got (d .read .lines) end (drop (end .at) s)} (section-then s from form body h (d .gives) (judged g)) (ap (Done end) c, d .stored, (d .within, refl, d .counted))
 
-      pub trailers-bad : t ≡ false → Trailed s (trailers form body from (drop from s)) o o′ (Refused badLength end)
-      trailers-bad g = trailed-no (section-then s from form body h (section-done w (section-lines form s from within) e .gives) (judged g))
+      pub trailers-bad : t ≡ false → Trailed s (trailers form body from (drop (from .at) s)) o o′ (Refused badLength (end .at))
+      trailers-bad g = trailed-no (section-then s from form body h (section-done w (section-lines form s from within few) e .gives) (judged g))
 
 -- ---- what the caller learns
 
-pub record TrailersDone (s : List ℕ) (x : Got (List FieldRead)) (o o′ : List ℕ) (end count : ℕ) : Type 0 where
+pub record TrailersDone (s : List ℕ) (x : Got (List FieldRead)) (o o′ : List ℕ) (end : Cursor) (count : ℕ) : Type 0 where
   pub lines : List FieldRead
-  pub taken : x ≡ got lines end (drop end s)
+  pub taken : x ≡ got lines end (drop (end .at) s)
   pub counted : length (keptTrailers lines) ≡ count
   pub stored : o′ ≡ splice o 0 (fieldsNumbers (keptTrailers lines))
-  pub within : end ≤ length s
+  pub within : end .at ≤ length s
 
 module _ {s : List ℕ} {x : Got (List FieldRead)} {o o′ : List ℕ} {r : TrailersRead} (h : Trailed s x o o′ r) where
   pub trailed-refused : {n p : ℕ} → r ≡ Refused n p → x ≡ no n p
@@ -92,7 +93,7 @@ module _ {s : List ℕ} {x : Got (List FieldRead)} {o o′ : List ℕ} {r : Trai
       go (got a i l) q = let d = q .0 in cc
       go (no m k) q = cc
 
-  pub trailed-done : {end count : ℕ} → r ≡ Done end count → TrailersDone s x o o′ end count
+  pub trailed-done : {end : Cursor} {count : ℕ} → r ≡ Done end count → TrailersDone s x o o′ end count
   trailed-done {end} {count} e = go x (h .says)
     where
       go : (y : Got (List FieldRead)) → TrailersSays s y o o′ r → TrailersDone s y o o′ end count
@@ -100,6 +101,6 @@ module _ {s : List ℕ} {x : Got (List FieldRead)} {o o′ : List ℕ} {r : Trai
           let d = q .0 in
           let b : i ≡ end = cc in
           let c : length (keptTrailers a) ≡ count = cc in
-          let k : l ≡ drop end s = q .2 .1 ∙ rw b in
-          record { lines = a; taken = rw (b, k); counted = c; stored = q .1; within = omega (arith, q .2 .0, b) }
+          let k : l ≡ drop (end .at) s = q .2 .1 ∙ ap (λ (z : Cursor). drop (z .at) s) b in
+          record { lines = a; taken = rw (b, k); counted = c; stored = q .1; within = subst (λ (z : Cursor). z .at ≤ length s) b (q .2 .0) }
       go (no m k) q = let z : _≡_ {A = ℕ} 0 1 = cc in absurd (omega arith)

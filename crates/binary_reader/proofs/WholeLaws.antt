@@ -1,8 +1,9 @@
 -- A message, from its framing indicator on, and its answer by value.
-use Prim.Native.Nat.{ℕ}
+use Prim.Native.Nat.{ℕ, _+_}
 use mathlib.Core.Path.{_≡_, refl, sym, ap, _∙_, subst}
 use mathlib.Core.Bool.{true, false}
 use mathlib.Core.List.{List}
+use native.Mathlib.Omega.{arith}
 use borrow.Author.Tests.{ne-eqb}
 use lib.Dec.{leb}
 use lib.ListN.{length, drop, replicate}
@@ -17,7 +18,8 @@ use Rattle.messages.specs.declared.Outcome.{Outcome}
 use Rattle.messages.specs.declared.Outcome.the-variants as outcome
 use Rattle.messages.specs.declared.Told.{Told}
 use Rattle.messages.specs.Told.{isEdition}
-use Rattle.binary.specs.Reader.{no, _>>=_}
+use Rattle.binary.specs.declared.Cursor.{Cursor}
+use Rattle.binary.specs.Reader.{no, cursor, _>>=_}
 use Rattle.binary.specs.declared.Form.{Form}
 use Rattle.binary.specs.Read.{formOf, requestMessage, responseMessage, afterIndicator, message, messageAnswer, readSized, readBinary}
 use Rattle.binary_sound.proofs.Sound.{binary-sound}
@@ -30,7 +32,7 @@ use Rattle.binary_reader.proofs.Answered.{answered-as, answered-no}
 
 -- ---- behind the framing indicator
 
-module _ (t : Told) {f : ℕ} (from : ℕ) (l : List ℕ) where
+module _ (t : Told) {f : ℕ} (from : Cursor) (l : List ℕ) where
   indicator-is : (g : ℕ) → f ≡ g → afterIndicator t f from l ≡ afterIndicator t g from l
   indicator-is g e = ap (λ (n : ℕ). afterIndicator t n from l) e
 
@@ -66,17 +68,18 @@ module _ (t : Told) {f : ℕ} (from : ℕ) (l : List ℕ) where
 
 -- ---- the whole input
 
-read-whole : (t : Told) (s : List ℕ) → leb (length s) binaryMost ≡ true → readSized t s ≡ messageAnswer (message t 0 s)
+read-whole : (t : Told) (s : List ℕ) → leb (length s) binaryMost ≡ true → readSized t s ≡ messageAnswer (message t (cursor 0 0) s)
 unfolding readSized
 read-whole t s h = rw h
 
-message-cut : (t : Told) (s : List ℕ) → readInt 0 (drop 0 s) ≡ Cut → message t 0 s ≡ no cutOff 0
+message-cut : (t : Told) (s : List ℕ) → readInt 0 (drop 0 s) ≡ Cut → message t (cursor 0 0) s ≡ no cutOff 0
 unfolding message _>>=_
-message-cut t s e = rw (integer-cut s 0 cutOff 0 e)
+message-cut t s e = rw (integer-cut s (cursor 0 0) cutOff 0 e)
 
-message-indicated : (t : Told) (s : List ℕ) {v next : ℕ} → readInt 0 (drop 0 s) ≡ Value v next → message t 0 s ≡ afterIndicator t v next (drop next s)
+message-indicated : (t : Told) (s : List ℕ) {v next long : ℕ} → readInt 0 (drop 0 s) ≡ Value v next long
+    → message t (cursor 0 0) s ≡ afterIndicator t v (cursor next long) (drop next s)
 unfolding message _>>=_
-message-indicated t s e = rw (integer-got s 0 cutOff 0 e)
+message-indicated t s {long = long} e = let z : 0 + long ≡ long = omega arith in rw (integer-got s (cursor 0 0) cutOff 0 e, z)
 
 module _ (t : Told) (s : List ℕ) {hs hs′ ns ns′ cs cs′ ts ts′ : List ℕ} where
   whole-as : {x : Answer Message} {r : Outcome} → readSized t s ≡ x → Responded x hs hs′ ns ns′ cs cs′ ts ts′ r → Responded (readSized t s) hs hs′ ns ns′ cs cs′ ts ts′ r
@@ -90,8 +93,8 @@ module _ (t : Told) (s : List ℕ) {hs hs′ ns ns′ cs cs′ ts ts′ : List �
     pub whole-cut : readInt 0 (drop 0 s) ≡ Cut → Responded (readSized t s) hs hs′ ns ns′ cs cs′ ts ts′ (outcome.Refusal cutOff 0)
     whole-cut e = whole-as (read-whole t s h) (answered-no (message-cut t s e))
 
-    pub whole-indicated : {v next : ℕ} {r : Outcome} → readInt 0 (drop 0 s) ≡ Value v next
-        → Responded (messageAnswer (afterIndicator t v next (drop next s))) hs hs′ ns ns′ cs cs′ ts ts′ r → Responded (readSized t s) hs hs′ ns ns′ cs cs′ ts ts′ r
+    pub whole-indicated : {v next long : ℕ} {r : Outcome} → readInt 0 (drop 0 s) ≡ Value v next long
+        → Responded (messageAnswer (afterIndicator t v (cursor next long) (drop next s))) hs hs′ ns ns′ cs cs′ ts ts′ r → Responded (readSized t s) hs hs′ ns ns′ cs cs′ ts ts′ r
     whole-indicated e w = whole-as (read-whole t s h) (answered-as (message-indicated t s e) w)
 
 -- told an edition, and told another number

@@ -16,6 +16,7 @@ use Rattle.messages.specs.declared.Part.{Part}
 use Rattle.messages.specs.declared.StatedLength.the-variants.{Missing}
 use Rattle.messages.specs.declared.Outcome.{Outcome}
 use Rattle.messages.specs.declared.Outcome.the-variants as outcome
+use Rattle.binary.specs.declared.Cursor.{Cursor}
 use Rattle.binary.specs.Reader.{Got}
 use Rattle.binary.specs.declared.Form.{Form}
 use Rattle.binary.specs.Read.{RequestControl, afterHead, messageAnswer}
@@ -60,8 +61,8 @@ partIs a = partAt (a .start) (a .len)
 
 -- the outcome of a request of n octets, by its numbers
 abbrev pub requestOutcome : ℕ → ℕ → Span → Span → Span → ℕ → RestRead → Outcome
-requestOutcome n scheme method authority path fields (rest-is.Done chunks total trailers) =
-    outcome.Message (requestRecord scheme (partIs method) (partIs authority) (partIs path) (counted Missing fields chunks total trailers n))
+requestOutcome n scheme method authority path fields (rest-is.Done chunks total trailers long) =
+    outcome.Message (requestRecord scheme (partIs method) (partIs authority) (partIs path) (counted Missing fields chunks total trailers n long))
 requestOutcome n scheme method authority path fields (rest-is.Refused k p) = outcome.Refusal k p
 
 -- ---- behind the head
@@ -74,8 +75,8 @@ pub record HeadFacts (s : List ℕ) (h : Section) (e k : ℕ) (n : Notes) : Type
   pub lie : AllLie s (h .lines)
 
 -- what stands behind any header section that was read up to a place
-pub record RequestRest (s : List ℕ) (form : Form) (q : RequestControl) (end fields : ℕ) (notes : Notes) (cs cs′ ts ts′ : List ℕ) (r : Outcome) : Type 0 where
-  pub by : (h : Section) → HeadFacts s h end fields notes → MessageIs false [] (h .lines) (afterHead form q h end (drop end s)) cs cs′ ts ts′ r
+pub record RequestRest (s : List ℕ) (form : Form) (q : RequestControl) (end : Cursor) (fields : ℕ) (notes : Notes) (cs cs′ ts ts′ : List ℕ) (r : Outcome) : Type 0 where
+  pub by : (h : Section) → HeadFacts s h (end .at) fields notes → MessageIs false [] (h .lines) (afterHead form q h end (drop (end .at) s)) cs cs′ ts ts′ r
 
 -- ---- whole requests
 

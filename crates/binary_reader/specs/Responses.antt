@@ -14,6 +14,7 @@ use Rattle.messages.specs.declared.Outcome.{Outcome}
 use Rattle.messages.specs.declared.Outcome.the-variants as outcome
 use Rattle.messages.specs.declared.StatedLength.{StatedLength}
 use Rattle.messages.specs.declared.Told.{Told}
+use Rattle.binary.specs.declared.Cursor.{Cursor}
 use Rattle.binary.specs.Reader.{no}
 use Rattle.binary.specs.declared.Form.{Form}
 use Rattle.binary.specs.Read.{afterHeaders, afterFinal}
@@ -28,25 +29,25 @@ use Rattle.binary_reader.specs.declared.RestRead.the-variants as rest-is
 -- ---- what a final head states
 
 -- behind a final head of status n, at a place: content that agrees with f may follow, or none and a length may be stated, or the head is refused
-abbrev pub FinalSays : Told → Form → List InformationalRead → ℕ → Section → ℕ → List ℕ → FinalAnswer → Type 0
+abbrev pub FinalSays : Told → Form → List InformationalRead → ℕ → Section → Cursor → List ℕ → FinalAnswer → Type 0
 FinalSays t form is n h at l (final.Good body f stated) = afterFinal t form is n h at l ≡ afterHeaders form body stated (responseStart is n) h f at l
 FinalSays t form is n h at l (final.Refused k p) = afterFinal t form is n h at l ≡ no k p
 
 -- a final head of status n that ends at a place and states f: so is each section that does
 pub record FinalJudged (t : Told) (n : ℕ) (f : Framing) (end : ℕ) (r : FinalAnswer) : Type 0 where
-  pub by : (form : Form) (is : List InformationalRead) (h : Section) (at : ℕ) (l : List ℕ) → h .end ≡ end → binaryFramingOf (h .lines) ≡ f
+  pub by : (form : Form) (is : List InformationalRead) (h : Section) (at : Cursor) (l : List ℕ) → h .end ≡ end → binaryFramingOf (h .lines) ≡ f
       → FinalSays t form is n h at l r
 
 -- ---- whole responses
 
 -- the outcome of a response of n octets, by its numbers
 abbrev pub responseOutcome : StatedLength → ℕ → ℕ → ℕ → ℕ → RestRead → Outcome
-responseOutcome stated n status heads fields (rest-is.Done chunks total trailers) =
-    outcome.Message (responseRecord heads status (counted stated fields chunks total trailers n))
+responseOutcome stated n status heads fields (rest-is.Done chunks total trailers long) =
+    outcome.Message (responseRecord heads status (counted stated fields chunks total trailers n long))
 responseOutcome stated n status heads fields (rest-is.Refused k p) = outcome.Refusal k p
 
 -- what stands behind any heads that were read up to a place
-pub record FinalRead (t : Told) (s : List ℕ) (form : Form) (status end heads fields : ℕ) (notes : Notes) (cs cs′ ts ts′ : List ℕ) (r : Outcome)
+pub record FinalRead (t : Told) (s : List ℕ) (form : Form) (status : ℕ) (end : Cursor) (heads fields : ℕ) (notes : Notes) (cs cs′ ts ts′ : List ℕ) (r : Outcome)
     : Type 0 where
   pub by : (is : List InformationalRead) (h : Section) → HeadsFacts s is h status end heads fields notes
-      → MessageIs true is (h .lines) (afterFinal t form is status h end (drop end s)) cs cs′ ts ts′ r
+      → MessageIs true is (h .lines) (afterFinal t form is status h end (drop (end .at) s)) cs cs′ ts ts′ r

@@ -14,6 +14,7 @@ use Rattle.messages.specs.Answers.{fieldsNumbers, chunksNumbers}
 use Rattle.messages.specs.declared.Counts.{Counts}
 use Rattle.messages.specs.declared.Framing.{Framing}
 use Rattle.messages.specs.declared.StatedLength.{StatedLength}
+use Rattle.binary.specs.declared.Cursor.{Cursor}
 use Rattle.binary.specs.Reader.{Got, got, no}
 use Rattle.binary.specs.declared.Form.{Form}
 use Rattle.binary.specs.Read.{afterContent, afterHeaders}
@@ -41,12 +42,12 @@ pub record Trailed (s : List ℕ) (x : Got (List FieldRead)) (o o′ : List ℕ)
 -- and their numbers
 abbrev pub RestSays : List ℕ → StatedLength → Start → List FieldRead → Got Message → List ℕ → List ℕ → List ℕ → List ℕ → RestRead → Type 0
 RestSays s stated start lines (got m e l) cs cs′ ts ts′ r =
-    (r ≡ rest-is.Done (length (m .chunks)) (length (contentOf (m .chunks))) (length (keptTrailers (m .trailers))))
+    (r ≡ rest-is.Done (length (m .chunks)) (length (contentOf (m .chunks))) (length (keptTrailers (m .trailers))) (m .long))
     × (cs′ ≡ splice cs 0 (chunksNumbers (m .chunks)))
     × (ts′ ≡ splice ts 0 (fieldsNumbers (keptTrailers (m .trailers))))
     × (m .start ≡ start)
     × (m .lines ≡ lines)
-    × (e ≡ length s)
+    × (e .at ≡ length s)
     × (m .stated ≡ stated)
 RestSays s stated start lines (no n p) cs cs′ ts ts′ r = r ≡ rest-is.Refused n p
 
@@ -56,16 +57,16 @@ pub record RestIs (s : List ℕ) (stated : StatedLength) (start : Start) (lines 
   pub says : RestSays s stated start lines x cs cs′ ts ts′ r
 
 -- what stands behind content of so many chunks and octets, whatever stands before it
-pub record Behind (s : List ℕ) (from : ℕ) (form : Form) (body : Bool) (count total : ℕ) (ts ts′ : List ℕ) (r : RestRead) : Type 0 where
+pub record Behind (s : List ℕ) (from : Cursor) (form : Form) (body : Bool) (count total : ℕ) (ts ts′ : List ℕ) (r : RestRead) : Type 0 where
   pub by : (stated : StatedLength) (start : Start) (lines : List FieldRead) (c : List Piece) (cs cs′ : List ℕ) → length c ≡ count → length (contentOf c) ≡ total
-      → cs′ ≡ splice cs 0 (chunksNumbers c) → RestIs s stated start lines (afterContent form body stated start lines c from (drop from s)) cs cs′ ts ts′ r
+      → cs′ ≡ splice cs 0 (chunksNumbers c) → RestIs s stated start lines (afterContent form body stated start lines c from (drop (from .at) s)) cs cs′ ts ts′ r
 
 -- what stands behind any header section, in a message whose content must agree with f
-pub record Rested (s : List ℕ) (from : ℕ) (form : Form) (body : Bool) (f : Framing) (cs cs′ ts ts′ : List ℕ) (r : RestRead) : Type 0 where
+pub record Rested (s : List ℕ) (from : Cursor) (form : Form) (body : Bool) (f : Framing) (cs cs′ ts ts′ : List ℕ) (r : RestRead) : Type 0 where
   pub by : (stated : StatedLength) (start : Start) (h : Section)
-      → RestIs s stated start (h .lines) (afterHeaders form body stated start h f from (drop from s)) cs cs′ ts ts′ r
+      → RestIs s stated start (h .lines) (afterHeaders form body stated start h f from (drop (from .at) s)) cs cs′ ts ts′ r
 
--- how much of a message of n octets was read, and the length that it states
-abbrev pub counted : StatedLength → ℕ → ℕ → ℕ → ℕ → ℕ → Counts
-counted stated fields chunks total trailers n =
-    record { headers = fields; chunks = chunks; content = total; trailers = trailers; length = n; stated = stated }
+-- how much of a message of n octets was read, and the length that it states; how many of its integers are long
+abbrev pub counted : StatedLength → ℕ → ℕ → ℕ → ℕ → ℕ → ℕ → Counts
+counted stated fields chunks total trailers n long =
+    record { headers = fields; chunks = chunks; content = total; trailers = trailers; length = n; stated = stated; long = long }

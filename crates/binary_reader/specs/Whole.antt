@@ -14,7 +14,7 @@ use Rattle.binary.specs.Reader.{Got, got, no}
 -- a message behind its heads, of which informational heads and the final head's lines are known: its outcome, and the ranges of its chunks and kept trailers
 abbrev pub MessageSays : Bool → List InformationalRead → List FieldRead → Got Message → List ℕ → List ℕ → List ℕ → List ℕ → Outcome → Type 0
 MessageSays response is lines (got m e l) cs cs′ ts ts′ r =
-    (r ≡ outcome.Message (recordOf e m))
+    (r ≡ outcome.Message (recordOf (e .at) m))
     × (cs′ ≡ splice cs 0 (chunksNumbers (m .chunks)))
     × (ts′ ≡ splice ts 0 (fieldsNumbers (keptTrailers (m .trailers))))
     × (m .lines ≡ lines)

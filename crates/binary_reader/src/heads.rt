@@ -1,6 +1,7 @@
 // The heads of a response.
 use crate::HeadRead;
 use crate::HeadsRead;
+use binary::Cursor;
 use binary::Form;
 use binary_parts::Section;
 use binary_parts::lines::header_section;
@@ -30,13 +31,14 @@ fn after_informational_status(
     t: &[u8; 256],
     s: &[u8],
     status: u32,
-    next: usize,
+    next: Cursor,
     form: Form,
     base: usize,
     headers: &mut [u32],
 ) -> HeadRead
-    requires { ⌜ (now t ≡ classes) × (next ≤ length (now s)) × (length (now s) < placesEnd) × (base * 4 + sectionRoom ≤ length (now headers)) ⌝ }
-    ensures { λ r. ⌜ Headed FewHeads (λ f is told. afterInformationalStatus form (heads told form f) is status next (drop next (now (s .entry))))
+    requires { ⌜ (now t ≡ classes) × (next .at ≤ length (now s)) × (length (now s) < placesEnd) × (base * 4 + sectionRoom ≤ length (now headers))
+        × (next .long ≤ next .at) ⌝ }
+    ensures { λ r. ⌜ Headed FewHeads (λ f is told. afterInformationalStatus form (heads told form f) is status next (drop (next .at) (now (s .entry))))
         form (now (s .entry)) base (now (headers .entry)) (now (headers .exit)) r ⌝ }
 {
     let h = read_section(t, s, next, form, true, base, headers);
@@ -44,7 +46,7 @@ fn after_informational_status(
         Section::Refused { number, place } => return HeadRead::Refused { number, place },
         Section::Done { end, kept, notes } => {
             let f = notes.framing;
-            let b = nothing_stated(f, end);
+            let b = nothing_stated(f, end.at);
             match b {
                 BodyAnswer::Refused { number, place } => return HeadRead::Refused { number, place },
                 BodyAnswer::Read(_) => return HeadRead::Informational { status, end, kept },
@@ -58,14 +60,14 @@ fn after_final_status(
     t: &[u8; 256],
     s: &[u8],
     status: u32,
-    next: usize,
+    next: Cursor,
     form: Form,
     base: usize,
     headers: &mut [u32],
 ) -> HeadRead
-    requires { ⌜ (now t ≡ classes) × (next ≤ length (now s)) × (length (now s) < placesEnd) × (base * 4 + sectionRoom ≤ length (now headers))
-        × FinalStatus status ⌝ }
-    ensures { λ r. ⌜ Headed AnyHeads (λ f is told. afterFinalStatus told form is status next (drop next (now (s .entry))))
+    requires { ⌜ (now t ≡ classes) × (next .at ≤ length (now s)) × (length (now s) < placesEnd) × (base * 4 + sectionRoom ≤ length (now headers))
+        × FinalStatus status × (next .long ≤ next .at) ⌝ }
+    ensures { λ r. ⌜ Headed AnyHeads (λ f is told. afterFinalStatus told form is status next (drop (next .at) (now (s .entry))))
         form (now (s .entry)) base (now (headers .entry)) (now (headers .exit)) r ⌝ }
 {
     let h = header_section(t, s, next, form, true, base, headers);
@@ -84,41 +86,47 @@ fn after_final_status(
 pub(crate) fn next_head(
     t: &[u8; 256],
     s: &[u8],
-    i: usize,
+    i: Cursor,
     form: Form,
     count: usize,
     base: usize,
     headers: &mut [u32],
 ) -> HeadRead
-    requires { ⌜ (now t ≡ classes) × (length (now s) < placesEnd) × (base * 4 + sectionRoom ≤ length (now headers)) × (count ≤ informationalMost) ⌝ }
-    ensures { λ r. ⌜ Headed (SoManyHeads count) (λ f is told. heads told form (suc f) is i (drop i (now (s .entry))))
+    requires { ⌜ (now t ≡ classes) × (length (now s) < placesEnd) × (base * 4 + sectionRoom ≤ length (now headers)) × (count ≤ informationalMost)
+        × (i .long ≤ i .at) ⌝ }
+    ensures { λ r. ⌜ Headed (SoManyHeads count) (λ f is told. heads told form (suc f) is i (drop (i .at) (now (s .entry))))
         form (now (s .entry)) base (now (headers .entry)) (now (headers .exit)) r ⌝ }
 {
-    let n = read_int(s, i);
-    let Integer::Value { value, next } = n else {
+    let at = i.at;
+    let n = read_int(s, at);
+    let Integer::Value { value, next, long } = n else {
         return HeadRead::Refused {
             number: Refusals::CUT_OFF,
-            place: i,
+            place: at,
         };
+    };
+    let behind = Cursor {
+        at: next,
+        long: i.long + long,
     };
     let v = status_verdict(value);
     if v == 0 {
         let status = value as u32;
         if is_informational(value) {
             if Limits::fits(count + 1, Limits::INFORMATIONAL) {
-                return after_informational_status(t, s, status, next, form, base, headers);
+                return after_informational_status(t, s, status, behind, form, base, headers);
             }
             return HeadRead::Refused {
                 number: Refusals::TOO_LARGE,
-                place: i,
+                place: at,
             };
         } else {
-            return after_final_status(t, s, status, next, form, base, headers);
+            return after_final_status(t, s, status, behind, form, base, headers);
         }
     } else {
         return HeadRead::Refused {
             number: v,
-            place: i,
+            place: at,
         };
     }
 }
@@ -128,21 +136,23 @@ pub(crate) fn next_head(
 pub(crate) fn read_heads(
     t: &[u8; 256],
     s: &[u8],
-    from: usize,
+    from: Cursor,
     form: Form,
     headers: &mut [u32],
     informational: &mut [u32],
 ) -> HeadsRead
     requires { ⌜ (now t ≡ classes) × (length (now s) < placesEnd)
-        × (headsRoom ≤ length (now headers)) × (informationalRoom ≤ length (now informational)) ⌝ }
-    ensures { λ r. ⌜ HeadsTaken (λ told. responseMessage told form from (drop from (now (s .entry)))) form (now (s .entry))
+        × (headsRoom ≤ length (now headers)) × (informationalRoom ≤ length (now informational)) × (from .long ≤ from .at) ⌝ }
+    ensures { λ r. ⌜ HeadsTaken (λ told. responseMessage told form from (drop (from .at) (now (s .entry)))) form (now (s .entry))
         (now (headers .entry)) (now (headers .exit)) (now (informational .entry)) (now (informational .exit)) r ⌝ }
 {
-    let mut i = from;
+    let mut i = from.at;
     let mut count: usize = 0;
     let mut base: usize = 0;
+    let mut longs = from.long;
     loop {
-        let h = next_head(t, s, i, form, count, base, headers);
+        let here = Cursor { at: i, long: longs };
+        let h = next_head(t, s, here, form, count, base, headers);
         match h {
             HeadRead::Refused { number, place } => return HeadsRead::Refused { number, place },
             HeadRead::Final {
@@ -161,7 +171,8 @@ pub(crate) fn read_heads(
                 store(informational, count, status, (kept - base) as u32);
                 base = kept;
                 count += 1;
-                i = end;
+                i = end.at;
+                longs = end.long;
             }
         }
     }

@@ -5,6 +5,7 @@ mod response;
 mod rest;
 pub mod whole;
 
+use binary::Cursor;
 use messages::Framing;
 use messages::Notes;
 use messages::StatedLength;
@@ -14,12 +15,12 @@ use messages::StatedLength;
 enum HeadRead {
     Informational {
         status: u32,
-        end: usize,
+        end: Cursor,
         kept: usize,
     },
     Final {
         status: u32,
-        end: usize,
+        end: Cursor,
         kept: usize,
         notes: Notes,
     },
@@ -34,7 +35,7 @@ enum HeadRead {
 enum HeadsRead {
     Done {
         status: u32,
-        end: usize,
+        end: Cursor,
         heads: usize,
         kept: usize,
         notes: Notes,
@@ -47,16 +48,18 @@ enum HeadsRead {
 
 // Trailers that were read: the place behind them, how many are kept.
 enum TrailersRead {
-    Done { end: usize, kept: usize },
+    Done { end: Cursor, kept: usize },
     Refused { number: u32, place: usize },
 }
 
-// What stands behind a header section and was read to the end of the input: how many non-empty chunks, how many octets they are, how many kept trailers.
+// What stands behind a header section and was read to the end of the input: how many non-empty chunks, how many octets they are, how many kept trailers; how many
+// integers of the message are long.
 enum RestRead {
     Done {
         chunks: usize,
         total: usize,
         trailers: usize,
+        long: usize,
     },
     Refused {
         number: u32,

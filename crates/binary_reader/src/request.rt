@@ -2,6 +2,7 @@
 use crate::HeadAnswer;
 use crate::RestRead;
 use crate::rest::after_headers;
+use binary::Cursor;
 use binary::Form;
 use binary_parts::ControlRead;
 use binary_parts::Section;
@@ -83,6 +84,7 @@ fn request_outcome(
             chunks,
             total,
             trailers,
+            long,
         } => {
             let counts = Counts {
                 headers: fields,
@@ -91,6 +93,7 @@ fn request_outcome(
                 trailers,
                 length: n,
                 stated: StatedLength::Missing,
+                long,
             };
             return Outcome::Message(request_record(
                 scheme,
@@ -112,20 +115,20 @@ fn after_head(
     scheme: u32,
     authority: Span,
     path: Span,
-    end: usize,
+    end: Cursor,
     fields: usize,
     notes: Notes,
     chunks: &mut [u32],
     trailers: &mut [u32],
 ) -> Outcome
-    requires { ⌜ (now t ≡ classes) × (end ≤ length (now s)) × (length (now s) < placesEnd)
+    requires { ⌜ (now t ≡ classes) × (end .at ≤ length (now s)) × (length (now s) < placesEnd)
         × Inside (now s) method × Inside (now s) authority × Inside (now s) path
-        × (chunksRoom ≤ length (now chunks)) × (sectionRoom ≤ length (now trailers)) ⌝ }
+        × (chunksRoom ≤ length (now chunks)) × (sectionRoom ≤ length (now trailers)) × (end .long ≤ end .at) ⌝ }
     ensures { λ r. ⌜ RequestRest (now (s .entry)) form (controlOf (now (s .entry)) method scheme authority path) end fields notes
         (now (chunks .entry)) (now (chunks .exit)) (now (trailers .entry)) (now (trailers .exit)) r ⌝ }
 {
     let f = notes.framing;
-    let j = judge_head(t, s, authority, end, notes);
+    let j = judge_head(t, s, authority, end.at, notes);
     match j {
         HeadAnswer::Refused { number, place } => return Outcome::Refusal { number, place },
         HeadAnswer::Good { start, len } => {
@@ -145,15 +148,16 @@ fn after_control(
     scheme: u32,
     authority: Span,
     path: Span,
-    from: usize,
+    from: Cursor,
     headers: &mut [u32],
     chunks: &mut [u32],
     trailers: &mut [u32],
 ) -> Outcome
-    requires { ⌜ (now t ≡ classes) × (from ≤ length (now s)) × (length (now s) < placesEnd)
+    requires { ⌜ (now t ≡ classes) × (from .at ≤ length (now s)) × (length (now s) < placesEnd)
         × Inside (now s) method × Inside (now s) authority × Inside (now s) path
-        × (sectionRoom ≤ length (now headers)) × (chunksRoom ≤ length (now chunks)) × (sectionRoom ≤ length (now trailers)) ⌝ }
-    ensures { λ r. ⌜ Requested (afterControl form (controlOf (now (s .entry)) method scheme authority path) from (drop from (now (s .entry))))
+        × (sectionRoom ≤ length (now headers)) × (chunksRoom ≤ length (now chunks)) × (sectionRoom ≤ length (now trailers))
+        × (from .long ≤ from .at) ⌝ }
+    ensures { λ r. ⌜ Requested (afterControl form (controlOf (now (s .entry)) method scheme authority path) from (drop (from .at) (now (s .entry))))
         (now (headers .entry)) (now (headers .exit)) (now (chunks .entry)) (now (chunks .exit)) (now (trailers .entry)) (now (trailers .exit)) r ⌝ }
 {
     let h = header_section(t, s, from, form, false, 0, headers);
@@ -180,15 +184,16 @@ fn after_control(
 pub(crate) fn request_in(
     t: &[u8; 256],
     s: &[u8],
-    from: usize,
+    from: Cursor,
     form: Form,
     headers: &mut [u32],
     chunks: &mut [u32],
     trailers: &mut [u32],
 ) -> Outcome
     requires { ⌜ (now t ≡ classes) × (length (now s) < placesEnd)
-        × (sectionRoom ≤ length (now headers)) × (chunksRoom ≤ length (now chunks)) × (sectionRoom ≤ length (now trailers)) ⌝ }
-    ensures { λ r. ⌜ Requested (requestMessage form from (drop from (now (s .entry))))
+        × (sectionRoom ≤ length (now headers)) × (chunksRoom ≤ length (now chunks)) × (sectionRoom ≤ length (now trailers))
+        × (from .long ≤ from .at) ⌝ }
+    ensures { λ r. ⌜ Requested (requestMessage form from (drop (from .at) (now (s .entry))))
         (now (headers .entry)) (now (headers .exit)) (now (chunks .entry)) (now (chunks .exit)) (now (trailers .entry)) (now (trailers .exit)) r ⌝ }
 {
     let c = request_control(t, s, from);

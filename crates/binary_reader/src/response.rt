@@ -4,6 +4,7 @@ use crate::HeadsRead;
 use crate::RestRead;
 use crate::heads::read_heads;
 use crate::rest::after_headers;
+use binary::Cursor;
 use binary::Form;
 use messages::BodyAnswer;
 use messages::Counts;
@@ -74,6 +75,7 @@ fn response_outcome(
             chunks,
             total,
             trailers,
+            long,
         } => {
             let counts = Counts {
                 headers: fields,
@@ -82,6 +84,7 @@ fn response_outcome(
                 trailers,
                 length: n,
                 stated,
+                long,
             };
             return Outcome::Message(response_record(heads, status, counts));
         }
@@ -95,20 +98,20 @@ fn after_final(
     told: Told,
     form: Form,
     status: u32,
-    end: usize,
+    end: Cursor,
     heads: usize,
     fields: usize,
     notes: Notes,
     chunks: &mut [u32],
     trailers: &mut [u32],
 ) -> Outcome
-    requires { ⌜ (now t ≡ classes) × (end ≤ length (now s)) × (length (now s) < placesEnd)
-        × (chunksRoom ≤ length (now chunks)) × (sectionRoom ≤ length (now trailers)) ⌝ }
+    requires { ⌜ (now t ≡ classes) × (end .at ≤ length (now s)) × (length (now s) < placesEnd)
+        × (chunksRoom ≤ length (now chunks)) × (sectionRoom ≤ length (now trailers)) × (end .long ≤ end .at) ⌝ }
     ensures { λ r. ⌜ FinalRead told (now (s .entry)) form status end heads fields notes
         (now (chunks .entry)) (now (chunks .exit)) (now (trailers .entry)) (now (trailers .exit)) r ⌝ }
 {
     let f = notes.framing;
-    let j = judge_final(told, status, f, end);
+    let j = judge_final(told, status, f, end.at);
     match j {
         FinalAnswer::Refused { number, place } => return Outcome::Refusal { number, place },
         FinalAnswer::Good {
@@ -127,7 +130,7 @@ pub(crate) fn response_in(
     t: &[u8; 256],
     s: &[u8],
     told: Told,
-    from: usize,
+    from: Cursor,
     form: Form,
     headers: &mut [u32],
     informational: &mut [u32],
@@ -136,8 +139,8 @@ pub(crate) fn response_in(
 ) -> Outcome
     requires { ⌜ (now t ≡ classes) × (length (now s) < placesEnd)
         × (headsRoom ≤ length (now headers)) × (informationalRoom ≤ length (now informational))
-        × (chunksRoom ≤ length (now chunks)) × (sectionRoom ≤ length (now trailers)) ⌝ }
-    ensures { λ r. ⌜ Responded (messageAnswer (responseMessage told form from (drop from (now (s .entry)))))
+        × (chunksRoom ≤ length (now chunks)) × (sectionRoom ≤ length (now trailers)) × (from .long ≤ from .at) ⌝ }
+    ensures { λ r. ⌜ Responded (messageAnswer (responseMessage told form from (drop (from .at) (now (s .entry)))))
         (now (headers .entry)) (now (headers .exit)) (now (informational .entry)) (now (informational .exit))
         (now (chunks .entry)) (now (chunks .exit)) (now (trailers .entry)) (now (trailers .exit)) r ⌝ }
 {

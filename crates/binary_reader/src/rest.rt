@@ -1,6 +1,7 @@
 // What stands behind a header section: content, trailers, padding.
 use crate::RestRead;
 use crate::TrailersRead;
+use binary::Cursor;
 use binary::Form;
 use binary_parts::ContentRead;
 use binary_parts::Padding;
@@ -39,15 +40,16 @@ fn trailers_agree(notes: Notes, body: bool, kept: usize) -> bool
 fn read_trailers(
     t: &[u8; 256],
     s: &[u8],
-    from: usize,
+    from: Cursor,
     form: Form,
     body: bool,
     out: &mut [u32],
 ) -> TrailersRead
-    requires { ⌜ (now t ≡ classes) × (from ≤ length (now s)) × (length (now s) < placesEnd) × (sectionRoom ≤ length (now out)) ⌝ }
-    ensures { λ r. ⌜ Trailed (now (s .entry)) (trailers form body from (drop from (now (s .entry)))) (now (out .entry)) (now (out .exit)) r ⌝ }
+    requires { ⌜ (now t ≡ classes) × (from .at ≤ length (now s)) × (length (now s) < placesEnd) × (sectionRoom ≤ length (now out))
+        × (from .long ≤ from .at) ⌝ }
+    ensures { λ r. ⌜ Trailed (now (s .entry)) (trailers form body from (drop (from .at) (now (s .entry)))) (now (out .entry)) (now (out .exit)) r ⌝ }
 {
-    if s.len() <= from {
+    if s.len() <= from.at {
         return TrailersRead::Done { end: from, kept: 0 };
     }
     let h = read_section(t, s, from, form, false, 0, out);
@@ -59,7 +61,7 @@ fn read_trailers(
             }
             return TrailersRead::Refused {
                 number: Refusals::BAD_LENGTH,
-                place: end,
+                place: end.at,
             };
         }
     }
@@ -69,14 +71,15 @@ fn read_trailers(
 fn after_content(
     t: &[u8; 256],
     s: &[u8],
-    from: usize,
+    from: Cursor,
     form: Form,
     body: bool,
     count: usize,
     total: usize,
     trailers: &mut [u32],
 ) -> RestRead
-    requires { ⌜ (now t ≡ classes) × (from ≤ length (now s)) × (length (now s) < placesEnd) × (sectionRoom ≤ length (now trailers)) ⌝ }
+    requires { ⌜ (now t ≡ classes) × (from .at ≤ length (now s)) × (length (now s) < placesEnd) × (sectionRoom ≤ length (now trailers))
+        × (from .long ≤ from .at) ⌝ }
     ensures { λ r. ⌜ Behind (now (s .entry)) from form body count total (now (trailers .entry)) (now (trailers .exit)) r ⌝ }
 {
     let h = read_trailers(t, s, from, form, body, trailers);
@@ -89,6 +92,7 @@ fn after_content(
                     chunks: count,
                     total,
                     trailers: kept,
+                    long: end.long,
                 },
                 Padding::Bad { place } => return RestRead::Refused {
                     number: Refusals::BAD_PADDING,
@@ -104,15 +108,16 @@ fn after_content(
 pub(crate) fn after_headers(
     t: &[u8; 256],
     s: &[u8],
-    from: usize,
+    from: Cursor,
     form: Form,
     body: bool,
     framing: Framing,
     chunks: &mut [u32],
     trailers: &mut [u32],
 ) -> RestRead
-    requires { ⌜ (now t ≡ classes) × (from ≤ length (now s)) × (length (now s) < placesEnd)
-        × (chunksRoom ≤ length (now chunks)) × (sectionRoom ≤ length (now trailers)) ⌝ }
+    requires { ⌜ (now t ≡ classes) × (from .at ≤ length (now s)) × (length (now s) < placesEnd)
+        × (chunksRoom ≤ length (now chunks)) × (sectionRoom ≤ length (now trailers))
+        × (from .long ≤ from .at) ⌝ }
     ensures { λ r. ⌜ Rested (now (s .entry)) from form body framing
         (now (chunks .entry)) (now (chunks .exit)) (now (trailers .entry)) (now (trailers .exit)) r ⌝ }
 {
@@ -130,7 +135,7 @@ pub(crate) fn after_headers(
             }
             return RestRead::Refused {
                 number: Refusals::BAD_LENGTH,
-                place: end,
+                place: end.at,
             };
         }
     }

@@ -1,6 +1,7 @@
 // Whole messages, the framing indicator first.
 use crate::request::request_in;
 use crate::response::response_in;
+use binary::Cursor;
 use binary::Form;
 use messages::Outcome;
 use messages::Reading;
@@ -47,7 +48,7 @@ fn after_indicator(
     s: &[u8],
     told: Told,
     indicator: usize,
-    from: usize,
+    from: Cursor,
     headers: &mut [u32],
     informational: &mut [u32],
     chunks: &mut [u32],
@@ -55,8 +56,8 @@ fn after_indicator(
 ) -> Outcome
     requires { ⌜ (now t ≡ classes) × (length (now s) < placesEnd)
         × (headsRoom ≤ length (now headers)) × (informationalRoom ≤ length (now informational))
-        × (chunksRoom ≤ length (now chunks)) × (sectionRoom ≤ length (now trailers)) ⌝ }
-    ensures { λ r. ⌜ Responded (messageAnswer (afterIndicator told indicator from (drop from (now (s .entry)))))
+        × (chunksRoom ≤ length (now chunks)) × (sectionRoom ≤ length (now trailers)) × (from .long ≤ from .at) ⌝ }
+    ensures { λ r. ⌜ Responded (messageAnswer (afterIndicator told indicator from (drop (from .at) (now (s .entry)))))
         (now (headers .entry)) (now (headers .exit)) (now (informational .entry)) (now (informational .exit))
         (now (chunks .entry)) (now (chunks .exit)) (now (trailers .entry)) (now (trailers .exit)) r ⌝ }
 {
@@ -121,7 +122,7 @@ fn sized_in(
 {
     if Limits::fits(s.len(), Limits::BINARY) {
         let v = read_int(s, 0);
-        let Integer::Value { value, next } = v else {
+        let Integer::Value { value, next, long } = v else {
             return Outcome::Refusal {
                 number: Refusals::CUT_OFF,
                 place: 0,
@@ -132,7 +133,7 @@ fn sized_in(
             s,
             told,
             value,
-            next,
+            Cursor { at: next, long },
             headers,
             informational,
             chunks,

@@ -27,7 +27,7 @@ use Rattle.messages.proofs.Verdicts.{status-rule}
 use Rattle.messages.proofs.Valid.{section-fields, section-few, first-ok, head-ok, response-ok, meaning-ok}
 use Rattle.messages.proofs.ValidLines.{said}
 use Rattle.messages.proofs.Stating.{LinesOk, fields-ok, stated-lines, stated-few, stated-ok}
-use Rattle.binary.specs.Reader.{got, Reader}
+use Rattle.binary.specs.Reader.{cursor, got, Reader}
 use Rattle.binary.specs.Read.{RequestControl}
 use Rattle.binary_writer.specs.Write.{counted, sectionBytes, informationalBytes, binaryOf, binaryFits}
 use Rattle.binary_round_trip.specs.RoundTrip.{headerOf, Unique}
@@ -67,7 +67,7 @@ same-meaning e f g h k = cc
 -- what one reader reads at one place, of octets with others behind them
 reads-apart : {A : Type 0} {r : Reader A} {at : ℕ} {x y p q : List ℕ} {a b : A} → Reads r at x p a → Reads r at y q b → x ++ p ≡ y ++ q → (a ≡ b) × (p ≡ q)
 reads-apart {r = r} {at} {x} {y} {p} {q} {a} {b} h g e =
-    let z : got a _ p ≡ got b _ q = sym (h .go) ∙ ap (r at) e ∙ g .go in
+    let z : got a _ p ≡ got b _ q = sym (h .go) ∙ ap (r (cursor at 0)) e ∙ g .go in
     (cc, cc)
 
 int-apart : (v w : ℕ) (x y : List ℕ) → v < integerEnd → w < integerEnd → intBytes v ++ x ≡ intBytes w ++ y → (v ≡ w) × (x ≡ y)

@@ -1,5 +1,5 @@
 -- The round trip of Binary HTTP, and what follows from it. Assumes nothing.
-use mathlib.Core.Path.{_≡_, refl, ap, _∙_, subst}
+use mathlib.Core.Path.{_≡_, refl, sym, ap, _∙_, subst}
 use mathlib.Core.Bool.{Bool, true, false, not}
 use mathlib.Core.List.{List, [], _++_, append-assoc, append-nil}
 use Prim.Native.Nat.{ℕ, suc, _+_, _≤_, _<_}
@@ -11,7 +11,8 @@ use Rattle.octets.specs.Limits.{binaryMost, informationalMost}
 use Rattle.octets.specs.Refusals.{cutOff}
 use Rattle.numbers.specs.Integer.{intLen, intBytes}
 use Rattle.numbers.proofs.IntegerLaws.{int-length}
-use Rattle.messages.specs.Message.{isResponse}
+use Rattle.script.specs.Script.{accepted}
+use Rattle.messages.specs.Message.{isResponse, Message}
 use Rattle.messages.specs.Names.{keptTrailers}
 use Rattle.messages.specs.Meaning.{Control, request, response, controlMeans, Meaning, meaning}
 use Rattle.messages.specs.Control.{endsAtHead}
@@ -21,10 +22,10 @@ use Rattle.messages.specs.Told.{isEdition, inEdition}
 use Rattle.messages.proofs.Valid.{section-fields, section-few, response-ok, meaning-ok}
 use Rattle.messages.proofs.Stating.{never-stated, stated-few, suited}
 use Rattle.messages.proofs.ValidLines.{content-back}
-use Rattle.binary.specs.Reader.{got, Reader, _>>=_, integer}
+use Rattle.binary.specs.Reader.{got, cursor, Reader, _>>=_, integer}
 use Rattle.binary.specs.Read.{formOf, afterIndicator, message, readSized, readBinary}
 use Rattle.binary_writer.specs.Write.{counted, sectionBytes, schemeBytes, informationalBytes, controlBytes, binaryOf, binaryFits}
-use Rattle.binary_round_trip.specs.RoundTrip.{startOf, headerOf, placedFrom, placedBinary, RoundTrip, RoundTripOfMeanings}
+use Rattle.binary_round_trip.specs.RoundTrip.{startOf, headerOf, placedFrom, placedBinary, RoundTrip, RoundTripOfMeanings, WrittenShortest}
 use Rattle.binary_round_trip.proofs.Judgement.{Reads, reads-integer, reads-bind}
 use Rattle.binary_round_trip.proofs.Lines.{both-fit}
 use Rattle.binary_round_trip.proofs.Keeping.{fields-back, header-back, heads-back}
@@ -181,10 +182,20 @@ pub round-trip : RoundTrip
 unfolding readBinary readSized binaryFits isEdition
 round-trip = λ t m v u f.
     let h = leb-true (length (binaryOf m)) binaryMost f in
-    let r : message (inEdition 0 t) 0 (binaryOf m) ≡ got (placedBinary m) (0 + length (binaryOf m)) [] =
+    let r : message (inEdition 0 t) (cursor 0 0) (binaryOf m) ≡ got (placedBinary m) (cursor (0 + length (binaryOf m)) 0) [] =
     rw append-nil at (message-back t m v (suits-edition t m u) h .go) in
     let e : 0 + length (binaryOf m) ≡ length (binaryOf m) = omega arith in
     (rw (f, r, e), meaning-back m v)
 
 pub round-trip-of-meanings : RoundTripOfMeanings
 round-trip-of-meanings = λ t m v u f. let r = round-trip t m v u f in rw (r .0, r .1)
+
+accepted-same : {A : Type 0} {n k : ℕ} {x y : A} → accepted n x ≡ accepted k y → x ≡ y
+accepted-same e = cc
+
+-- nothing that is written is long
+pub written-shortest : WrittenShortest
+unfolding placedBinary placedFrom
+written-shortest t m v u f n x e =
+    let z : placedBinary m ≡ x = accepted-same (sym (round-trip t m v u f .0) ∙ e) in
+    subst (λ (y : Message). y .long ≡ 0) z refl

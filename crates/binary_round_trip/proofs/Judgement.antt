@@ -12,21 +12,24 @@ use Rattle.numbers.specs.Integer.{readInt, integerEnd, intBytes}
 use Rattle.numbers.specs.declared.Integer.the-variants.{Value}
 use Rattle.numbers.proofs.IntegerLaws.{int-round, int-length}
 use Rattle.script.specs.Do.{piece, Judged, good}
-use Rattle.binary.specs.Reader.{got, Reader, _>>=_, give, here, ended, tell, integer, string}
+use Rattle.binary.specs.Reader.{got, cursor, Reader, _>>=_, give, here, longs, ended, tell, integer, string}
 
--- r at the place `at` reads the octets x as a, where `rest` stands behind them
+-- r at the place `at` reads the octets x as a, where `rest` stands behind them; no integer among them is long
 pub record Reads {A : Type 0} (r : Reader A) (at : ℕ) (x rest : List ℕ) (a : A) : Type 0 where
-  pub go : r at (x ++ rest) ≡ got a (at + length x) rest
+  pub go : r (cursor at 0) (x ++ rest) ≡ got a (cursor (at + length x) 0) rest
 
 -- a reader that uses no octets
-pub reads-none : {A : Type 0} {r : Reader A} {at : ℕ} {rest : List ℕ} {a : A} → r at rest ≡ got a at rest → Reads r at [] rest a
-reads-none {at = at} {rest} {a} e = record { go = e ∙ ap (λ (n : ℕ). got a n rest) (omega arith) }
+pub reads-none : {A : Type 0} {r : Reader A} {at : ℕ} {rest : List ℕ} {a : A} → r (cursor at 0) rest ≡ got a (cursor at 0) rest → Reads r at [] rest a
+reads-none {at = at} {rest} {a} e = record { go = e ∙ ap (λ (n : ℕ). got a (cursor n 0) rest) (omega arith) }
 
 pub reads-give : {A : Type 0} (at : ℕ) (rest : List ℕ) (a : A) → Reads (give a) at [] rest a
 reads-give at rest a = reads-none refl
 
 pub reads-here : (at : ℕ) (rest : List ℕ) → Reads here at [] rest at
 reads-here at rest = reads-none refl
+
+pub reads-longs : (at : ℕ) (rest : List ℕ) → Reads longs at [] rest 0
+reads-longs at rest = reads-none refl
 
 pub reads-ended : (at : ℕ) (rest : List ℕ) (b : Bool) → isEmpty rest ≡ b → Reads ended at [] rest b
 reads-ended at rest b e = reads-none (rw e)
@@ -37,7 +40,7 @@ reads-tell at rest j x e = reads-none (rw e)
 pub reads-integer : (k p at v : ℕ) (rest : List ℕ) → v < integerEnd → Reads (integer k p) at (intBytes v) rest v
 unfolding integer
 reads-integer k p at v rest h =
-    let e : readInt at (intBytes v ++ rest) ≡ Value v (at + length (intBytes v)) = rw (int-length v) (int-round v at rest h) in
+    let e : readInt at (intBytes v ++ rest) ≡ Value v (at + length (intBytes v)) 0 = rw (int-length v) (int-round v at rest h) in
     let z : length (intBytes v) ≡ at + length (intBytes v) - at = omega arith in
     record { go = rw (e, drop-at (intBytes v) rest _ z) }
 
@@ -54,7 +57,7 @@ reads-bind {r = r} {at} {x} {y} {rest} {a} k {b} h g =
     record {
       go =
           rw (append-assoc x y rest, h .go)
-          (g .go ∙ ap (λ (n : ℕ). got b n rest) (rw (length-append x y) (omega arith)));
+          (g .go ∙ ap (λ (n : ℕ). got b (cursor n 0) rest) (rw (length-append x y) (omega arith)));
     }
 
 -- a step that uses no octets, in front or behind

@@ -18,7 +18,7 @@ use Rattle.messages.specs.declared.Kind.the-variants as kind
 use Rattle.messages.specs.Meaning.{Field}
 use Rattle.messages.proofs.Verdicts.{name-rule}
 use Rattle.messages.proofs.Stating.{LineOk, LinesOk}
-use Rattle.binary.specs.Reader.{Got, got}
+use Rattle.binary.specs.Reader.{Got, got, cursor}
 use Rattle.binary.specs.Read.{rfc9292, isLineValue, judgedLine, afterNameLength, knownLine, knownLines, onBody, bodyLines, knownSection, section}
 use Rattle.binary_writer.specs.Write.{counted, fieldBytes, fieldsBytes, sectionBytes}
 use Rattle.binary_round_trip.specs.RoundTrip.{lineAt, linesAt, sectionAt}
@@ -107,6 +107,6 @@ reads-section fs at rest v q h =
     let b = counted-fits (fieldsBytes fs) h in
     let at2 : ℕ = at + length (intBytes (length (fieldsBytes fs))) in
     let r = reads-lines fs (suc linesMost) at2 [] v (omega arith) (omega arith) b in
-    let e : knownLines (rfc9292 true) (suc linesMost) [] at2 (fieldsBytes fs) ≡ got (linesAt at2 fs) (at2 + length (fieldsBytes fs)) [] = rw append-nil at (r .go) in
-    behind _ (behind _ (reads-part at (fieldsBytes fs) rest (omega arith)) (reads-none (ap (λ (z : Got (List FieldRead)). onBody z (at + length (counted (fieldsBytes fs))) rest) e)))
+    let e : knownLines (rfc9292 true) (suc linesMost) [] (cursor at2 0) (fieldsBytes fs) ≡ got (linesAt at2 fs) (cursor (at2 + length (fieldsBytes fs)) 0) [] = rw append-nil at (r .go) in
+    behind _ (behind _ (reads-part at (fieldsBytes fs) rest (omega arith)) (reads-none (ap (λ (z : Got (List FieldRead)). onBody z (cursor (at + length (counted (fieldsBytes fs))) 0) rest) e)))
     (before _ (reads-here _ _) (reads-give _ rest _))

@@ -34,7 +34,7 @@ use Rattle.binary.specs.Read.{rfc9292, knownContent, content, contentAgrees, co
 use Rattle.binary.specs.Read.{headerSection, requestMessage, afterFinal, afterFinalStatus, afterInformational, afterInformationalStatus, heads}
 use Rattle.binary_writer.specs.Write.{counted, fieldsBytes, sectionBytes, schemeBytes, informationalBytes}
 use Rattle.binary_round_trip.specs.RoundTrip.{countedAt, linesAt, sectionAt, headAt, headsAt, headerOf, placedFrom}
-use Rattle.binary_round_trip.proofs.Judgement.{Reads, reads-none, reads-give, reads-here, reads-ended, reads-tell, reads-integer, reads-bind, before, behind, reads-as}
+use Rattle.binary_round_trip.proofs.Judgement.{Reads, reads-none, reads-give, reads-here, reads-longs, reads-ended, reads-tell, reads-integer, reads-bind, before, behind, reads-as}
 use Rattle.binary_round_trip.proofs.Parts.{reads-within, reads-request}
 use Rattle.binary_round_trip.proofs.Lines.{both-fit, counted-fits, reads-section}
 use Rattle.binary_round_trip.proofs.Keeping.{unstated, kept-all, header-framing, no-hosts, are-trailers, as-many}
@@ -129,7 +129,7 @@ module _ (host body : Bool) (m : Meaning) (ok : TailOk host body m) where
       reads-bind _ (reads-content at (m .content) _ (ok .content))
       (before _ (reads-here _ _)
       (before _ (reads-tell _ _ _ _ (content-good body _ _ (m .content) (b .0)))
-      (behind _ (reads-trailers body (m .trailers) _ [] (ok .trailers) (ok .trailersFit) (b .1)) (before _ (reads-padding _) (reads-give _ [] _)))))
+      (behind _ (reads-trailers body (m .trailers) _ [] (ok .trailers) (ok .trailersFit) (b .1)) (before _ (reads-longs _ _) (before _ (reads-padding _) (reads-give _ [] _))))))
 
 -- ---- no valid section states a length
 

@@ -64,6 +64,7 @@ placedFrom start at m =
       chunks = nonEmpty (countedAt (at + length (sectionBytes (headerOf m))) (m .content));
       trailers = sectionAt (at + length (sectionBytes (headerOf m)) + length (counted (m .content))) (m .trailers);
       stated = m .stated;
+      long = 0;
     }
 
 -- the message that the reader takes from what is written
@@ -86,6 +87,12 @@ abbrev pub RoundTripOfMeanings : Type 0
 RoundTripOfMeanings =
     (t : Told) (m : Meaning) → valid m ≡ true → suits t m ≡ true → binaryFits m ≡ true
     → means meaning (readBinary (inEdition 0 t) (binaryOf m)) ≡ accepted (length (binaryOf m)) m
+
+-- the total of what we write is zero (02, item 8): read again, no integer of it is long
+abbrev pub WrittenShortest : Type 0
+WrittenShortest =
+    (t : Told) (m : Meaning) → valid m ≡ true → suits t m ≡ true → binaryFits m ≡ true
+    → (n : ℕ) (x : Message) → readBinary (inEdition 0 t) (binaryOf m) ≡ accepted n x → x .long ≡ 0
 
 -- equal octets are equal meanings, whatever a reader of either is told: where one of them states a length, its line is in both, and no kept field is one
 abbrev pub Unique : Type 0

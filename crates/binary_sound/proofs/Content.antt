@@ -1,5 +1,5 @@
 -- What content, trailers and padding give wherever they stand.
-use Prim.Native.Nat.{ℕ, zero, suc, _+_}
+use Prim.Native.Nat.{ℕ, zero, suc, _+_, _≤_}
 use mathlib.Core.Path.{_≡_, refl, sym, subst}
 use mathlib.Core.Bool.{Bool, true, false, cond, _||_}
 use mathlib.Core.List.{List, [], _∷_, _++_, map}
@@ -12,19 +12,20 @@ use Rattle.octets.specs.Refusals.{badPadding}
 use Rattle.octets.specs.Text.{isEmpty}
 use Rattle.octets.proofs.Kit.{into}
 use Rattle.script.specs.Do.{Piece, piece, good}
-use Rattle.messages.specs.Message.{FieldRead, Section, Start, Message, statingMessage}
+use Rattle.messages.specs.Message.{FieldRead, Section, Start, Message, countedMessage}
 use Rattle.messages.specs.Names.{areTrailers, kept, keptTrailers}
 use Rattle.messages.specs.Rules.{agrees}
 use Rattle.messages.specs.Meaning.{fieldMeans, contentOf}
 use Rattle.messages.specs.Valid.{noFields, validBody}
 use Rattle.messages.specs.declared.Framing.{Framing}
 use Rattle.messages.specs.declared.StatedLength.{StatedLength}
-use Rattle.binary.specs.Reader.{no}
+use Rattle.binary.specs.Reader.{no, cursor}
 use Rattle.binary.specs.declared.Form.{Form}
+use Rattle.binary.specs.declared.Cursor.{Cursor}
 use Rattle.binary.specs.Read.{knownContent, openChunks, content, contentAgrees, contentRule, trailersAgree, trailerRule, trailers, padding, afterContent, afterHeaders}
 use Rattle.sound.proofs.Each.{content-snoc}
 use Rattle.sound.proofs.Parts.{ChunksAt, chunks-none, chunks-snoc, chunks-one}
-use Rattle.binary_sound.proofs.Judgement.{Stands, stands-on, Gets, Every, stops-give, every-refuse, every-here, stops-ended, every-tell, stops-if, every-integer, every-octets, stops-bind, stops-then}
+use Rattle.binary_sound.proofs.Judgement.{Stands, stands-on, Gets, Every, stops-give, every-refuse, every-here, stops-longs, stops-ended, every-tell, stops-if, every-integer, every-octets, stops-bind, stops-then}
 use Rattle.binary_sound.proofs.Parts.{every-within}
 use Rattle.binary_sound.proofs.Lines.{no-wrong, LinesAt, lines-none, every-section}
 
@@ -81,11 +82,11 @@ body-valid false cs ts h g = rw (h, as-many (keptTrailers ts), g)
 -- ---- the readers
 
 module _ {s : List ℕ} {e : ℕ} where
-  every-known-content : {at : ℕ} → Every s e (λ n cs. ChunksAt s cs) at knownContent
+  every-known-content : {at : Cursor} → Every s e (λ n cs. ChunksAt s cs) at knownContent
   unfolding knownContent
   every-known-content = stops-then _ (every-within contentMost) λ i c g. stops-give (chunks-one s (c .place) (c .text) (g .0) (g .1) .0)
 
-  every-chunks : (f : ℕ) {at : ℕ} (cs : List Piece) (total : ℕ) → ChunksAt s cs → length (contentOf cs) ≡ total
+  every-chunks : (f : ℕ) {at : Cursor} (cs : List Piece) (total : ℕ) → ChunksAt s cs → length (contentOf cs) ≡ total
       → Every s e (λ n c. ChunksAt s c) at (openChunks f cs total)
   unfolding openChunks
   every-chunks zero cs total h t = every-refuse
@@ -94,19 +95,19 @@ module _ {s : List ℕ} {e : ℕ} where
       stops-if (eqb n 0) (λ a. stops-give h) λ a.
       stops-if (leb chunksMost (length cs)) (λ b. every-refuse) λ b.
       stops-if (ltb contentMost (total + n)) (λ c. every-refuse) λ c.
-      stops-bind _ (every-octets n _ _ λ w l y.
-      every-chunks f (cs ++ piece i w ∷ []) (total + n)
-      (chunks-snoc s cs (piece i w) n h y l (eqb-false n 0 a) (leb-false chunksMost (length cs) b) (omega (arith, ltb-false contentMost (total + n) c)))
-      (omega (arith, content-snoc cs (piece i w)))))))
+      stops-bind _ (every-octets n _ _ λ w l y o.
+      every-chunks f (cs ++ piece (i .at) w ∷ []) (total + n)
+      (chunks-snoc s cs (piece (i .at) w) n h y l (eqb-false n 0 a) (leb-false chunksMost (length cs) b) (omega (arith, ltb-false contentMost (total + n) c)))
+      (omega (arith, content-snoc cs (piece (i .at) w)))))))
 
-  every-content : {at : ℕ} (known : Bool) → Every s e (λ n cs. ChunksAt s cs) at (content known)
+  every-content : {at : Cursor} (known : Bool) → Every s e (λ n cs. ChunksAt s cs) at (content known)
   unfolding content contentOf
   every-content known =
       stops-bind _ (stops-ended λ b.
       stops-if b (λ t. stops-give (chunks-none s)) λ t.
       stops-if known (λ u. every-known-content) (λ u. every-chunks (suc chunksMost) [] 0 (chunks-none s) refl))
 
-  every-trailers : {at : ℕ} (form : Form) (body : Bool) → Every s e (λ n ts. LinesAt s ts × GoodTrailers body ts) at (trailers form body)
+  every-trailers : {at : Cursor} (form : Form) (body : Bool) → Every s e (λ n ts. LinesAt s ts × GoodTrailers body ts) at (trailers form body)
   unfolding trailers
   every-trailers form body =
       stops-bind _ (stops-ended λ b.
@@ -115,17 +116,17 @@ module _ {s : List ℕ} {e : ℕ} where
       every-tell (trailerRule body h) λ ts q. let r = trailers-are body h ts q in (subst (LinesAt s) (r .0) g, subst (GoodTrailers body) (r .0) (r .1)))
 
   -- to the end of the input
-  padded : (form : Form) (at : ℕ) (l : List ℕ) → Stands s e at l → Gets (λ n i z. Stands s e n i × (n ≡ e)) (padding form at l)
+  padded : (form : Form) (at : Cursor) (l : List ℕ) → Stands s e at l → Gets (λ n i z. Stands s e n i × (n .at ≡ e)) (padding form at l)
   unfolding padding
   padded form at [] y = (y, omega (arith, y .ends))
-  padded form at (b ∷ l) y = on (cond (form .padded) (eqb b 0) false) (padded form (at + 1) l (stands-on 1 (omega arith) y))
+  padded form at (b ∷ l) y = on (cond (form .padded) (eqb b 0) false) (padded form (cursor (at .at + 1) (at .long)) l (stands-on 1 (omega arith) y))
     where
-      on : (t : Bool) → Gets (λ n i z. Stands s e n i × (n ≡ e)) (padding form (at + 1) l)
-          → Gets (λ n i z. Stands s e n i × (n ≡ e)) (cond t (padding form (at + 1) l) (no badPadding at))
+      on : (t : Bool) → Gets (λ n i z. Stands s e n i × (n .at ≡ e)) (padding form (cursor (at .at + 1) (at .long)) l)
+          → Gets (λ n i z. Stands s e n i × (n .at ≡ e)) (cond t (padding form (cursor (at .at + 1) (at .long)) l) (no badPadding (at .at)))
       on true ih = ih
       on false ih = tt
 
-  every-padding : {at : ℕ} (form : Form) → Every s e (λ n z. n ≡ e) at (padding form)
+  every-padding : {at : Cursor} (form : Form) → Every s e (λ n z. n .at ≡ e) at (padding form)
   every-padding {at} form = record { go = λ l y. padded form at l y }
 
 -- ---- behind the header section
@@ -136,8 +137,9 @@ pub record TailAt (s : List ℕ) (body : Bool) (f : Framing) (cs : List Piece) (
   pub trailers : LinesAt s ts
   pub named : GoodTrailers body ts
 
-pub every-after : {s : List ℕ} {e : ℕ} {P : ℕ → Message → Type 0} {at : ℕ} (form : Form) (body : Bool) (stated : StatedLength) (start : Start) (h : Section) (f : Framing)
-    → ((cs : List Piece) (ts : List FieldRead) → TailAt s body f cs ts → P e (statingMessage stated start (h .lines) cs ts))
+pub every-after : {s : List ℕ} {e : ℕ} {P : Cursor → Message → Type 0} {at : Cursor} (form : Form) (body : Bool) (stated : StatedLength) (start : Start) (h : Section) (f : Framing)
+    → ((c : Cursor) → c .at ≡ e → (n : ℕ) → n ≤ e → (cs : List Piece) (ts : List FieldRead) → TailAt s body f cs ts
+    → P c (countedMessage n stated start (h .lines) cs ts))
     → Every s e P at (afterHeaders form body stated start h f)
 unfolding afterHeaders afterContent
 every-after {s} {e} {P} form body stated start h f k =
@@ -145,5 +147,6 @@ every-after {s} {e} {P} form body stated start h f k =
     stops-bind _ (every-here (stops-bind _ (every-tell (contentRule body f _ cs) λ c q.
     let r = content-is body f _ cs c q in
     stops-then _ (every-trailers form body) λ j ts b.
+    stops-bind _ (stops-longs λ o w.
     stops-then _ (every-padding form) λ n z p.
-    stops-give (rw (← p, r .0) at (k cs ts (record { chunks = a; filled = r .1; trailers = b .0; named = b .1 }))))))
+    stops-give (rw (r .0) at (k n p (j .long) (omega (arith, o, w)) cs ts (record { chunks = a; filled = r .1; trailers = b .0; named = b .1 })))))))

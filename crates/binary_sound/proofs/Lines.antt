@@ -15,15 +15,16 @@ use Rattle.script.specs.Do.{Piece, good, wrong}
 use Rattle.messages.specs.Message.{FieldRead}
 use Rattle.messages.specs.Control.{isLowerName, isTrimmedValue}
 use Rattle.messages.proofs.Verdicts.{name-rule}
-use Rattle.binary.specs.Reader.{Got, got, no}
+use Rattle.binary.specs.Reader.{Got, got, no, cursor}
 use Rattle.binary.specs.declared.Form.{Form}
+use Rattle.binary.specs.declared.Cursor.{Cursor}
 use Rattle.binary.specs.Read.{isLineValue, judgedLine, knownLine, knownLines, onBody, bodyLines, knownSection, afterNameLength, openLines, section, headerSection}
 use Rattle.sound.specs.Placed.{Each, Lying}
 use Rattle.sound.proofs.Each.{each-snoc}
 use Rattle.sound.proofs.Parts.{LineAt, SectionAt, section-none, section-snoc}
 use Rattle.binary_sound.specs.Sound.{LowerName}
 use Rattle.binary_sound.proofs.Judgement.{Stands, Gets, Every, stops-give, every-refuse, every-here, stops-ended, every-tell, stops-if, every-integer, every-octets, stops-bind, stops-then}
-use Rattle.binary_sound.proofs.Parts.{every-part}
+use Rattle.binary_sound.proofs.Parts.{PartAt, every-part}
 
 -- ---- a line
 
@@ -66,15 +67,15 @@ line-is form s p n v f e x y =
     subst (LowerLine s) z made
 
 module _ {s : List ℕ} {e : ℕ} where
-  every-name : {at : ℕ} (form : Form) (p a : ℕ) → Every s e (λ n f. LowerLine s f) at (afterNameLength form p a)
+  every-name : {at : Cursor} (form : Form) (p a : ℕ) → Every s e (λ n f. LowerLine s f) at (afterNameLength form p a)
   unfolding afterNameLength
   every-name form p a =
-      stops-bind _ (every-octets a _ _ λ w l x.
+      stops-bind _ (every-octets a _ _ λ w l x o.
       stops-bind _ (every-here (stops-bind _ (every-integer _ _ λ j b.
-      stops-bind _ (every-octets b _ _ λ u k y.
+      stops-bind _ (every-octets b _ _ λ u k y o.
       every-tell (judgedLine form p _ _) λ f q. line-is form s p _ _ f q x y)))))
 
-  every-known-line : {at : ℕ} (form : Form) → Every s e (λ n f. LowerLine s f) at (knownLine form)
+  every-known-line : {at : Cursor} (form : Form) → Every s e (λ n f. LowerLine s f) at (knownLine form)
   unfolding knownLine
   every-known-line form =
       stops-bind _ (every-here (stops-bind _ (every-integer _ _ λ i a.
@@ -82,7 +83,7 @@ module _ {s : List ℕ} {e : ℕ} where
 
   -- ---- sections
 
-  every-known-lines : (form : Form) (f : ℕ) {at : ℕ} (fs : List FieldRead) → LinesAt s fs → Every s e (λ n h. LinesAt s h) at (knownLines form f fs)
+  every-known-lines : (form : Form) (f : ℕ) {at : Cursor} (fs : List FieldRead) → LinesAt s fs → Every s e (λ n h. LinesAt s h) at (knownLines form f fs)
   unfolding knownLines
   every-known-lines form zero fs h = every-refuse
   every-known-lines form (suc f) fs h =
@@ -93,7 +94,7 @@ module _ {s : List ℕ} {e : ℕ} where
       stops-then _ (every-known-line form) λ i x g.
       every-known-lines form f (fs ++ x ∷ []) (lines-snoc s fs x h g (leb-false linesMost (length fs) u)))))
 
-  every-open-lines : (form : Form) (f : ℕ) {at : ℕ} (fs : List FieldRead) → LinesAt s fs → Every s e (λ n h. LinesAt s h) at (openLines form f fs)
+  every-open-lines : (form : Form) (f : ℕ) {at : Cursor} (fs : List FieldRead) → LinesAt s fs → Every s e (λ n h. LinesAt s h) at (openLines form f fs)
   unfolding openLines
   every-open-lines form zero fs h = every-refuse
   every-open-lines form (suc f) fs h =
@@ -104,28 +105,32 @@ module _ {s : List ℕ} {e : ℕ} where
       every-open-lines form f (fs ++ x ∷ []) (lines-snoc s fs x h g (leb-false linesMost (length fs) u)))))
 
 -- the body is a part of the input: the lines inside it lie in the input, at their places there
-every-body : {s : List ℕ} {e at : ℕ} (form : Form) (b : Piece) → Lying s b → Every s e (λ n h. LinesAt s h) at (bodyLines form b)
+every-body : {s : List ℕ} {e : ℕ} {at : Cursor} (form : Form) (b : Piece) → PartAt s at b → Every s e (λ n h. LinesAt s h) at (bodyLines form b)
 unfolding bodyLines
 every-body {s} {e} {at} form b y =
-    on (knownLines form (suc linesMost) [] (b .place) (b .text))
-    (every-known-lines {e = b .place + length (b .text)} form (suc linesMost) [] (lines-none s) .go (b .text) (record { lies = y; ends = refl }))
+    record {
+      go = λ l z.
+          on l z (knownLines form (suc linesMost) [] (cursor (b .place) (at .long)) (b .text))
+          (every-known-lines {e = b .place + length (b .text)} form (suc linesMost) [] (lines-none s) .go (b .text) (record { lies = y .lies; ends = refl; few = y .few }));
+    }
   where
-    on : (x : Got (List FieldRead)) → Gets (λ n i h. Stands s (b .place + length (b .text)) n i × LinesAt s h) x → Every s e (λ n h. LinesAt s h) at (onBody x)
-    on (got fs n i) g = record { go = λ l z. (z, g .1) }
-    on (no n p) g = record { go = λ l z. tt }
+    on : (l : List ℕ) → Stands s e at l → (x : Got (List FieldRead)) → Gets (λ n i h. Stands s (b .place + length (b .text)) n i × LinesAt s h) x
+        → Gets (λ n i h. Stands s e n i × LinesAt s h) (onBody x at l)
+    on l z (got fs n i) g = (record { lies = z .lies; ends = z .ends; few = omega (arith, g .0 .few, g .0 .ends, y .ends) }, g .1)
+    on l z (no n p) g = tt
 
 module _ {s : List ℕ} {e : ℕ} where
-  every-known-section : {at : ℕ} (form : Form) → Every s e (λ n h. LinesAt s h) at (knownSection form)
+  every-known-section : {at : Cursor} (form : Form) → Every s e (λ n h. LinesAt s h) at (knownSection form)
   unfolding knownSection
   every-known-section form = stops-then _ every-part λ i b y. every-body form b y
 
-  pub every-section : {at : ℕ} (form : Form) → Every s e (λ n h. LinesAt s (h .lines)) at (section form)
+  pub every-section : {at : Cursor} (form : Form) → Every s e (λ n h. LinesAt s (h .lines)) at (section form)
   unfolding section
   every-section form =
       stops-then _ (stops-if (form .known) (λ t. every-known-section form) (λ t. every-open-lines form (suc linesMost) [] (lines-none s))) λ i fs h.
       stops-bind _ (every-here (stops-give h))
 
-  pub every-header : {at : ℕ} (form : Form) → Every s e (λ n h. LinesAt s (h .lines)) at (headerSection form)
+  pub every-header : {at : Cursor} (form : Form) → Every s e (λ n h. LinesAt s (h .lines)) at (headerSection form)
   unfolding headerSection
   every-header form =
       stops-bind _ (stops-ended λ b.

@@ -1,5 +1,5 @@
 -- What parts and control data give wherever they stand.
-use Prim.Native.Nat.{ℕ, _≤_}
+use Prim.Native.Nat.{ℕ, _+_, _≤_}
 use mathlib.Core.Path.{_≡_, refl, subst}
 use mathlib.Core.Bool.{Bool, true, false, cond}
 use mathlib.Core.List.{List}
@@ -14,6 +14,7 @@ use Rattle.octets.specs.Refusals.{notSupported}
 use Rattle.script.specs.Do.{Piece, good, wrong}
 use Rattle.messages.specs.Control.{methodVerdict, pathVerdict, authorityVerdict}
 use Rattle.messages.specs.Valid.{isScheme}
+use Rattle.binary.specs.declared.Cursor.{Cursor}
 use Rattle.binary.specs.Read.{part, partWithin, ruledPart, schemeOf, schemePart, RequestControl, afterScheme, requestControl}
 use Rattle.sound.specs.Placed.{Lying}
 use Rattle.binary_sound.proofs.Judgement.{Every, stops-give, every-refuse, every-here, every-tell, every-rule, stops-if, every-integer, every-octets, stops-bind, stops-then}
@@ -39,30 +40,38 @@ scheme-is w p v e = on (sameText w (ascii "http")) (sameText w (ascii "https")) 
     on false true g = let z : 1 ≡ v = cc in subst (λ (n : ℕ). isScheme n ≡ true) z refl
     on false false g = let z : _≡_ {A = ℕ} 0 1 = cc in absurd (omega arith)
 
-module _ {s : List ℕ} {e : ℕ} where
-  pub every-part : {at : ℕ} → Every s e (λ n p. Lying s p) at part
-  unfolding part
-  every-part = stops-bind _ (every-here (stops-bind _ (every-integer _ _ λ i n. every-octets n _ _ λ w l y. y)))
+-- a part that lies in the input and ends where the cursor is; no more integers are counted than octets stand before it
+pub record PartAt (s : List ℕ) (c : Cursor) (p : Piece) : Type 0 where
+  pub lies : Lying s p
+  pub ends : c .at ≡ p .place + length (p .text)
+  pub few : c .long ≤ p .place
 
-  pub every-within : {at : ℕ} (most : ℕ) → Every s e (λ n p. Lying s p × (length (p .text) ≤ most)) at (partWithin most)
+module _ {s : List ℕ} {e : ℕ} where
+  pub every-part : {at : Cursor} → Every s e (λ n p. PartAt s n p) at part
+  unfolding part
+  every-part =
+      stops-bind _ (every-here (stops-bind _ (every-integer _ _ λ i n.
+      every-octets n _ _ λ w l y f. record { lies = y; ends = omega (arith, l); few = f })))
+
+  pub every-within : {at : Cursor} (most : ℕ) → Every s e (λ n p. Lying s p × (length (p .text) ≤ most)) at (partWithin most)
   unfolding partWithin
   every-within most =
       stops-bind _ (every-here (stops-bind _ (every-integer _ _ λ i n.
       stops-if (leb n most)
-      (λ h. every-octets n _ _ λ w l y. (y, omega (arith, leb-true n most h)))
+      (λ h. every-octets n _ _ λ w l y f. (y, omega (arith, leb-true n most h)))
       (λ h. every-refuse))))
 
-  pub every-ruled : {at : ℕ} (most : ℕ) (verdict : List ℕ → ℕ) → Every s e (λ n p. RuledAt s most verdict p) at (ruledPart most verdict)
+  pub every-ruled : {at : Cursor} (most : ℕ) (verdict : List ℕ → ℕ) → Every s e (λ n p. RuledAt s most verdict p) at (ruledPart most verdict)
   unfolding ruledPart
   every-ruled most verdict =
       stops-bind _ (every-here (stops-then _ (every-within most) λ i w g.
       every-rule (verdict (w .text)) _ w λ h. record { lies = g .0; short = g .1; keeps = h }))
 
-  every-scheme : {at : ℕ} → Every s e (λ n v. isScheme v ≡ true) at schemePart
+  every-scheme : {at : Cursor} → Every s e (λ n v. isScheme v ≡ true) at schemePart
   unfolding schemePart
   every-scheme = stops-bind _ (every-here (stops-then _ every-part λ i w g. every-tell (schemeOf (w .text) _) λ v q. scheme-is (w .text) _ v q))
 
-  pub every-control : {at : ℕ} → Every s e (λ n q. ControlAt s q) at requestControl
+  pub every-control : {at : Cursor} → Every s e (λ n q. ControlAt s q) at requestControl
   unfolding requestControl afterScheme
   every-control =
       stops-then _ (every-ruled methodMost methodVerdict) λ i m a.

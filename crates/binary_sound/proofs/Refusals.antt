@@ -25,8 +25,9 @@ use Rattle.messages.specs.declared.StatedLength.{StatedLength}
 use Rattle.messages.specs.declared.StatedLength.the-variants.{Missing}
 use Rattle.messages.specs.declared.Told.{Told}
 use Rattle.messages.specs.Told.{isEdition}
-use Rattle.binary.specs.Reader.{Got, got, no, Reader}
+use Rattle.binary.specs.Reader.{Got, got, no, cursor, Reader}
 use Rattle.binary.specs.declared.Form.{Form}
+use Rattle.binary.specs.declared.Cursor.{Cursor}
 use Rattle.binary.specs.Read.{part, partWithin, ruledPart, schemeOf, schemePart, afterScheme, requestControl, isLineValue, judgedLine, cutNumber, cutPlace, afterNameLength, knownLine, knownLines, onBody, bodyLines, knownSection, openLines, section, headerSection}
 use Rattle.binary.specs.Read.{knownContent, openChunks, content, contentAgrees, contentRule, trailersAgree, trailerRule, trailers, padding, afterContent, afterHeaders}
 use Rattle.binary.specs.Read.{afterHead, afterControl, requestMessage, afterFinal, afterFinalStatus, afterInformational, afterInformationalStatus, heads}
@@ -36,7 +37,8 @@ use Rattle.sound.specs.Refusal.{isOneOf, Refusal}
 use Rattle.sound.proofs.Each.{each-snoc}
 use Rattle.sound.proofs.Refusals.{Among, among, commonNumbers, statusNumbers, Verdict, method-verdict, path-verdict, authority-verdict, status-verdict, not-good, NamedIn, binary-framing-in, Refuses, refusal}
 use Rattle.sound.proofs.Refusals.{authority-judged, nothing-judged, may-judged, bodyless-judged}
-use Rattle.binary_sound.proofs.Judgement.{Stands, stands-on, Ends, Stops, stops-give, stops-refuse, stops-here, stops-ended, stops-tell, stops-rule, stops-if, stops-integer, stops-octets, stops-bind, stops-then}
+use Rattle.binary_sound.proofs.Judgement.{Stands, stands-on, Ends, Stops, stops-give, stops-refuse, stops-here, stops-longs, stops-ended, stops-tell, stops-rule, stops-if, stops-integer, stops-octets, stops-bind, stops-then}
+use Rattle.binary_sound.proofs.Parts.{PartAt}
 use Rattle.binary_sound.proofs.Lines.{no-wrong}
 use Rattle.binary_sound.specs.Sound.{editionNumbers, binaryNumbers, EditionRefused, OtherEdition, BinaryRefused, BinarySettled}
 
@@ -123,30 +125,30 @@ trailer-judged s body h i =
 -- ---- parts and control data
 
 -- a reader refuses the input s with nothing but numbers of Binary HTTP, at places of the input, and gets nothing but what P holds of
-abbrev Refusing : {A : Type 0} → List ℕ → ℕ → (ℕ → A → Type 0) → ℕ → Reader A → Type 0
+abbrev Refusing : {A : Type 0} → List ℕ → ℕ → (Cursor → A → Type 0) → Cursor → Reader A → Type 0
 Refusing s e P at r = Stops s e (Refusal editionNumbers s) P at r
 
 module _ {s : List ℕ} {e : ℕ} where
   -- on both sides of a test
-  stops-both : {A : Type 0} {R : ℕ → ℕ → Type 0} {P : ℕ → A → Type 0} {at : ℕ} {x y : Reader A} (t : Bool) → Stops s e R P at x → Stops s e R P at y
+  stops-both : {A : Type 0} {R : ℕ → ℕ → Type 0} {P : Cursor → A → Type 0} {at : Cursor} {x y : Reader A} (t : Bool) → Stops s e R P at x → Stops s e R P at y
       → Stops s e R P at (cond t x y)
   stops-both t f g = stops-if t (λ a. f) (λ a. g)
 
-  stops-part : {at : ℕ} → Refusing s e (λ n p. Lying s p) at part
+  stops-part : {at : Cursor} → Refusing s e (λ n p. PartAt s n p) at part
   unfolding part
   stops-part =
       stops-bind _ (stops-here λ p.
       stops-bind _ (stops-integer _ _ (cut-off p) λ j n.
-      stops-octets n _ _ (cut-off p) λ w k y. y))
+      stops-octets n _ _ (cut-off p) λ w k y f. record { lies = y; ends = omega (arith, k); few = f }))
 
-  stops-within : {at : ℕ} (most : ℕ) → Refusing s e (λ n p. Unit {0}) at (partWithin most)
+  stops-within : {at : Cursor} (most : ℕ) → Refusing s e (λ n p. Unit {0}) at (partWithin most)
   unfolding partWithin
   stops-within most =
       stops-bind _ (stops-here λ p.
       stops-bind _ (stops-integer _ _ (cut-off p) λ j n.
-      stops-both (leb n most) (stops-octets n _ _ (cut-off p) λ w k y. tt) (stops-refuse (too-large p))))
+      stops-both (leb n most) (stops-octets n _ _ (cut-off p) λ w k y f. tt) (stops-refuse (too-large p))))
 
-  stops-ruled : {at : ℕ} (most : ℕ) (verdict : List ℕ → ℕ) → ((w : List ℕ) → Verdict (verdict w))
+  stops-ruled : {at : Cursor} (most : ℕ) (verdict : List ℕ → ℕ) → ((w : List ℕ) → Verdict (verdict w))
       → Refusing s e (λ n p. Unit {0}) at (ruledPart most verdict)
   unfolding ruledPart
   stops-ruled most verdict h =
@@ -154,14 +156,14 @@ module _ {s : List ℕ} {e : ℕ} where
       stops-then _ (stops-within most) λ j w z.
       stops-rule (verdict (w .text)) _ w (λ a. refusal wide (not-good commonNumbers (h (w .text)) a) i) λ a. tt)
 
-  stops-scheme : {at : ℕ} → Refusing s e (λ n v. Unit {0}) at schemePart
+  stops-scheme : {at : Cursor} → Refusing s e (λ n v. Unit {0}) at schemePart
   unfolding schemePart
   stops-scheme =
       stops-bind _ (stops-here λ i.
       stops-then _ stops-part λ j w z.
       stops-tell (schemeOf (w .text) _) (scheme-judged s _ i (w .text)) λ x q. tt)
 
-  stops-control : {at : ℕ} → Refusing s e (λ n q. Unit {0}) at requestControl
+  stops-control : {at : Cursor} → Refusing s e (λ n q. Unit {0}) at requestControl
   unfolding requestControl afterScheme
   stops-control =
       stops-then _ (stops-ruled methodMost methodVerdict method-verdict) λ i m a.
@@ -172,23 +174,23 @@ module _ {s : List ℕ} {e : ℕ} where
 
   -- ---- sections
 
-  stops-name : {at : ℕ} (form : Form) (p a : ℕ) → p ≤ length s → Refusing s e (λ n f. NamedIn (length s) f) at (afterNameLength form p a)
+  stops-name : {at : Cursor} (form : Form) (p a : ℕ) → p ≤ length s → Refusing s e (λ n f. NamedIn (length s) f) at (afterNameLength form p a)
   unfolding afterNameLength
   stops-name form p a i =
-      stops-bind _ (stops-octets a _ _ (cut-name form i) λ w k y.
+      stops-bind _ (stops-octets a _ _ (cut-name form i) λ w k y o.
       stops-bind _ (stops-here λ j.
       stops-bind _ (stops-integer _ _ (cut-value form i j) λ l b.
-      stops-bind _ (stops-octets b _ _ (cut-value form i j) λ u m z.
+      stops-bind _ (stops-octets b _ _ (cut-value form i j) λ u m z o.
       stops-tell (judgedLine form p _ _) (line-judged s p i form _ _) λ x q. line-placed s p i form _ _ x q))))
 
-  stops-known-line : {at : ℕ} (form : Form) → Refusing s e (λ n f. NamedIn (length s) f) at (knownLine form)
+  stops-known-line : {at : Cursor} (form : Form) → Refusing s e (λ n f. NamedIn (length s) f) at (knownLine form)
   unfolding knownLine
   stops-known-line form =
       stops-bind _ (stops-here λ p.
       stops-bind _ (stops-integer _ _ (bad-section p) λ j a.
       stops-both (eqb a 0) (stops-refuse (bad-section p)) (stops-name form _ a p)))
 
-  stops-known-lines : (form : Form) (f : ℕ) {at : ℕ} (fs : List FieldRead) → Each (NamedIn (length s)) fs → Refusing s e (λ n h. Each (NamedIn (length s)) h) at (knownLines form f fs)
+  stops-known-lines : (form : Form) (f : ℕ) {at : Cursor} (fs : List FieldRead) → Each (NamedIn (length s)) fs → Refusing s e (λ n h. Each (NamedIn (length s)) h) at (knownLines form f fs)
   unfolding knownLines
   stops-known-lines form zero fs g = stops-refuse (too-large (omega arith))
   stops-known-lines form (suc f) fs g =
@@ -199,7 +201,7 @@ module _ {s : List ℕ} {e : ℕ} where
       (stops-then _ (stops-known-line form) λ j x z.
       stops-known-lines form f (fs ++ x ∷ []) (each-snoc (NamedIn (length s)) fs x g z)))))
 
-  stops-open-lines : (form : Form) (f : ℕ) {at : ℕ} (fs : List FieldRead) → Each (NamedIn (length s)) fs → Refusing s e (λ n h. Each (NamedIn (length s)) h) at (openLines form f fs)
+  stops-open-lines : (form : Form) (f : ℕ) {at : Cursor} (fs : List FieldRead) → Each (NamedIn (length s)) fs → Refusing s e (λ n h. Each (NamedIn (length s)) h) at (openLines form f fs)
   unfolding openLines
   stops-open-lines form zero fs g = stops-refuse (too-large (omega arith))
   stops-open-lines form (suc f) fs g =
@@ -211,23 +213,27 @@ module _ {s : List ℕ} {e : ℕ} where
       stops-open-lines form f (fs ++ x ∷ []) (each-snoc (NamedIn (length s)) fs x g z)))))
 
 -- the body is a part of the input: places inside it are places of the input
-stops-body : {s : List ℕ} {e at : ℕ} (form : Form) (b : Piece) → Lying s b → Refusing s e (λ n h. Each (NamedIn (length s)) h) at (bodyLines form b)
+stops-body : {s : List ℕ} {e : ℕ} {at : Cursor} (form : Form) (b : Piece) → PartAt s at b → Refusing s e (λ n h. Each (NamedIn (length s)) h) at (bodyLines form b)
 unfolding bodyLines
 stops-body {s} {e} {at} form b y =
-    on (knownLines form (suc linesMost) [] (b .place) (b .text))
-    (stops-known-lines {e = b .place + length (b .text)} form (suc linesMost) [] tt .go (b .text) (record { lies = y; ends = refl }))
+    record {
+      go = λ l z.
+          on l z (knownLines form (suc linesMost) [] (cursor (b .place) (at .long)) (b .text))
+          (stops-known-lines {e = b .place + length (b .text)} form (suc linesMost) [] tt .go (b .text) (record { lies = y .lies; ends = refl; few = y .few }));
+    }
   where
-    on : (x : Got (List FieldRead)) → Ends (Refusal editionNumbers s) (λ n i h. Stands s (b .place + length (b .text)) n i × Each (NamedIn (length s)) h) x
-        → Refusing s e (λ n h. Each (NamedIn (length s)) h) at (onBody x)
-    on (got fs n i) g = record { go = λ l z. (z, g .1) }
-    on (no n p) g = record { go = λ l z. g }
+    on : (l : List ℕ) → Stands s e at l → (x : Got (List FieldRead))
+        → Ends (Refusal editionNumbers s) (λ n i h. Stands s (b .place + length (b .text)) n i × Each (NamedIn (length s)) h) x
+        → Ends (Refusal editionNumbers s) (λ n i h. Stands s e n i × Each (NamedIn (length s)) h) (onBody x at l)
+    on l z (got fs n i) g = (record { lies = z .lies; ends = z .ends; few = omega (arith, g .0 .few, g .0 .ends, y .ends) }, g .1)
+    on l z (no n p) g = g
 
-padded : (form : Form) (s : List ℕ) (e at : ℕ) (l : List ℕ) → Stands s e at l → Ends (Refusal editionNumbers s) (λ n i z. Stands s e n i × Unit {0}) (padding form at l)
+padded : (form : Form) (s : List ℕ) (e : ℕ) (at : Cursor) (l : List ℕ) → Stands s e at l → Ends (Refusal editionNumbers s) (λ n i z. Stands s e n i × Unit {0}) (padding form at l)
 unfolding padding
 padded form s e at [] y = (y, tt)
 padded form s e at (b ∷ l) y =
-    either (Ends (Refusal editionNumbers s) (λ n i z. Stands s e n i × Unit {0})) (cond (form .padded) (eqb b 0) false) (padding form (at + 1) l) (no badPadding at)
-    (λ a. padded form s e (at + 1) l (stands-on 1 (omega arith) y)) (λ a. at-place refl (omega (arith, lies-in (y .lies))))
+    either (Ends (Refusal editionNumbers s) (λ n i z. Stands s e n i × Unit {0})) (cond (form .padded) (eqb b 0) false) (padding form (cursor (at .at + 1) (at .long)) l) (no badPadding (at .at))
+    (λ a. padded form s e (cursor (at .at + 1) (at .long)) l (stands-on 1 (omega arith) y)) (λ a. at-place refl (omega (arith, lies-in (y .lies))))
 
 -- a section ends in the input, and its lines begin in it
 record SectionIn (s : List ℕ) (h : Section) : Type 0 where
@@ -235,17 +241,17 @@ record SectionIn (s : List ℕ) (h : Section) : Type 0 where
   lines : Each (NamedIn (length s)) (h .lines)
 
 module _ {s : List ℕ} {e : ℕ} where
-  stops-known-section : {at : ℕ} (form : Form) → Refusing s e (λ n h. Each (NamedIn (length s)) h) at (knownSection form)
+  stops-known-section : {at : Cursor} (form : Form) → Refusing s e (λ n h. Each (NamedIn (length s)) h) at (knownSection form)
   unfolding knownSection
   stops-known-section form = stops-then _ stops-part λ i b y. stops-body form b y
 
-  stops-section : {at : ℕ} (form : Form) → Refusing s e (λ n h. SectionIn s h) at (section form)
+  stops-section : {at : Cursor} (form : Form) → Refusing s e (λ n h. SectionIn s h) at (section form)
   unfolding section
   stops-section form =
       stops-then _ (stops-both (form .known) (stops-known-section form) (stops-open-lines form (suc linesMost) [] tt)) λ i fs z.
       stops-bind _ (stops-here λ j. stops-give (record { end = j; lines = z }))
 
-  stops-header : {at : ℕ} (form : Form) → Refusing s e (λ n h. SectionIn s h) at (headerSection form)
+  stops-header : {at : Cursor} (form : Form) → Refusing s e (λ n h. SectionIn s h) at (headerSection form)
   unfolding headerSection
   stops-header form =
       stops-bind _ (stops-ended λ b.
@@ -254,11 +260,11 @@ module _ {s : List ℕ} {e : ℕ} where
 
   -- ---- content, trailers, padding
 
-  stops-known-content : {at : ℕ} → Refusing s e (λ n cs. Unit {0}) at knownContent
+  stops-known-content : {at : Cursor} → Refusing s e (λ n cs. Unit {0}) at knownContent
   unfolding knownContent
   stops-known-content = stops-then _ (stops-within contentMost) λ i c z. stops-give tt
 
-  stops-chunks : (f : ℕ) {at : ℕ} (cs : List Piece) (total : ℕ) → Refusing s e (λ n c. Unit {0}) at (openChunks f cs total)
+  stops-chunks : (f : ℕ) {at : Cursor} (cs : List Piece) (total : ℕ) → Refusing s e (λ n c. Unit {0}) at (openChunks f cs total)
   unfolding openChunks
   stops-chunks zero cs total = stops-refuse (too-large (omega arith))
   stops-chunks (suc f) cs total =
@@ -267,16 +273,16 @@ module _ {s : List ℕ} {e : ℕ} where
       stops-both (eqb n 0) (stops-give tt)
       (stops-both (leb chunksMost (length cs)) (stops-refuse (too-large p))
       (stops-both (ltb contentMost (total + n)) (stops-refuse (too-large p))
-      (stops-bind _ (stops-octets n _ _ (cut-off p) λ w k y.
-      stops-chunks f (cs ++ piece j w ∷ []) (total + n)))))))
+      (stops-bind _ (stops-octets n _ _ (cut-off p) λ w k y o.
+      stops-chunks f (cs ++ piece (j .at) w ∷ []) (total + n)))))))
 
-  stops-content : {at : ℕ} (known : Bool) → Refusing s e (λ n cs. Unit {0}) at (content known)
+  stops-content : {at : Cursor} (known : Bool) → Refusing s e (λ n cs. Unit {0}) at (content known)
   unfolding content
   stops-content known =
       stops-bind _ (stops-ended λ b.
       stops-both b (stops-give tt) (stops-both known stops-known-content (stops-chunks (suc chunksMost) [] 0)))
 
-  stops-trailers : {at : ℕ} (form : Form) (body : Bool) → Refusing s e (λ n ts. Unit {0}) at (trailers form body)
+  stops-trailers : {at : Cursor} (form : Form) (body : Bool) → Refusing s e (λ n ts. Unit {0}) at (trailers form body)
   unfolding trailers
   stops-trailers form body =
       stops-bind _ (stops-ended λ b.
@@ -284,10 +290,10 @@ module _ {s : List ℕ} {e : ℕ} where
       (stops-then _ (stops-section form) λ i h g.
       stops-tell (trailerRule body h) (trailer-judged s body h (g .end)) λ x q. tt))
 
-  stops-padding : {at : ℕ} (form : Form) → Refusing s e (λ n z. Unit {0}) at (padding form)
+  stops-padding : {at : Cursor} (form : Form) → Refusing s e (λ n z. Unit {0}) at (padding form)
   stops-padding {at} form = record { go = λ l y. padded form s e at l y }
 
-  stops-after : {at : ℕ} (form : Form) (body : Bool) (stated : StatedLength) (start : Start) (h : Section) (f : Framing)
+  stops-after : {at : Cursor} (form : Form) (body : Bool) (stated : StatedLength) (start : Start) (h : Section) (f : Framing)
       → Refusing s e (λ n m. Unit {0}) at (afterHeaders form body stated start h f)
   unfolding afterHeaders afterContent
   stops-after form body stated start h f =
@@ -295,12 +301,13 @@ module _ {s : List ℕ} {e : ℕ} where
       stops-bind _ (stops-here λ j.
       stops-bind _ (stops-tell (contentRule body f _ cs) (content-judged s _ j body f cs) λ c q.
       stops-then _ (stops-trailers form body) λ k ts y.
+      stops-bind _ (stops-longs λ o v.
       stops-then _ (stops-padding form) λ n x w.
-      stops-give tt))
+      stops-give tt)))
 
   -- ---- whole messages
 
-  stops-request : {at : ℕ} (form : Form) → Refusing s e (λ n m. Unit {0}) at (requestMessage form)
+  stops-request : {at : Cursor} (form : Form) → Refusing s e (λ n m. Unit {0}) at (requestMessage form)
   unfolding requestMessage afterControl afterHead
   stops-request form =
       stops-then _ stops-control λ i q z.
@@ -310,7 +317,7 @@ module _ {s : List ℕ} {e : ℕ} where
       stops-after form true Missing _ h f))
 
 module _ (t : Told) {s : List ℕ} {e : ℕ} where
-  stops-final : {at : ℕ} (form : Form) (hs : List InformationalRead) (n : ℕ) → Refusing s e (λ i m. Unit {0}) at (afterFinalStatus t form hs n)
+  stops-final : {at : Cursor} (form : Form) (hs : List InformationalRead) (n : ℕ) → Refusing s e (λ i m. Unit {0}) at (afterFinalStatus t form hs n)
   unfolding afterFinalStatus afterFinal
   stops-final form hs n =
       stops-then _ (stops-header form) λ j h g.
@@ -321,7 +328,7 @@ module _ (t : Told) {s : List ℕ} {e : ℕ} where
       (stops-bind _ (stops-tell (mayState (h .end) f) (may-judged editionNumbers s wide (h .end) (g .end) f) λ v q.
       stops-after form true Missing _ h v))
 
-  stops-response : (f : ℕ) {at : ℕ} (form : Form) (hs : List InformationalRead) → Refusing s e (λ i m. Unit {0}) at (heads t form f hs)
+  stops-response : (f : ℕ) {at : Cursor} (form : Form) (hs : List InformationalRead) → Refusing s e (λ i m. Unit {0}) at (heads t form f hs)
   unfolding heads afterInformationalStatus afterInformational
   stops-response zero form hs = stops-refuse (too-large (omega arith))
   stops-response (suc f) form hs =
@@ -335,7 +342,7 @@ module _ (t : Told) {s : List ℕ} {e : ℕ} where
       stops-response f form _)))
       (stops-final form hs v))))
 
-  stops-message : {at : ℕ} → Refusing s e (λ n m. Unit {0}) at (message t)
+  stops-message : {at : Cursor} → Refusing s e (λ n m. Unit {0}) at (message t)
   unfolding message afterIndicator
   stops-message =
       stops-bind _ (stops-integer _ _ (cut-off (omega arith)) λ i f.
@@ -355,8 +362,8 @@ sized-refused t s n p q = on (leb (length s) binaryMost) q
         let b : j ≡ p = cc in
         rw (a, b) at g
 
-    on : (b : Bool) → cond b (messageAnswer (message t 0 s)) (refused tooLarge 0) ≡ refused n p → Refusal editionNumbers s n p
-    on true z = pick (message t 0 s) (stops-message t {s = s} {e = length s} {at = 0} .go s (record { lies = lies-all s; ends = omega arith })) z
+    on : (b : Bool) → cond b (messageAnswer (message t (cursor 0 0) s)) (refused tooLarge 0) ≡ refused n p → Refusal editionNumbers s n p
+    on true z = pick (message t (cursor 0 0) s) (stops-message t {s = s} {e = length s} {at = cursor 0 0} .go s (record { lies = lies-all s; ends = omega arith; few = omega arith })) z
     on false z =
         let a : tooLarge ≡ n = cc in
         let b : 0 ≡ p = cc in
@@ -389,7 +396,7 @@ pub binary-settled : BinarySettled
 unfolding readBinary readSized
 binary-settled t s =
     either Settled (isEdition (t .edition)) (readSized t s) (refused badEdition 0)
-    (λ a. either Settled (leb (length s) binaryMost) (messageAnswer (message t 0 s)) (refused tooLarge 0) (λ b. on (message t 0 s)) (λ b. tt)) (λ a. tt)
+    (λ a. either Settled (leb (length s) binaryMost) (messageAnswer (message t (cursor 0 0) s)) (refused tooLarge 0) (λ b. on (message t (cursor 0 0) s)) (λ b. tt)) (λ a. tt)
   where
     on : (x : Got Message) → Settled (messageAnswer x)
     on (got m n r) = tt

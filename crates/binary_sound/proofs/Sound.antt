@@ -15,7 +15,7 @@ use Rattle.octets.proofs.Texts.{some}
 use Rattle.script.specs.Script.{accepted, refused}
 use Rattle.script.specs.Do.{Piece, good}
 use Rattle.script.proofs.Places.{lies-all}
-use Rattle.messages.specs.Message.{FieldRead, Section, InformationalRead, requestStart, responseStart, Message, plainMessage, statingMessage}
+use Rattle.messages.specs.Message.{FieldRead, Section, InformationalRead, requestStart, responseStart, Message, countedMessage}
 use Rattle.messages.specs.Control.{isHost, statusVerdict, isInformational, isBodyless, endsAtHead}
 use Rattle.messages.specs.Names.{linesOf, kept, keptTrailers}
 use Rattle.messages.specs.Rules.{authorityIn, binaryFramingOf, nothingStated, bodylessRule, mayState, statedIn}
@@ -33,8 +33,9 @@ use Rattle.messages.specs.Told.{isEdition}
 use Rattle.messages.proofs.Verdicts.{host-made}
 use Rattle.messages.proofs.Valid.{host-ok}
 use Rattle.numbers.specs.Integer.{readInt}
-use Rattle.binary.specs.Reader.{Got, got, no, _>>=_, integer}
+use Rattle.binary.specs.Reader.{Got, got, no, cursor, _>>=_, integer}
 use Rattle.binary.specs.declared.Form.{Form}
+use Rattle.binary.specs.declared.Cursor.{Cursor}
 use Rattle.binary.specs.Read.{RequestControl, afterHead, afterControl, requestMessage, afterFinal, afterFinalStatus, afterInformational}
 use Rattle.binary.specs.Read.{afterInformationalStatus, heads, afterIndicator, message, messageAnswer, readSized, readBinary}
 use Rattle.sound.specs.Placed.{Each, Lying}
@@ -96,11 +97,11 @@ scheme-number zero h = inl refl
 scheme-number (suc zero) h = inr refl
 scheme-number (suc (suc v)) h = let z = ltb-true (suc (suc v)) 2 h in absurd (omega arith)
 
-request-at : (w : Told) (s : List ℕ) (q : RequestControl) (h : Section) (a : Piece) (f : Framing) (cs : List Piece) (ts : List FieldRead) → ControlAt s q
+request-at : (w : Told) (s : List ℕ) (z : ℕ) → z ≤ binaryMost → (q : RequestControl) (h : Section) (a : Piece) (f : Framing) (cs : List Piece) (ts : List FieldRead) → ControlAt s q
     → LinesAt s (h .lines) → AuthorityAt s (h .lines) a → binaryFramingOf (h .lines) ≡ f → TailAt s true f cs ts
-    → MessageAt w s (plainMessage (requestStart (q .method) (q .scheme) a (q .path)) (h .lines) cs ts)
+    → MessageAt w s (countedMessage z Missing (requestStart (q .method) (q .scheme) a (q .path)) (h .lines) cs ts)
 unfolding suits meaning
-request-at w s q h a f cs ts c l o g t = record {
+request-at w s z small q h a f cs ts c l o g t = record {
   parts = record {
     control = request-valid (q .method .text) (a .text) (q .path .text) (q .scheme) (c .method .keeps) (c .scheme) (o .host) (c .path .keeps);
     body = body-valid true cs ts (t .filled .empty) (t .named .none);
@@ -111,6 +112,7 @@ request-at w s q h a f cs ts c l o g t = record {
     chunks = t .chunks;
     trailers = t .trailers .section;
     names = t .named .names;
+    long = small;
   };
   start = record {
     scheme = scheme-number (q .scheme) (c .scheme);
@@ -146,10 +148,10 @@ any-body true c ts h = refl
 any-body false c ts h = h
 
 module _ (t : Told) (s : List ℕ) (hs : List InformationalRead) (n : ℕ) (h : Section) (a : HeadsIn s hs) (v : statusVerdict n ≡ 0)
-    (i : isInformational n ≡ false) (l : LinesAt s (h .lines)) (cs : List Piece) (ts : List FieldRead) where
+    (i : isInformational n ≡ false) (l : LinesAt s (h .lines)) (z : ℕ) (small : z ≤ binaryMost) (cs : List Piece) (ts : List FieldRead) where
   -- the message that states k
   response : StatedLength → Message
-  response k = statingMessage k (responseStart hs n) (h .lines) cs ts
+  response k = countedMessage z k (responseStart hs n) (h .lines) cs ts
 
   response-at : (body : Bool) (f : Framing) (k : StatedLength) → TailAt s body f cs ts
       → validBody (not (isBodyless n)) (contentOf cs) (map fieldMeans (keptTrailers ts)) ≡ true → validStated k (meaning (response k)) ≡ true
@@ -166,6 +168,7 @@ module _ (t : Told) (s : List ℕ) (hs : List InformationalRead) (n : ℕ) (h : 
       chunks = g .chunks;
       trailers = g .trailers .section;
       names = g .named .names;
+      long = small;
     };
     start = a .unstated;
     suits = u;
@@ -200,8 +203,8 @@ module _ (t : Told) (s : List ℕ) (hs : List InformationalRead) (n : ℕ) (h : 
       (rw q w)
       (record { once = j .once; none = j .none; stated = refl; agrees = λ y. let z : _≡_ {A = ℕ} 0 1 = cc in absurd (omega arith) })
 
-module _ (t : Told) {s : List ℕ} {e : ℕ} where
-  every-request : {at : ℕ} (form : Form) → Every s e (λ n m. MessageAt t s m × (n ≡ e)) at (requestMessage form)
+module _ (t : Told) {s : List ℕ} {e : ℕ} (within : e ≤ binaryMost) where
+  every-request : {at : Cursor} (form : Form) → Every s e (λ n m. MessageAt t s m × ((n .at ≡ e) × (m .long ≤ e))) at (requestMessage form)
   unfolding requestMessage afterControl afterHead
   every-request form =
       stops-then _ every-control λ i q c.
@@ -209,23 +212,23 @@ module _ (t : Told) {s : List ℕ} {e : ℕ} where
       stops-bind _ (every-tell (authorityIn (h .end) (q .authority) (h .lines)) λ a p.
       stops-bind _ (every-tell (mayState (h .end) (binaryFramingOf (h .lines))) λ f g.
       let o = authority-at s q (h .lines) a c (l .section) (isEmpty (q .authority .text)) refl (authority-is (h .end) (q .authority) (h .lines) a p) in
-      every-after form true Missing _ h f λ cs ts d. (request-at t s q h a f cs ts c l o (may-state (h .end) _ f g .0) d, refl)))
+      every-after form true Missing _ h f λ x y z u cs ts d. (request-at t s z (omega (arith, u, within)) q h a f cs ts c l o (may-state (h .end) _ f g .0) d, (y, u))))
 
-  every-final : {at : ℕ} (form : Form) (hs : List InformationalRead) (n : ℕ) → HeadsIn s hs → statusVerdict n ≡ 0 → isInformational n ≡ false
-      → Every s e (λ i m. MessageAt t s m × (i ≡ e)) at (afterFinalStatus t form hs n)
+  every-final : {at : Cursor} (form : Form) (hs : List InformationalRead) (n : ℕ) → HeadsIn s hs → statusVerdict n ≡ 0 → isInformational n ≡ false
+      → Every s e (λ i m. MessageAt t s m × ((i .at ≡ e) × (m .long ≤ e))) at (afterFinalStatus t form hs n)
   unfolding afterFinalStatus afterFinal response
   every-final form hs n a v i =
       stops-then _ (every-header form) λ j h l.
       stops-if (endsAtHead t n)
       (λ q.
       stops-bind _ (every-tell (bodylessRule t n (h .end) (binaryFramingOf (h .lines))) λ b g.
-      every-after form false _ _ h Unstated λ cs ts d. (bodyless-at t s hs n h a v i l cs ts b q (bodyless t n (h .end) _ b g) d, refl)))
+      every-after form false _ _ h Unstated λ x y z u cs ts d. (bodyless-at t s hs n h a v i l z (omega (arith, u, within)) cs ts b q (bodyless t n (h .end) _ b g) d, (y, u))))
       (λ q.
       stops-bind _ (every-tell (mayState (h .end) (binaryFramingOf (h .lines))) λ f g.
-      every-after form true Missing _ h f λ cs ts d. (content-at t s hs n h a v i l cs ts f q g d, refl)))
+      every-after form true Missing _ h f λ x y z u cs ts d. (content-at t s hs n h a v i l z (omega (arith, u, within)) cs ts f q g d, (y, u))))
 
-  every-response : (f : ℕ) {at : ℕ} (form : Form) (hs : List InformationalRead) → HeadsIn s hs
-      → Every s e (λ i m. MessageAt t s m × (i ≡ e)) at (heads t form f hs)
+  every-response : (f : ℕ) {at : Cursor} (form : Form) (hs : List InformationalRead) → HeadsIn s hs
+      → Every s e (λ i m. MessageAt t s m × ((i .at ≡ e) × (m .long ≤ e))) at (heads t form f hs)
   unfolding heads afterInformationalStatus afterInformational
   every-response zero form hs a = every-refuse
   every-response (suc f) form hs a =
@@ -239,7 +242,7 @@ module _ (t : Told) {s : List ℕ} {e : ℕ} where
       every-response f form _ (one-more s hs n (h .lines) a v b l (nothing-stated (h .end) _ u g .0) (leb-false informationalMost (length hs) c))))
       (λ b. every-final form hs n a v b)))))
 
-  every-message : {at : ℕ} → Every s e (λ n m. MessageAt t s m × (n ≡ e)) at (message t)
+  every-message : {at : Cursor} → Every s e (λ n m. MessageAt t s m × ((n .at ≡ e) × (m .long ≤ e))) at (message t)
   unfolding message afterIndicator
   every-message =
       let a : HeadsIn s [] = record { heads = heads-none s; lower = tt; unstated = tt } in
@@ -262,13 +265,14 @@ sized-sound : (t : Told) (s : List ℕ) (n : ℕ) (m : Message) → readSized t 
 unfolding readSized
 sized-sound t s n m q = on (leb (length s) binaryMost) refl q
   where
-    pick : length s ≤ binaryMost → (x : Got Message) → Gets (λ k l y. Stands s (length s) k l × (MessageAt t s y × (k ≡ length s))) x
+    pick : length s ≤ binaryMost → (x : Got Message) → Gets (λ k l y. Stands s (length s) k l × (MessageAt t s y × ((k .at ≡ length s) × (y .long ≤ length s)))) x
         → messageAnswer x ≡ accepted n m → SoundBinary t s n m
     pick h (got y k l) g z =
-        let a : k ≡ n = cc in
+        let a : k .at ≡ n = cc in
         let b : y ≡ m = cc in
         let r : MessageAt t s m = subst (MessageAt t s) b (g .1 .0) in
-        let w : k ≡ length s = g .1 .1 in
+        let w : k .at ≡ length s = g .1 .1 .0 in
+        let v : m .long ≤ length s = subst (λ (x : Message). x .long ≤ length s) b (g .1 .1 .1) in
         let i = some-octets t s n m q in
         record {
           sound = parts-sound s m (r .parts);
@@ -279,13 +283,14 @@ sized-sound t s n m q = on (leb (length s) binaryMost) refl q
           suits = r .suits;
           stated = r .stated;
           names = r .names;
+          long = omega (arith, v, w, a);
         }
     pick h (no k p) g z = let w : _≡_ {A = ℕ} 0 1 = cc in absurd (omega arith)
 
-    on : (b : Bool) → leb (length s) binaryMost ≡ b → cond b (messageAnswer (message t 0 s)) (refused tooLarge 0) ≡ accepted n m → SoundBinary t s n m
+    on : (b : Bool) → leb (length s) binaryMost ≡ b → cond b (messageAnswer (message t (cursor 0 0) s)) (refused tooLarge 0) ≡ accepted n m → SoundBinary t s n m
     on true h z =
-        pick (leb-true (length s) binaryMost h) (message t 0 s)
-        (every-message t {s = s} {e = length s} {at = 0} .go s (record { lies = lies-all s; ends = omega arith })) z
+        pick (leb-true (length s) binaryMost h) (message t (cursor 0 0) s)
+        (every-message t {s = s} {e = length s} (leb-true (length s) binaryMost h) {at = cursor 0 0} .go s (record { lies = lies-all s; ends = omega arith; few = omega arith })) z
     on false h z = let w : _≡_ {A = ℕ} 0 1 = cc in absurd (omega arith)
 
 pub binary-sound : BinarySound

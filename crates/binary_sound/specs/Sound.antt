@@ -21,7 +21,8 @@ use Rattle.messages.specs.Told.{isEdition, answering}
 use Rattle.messages.specs.declared.Told.{Told}
 use Rattle.messages.specs.declared.Framing.the-variants.{Unstated}
 use Rattle.messages.specs.declared.Kind.the-variants as kind
-use Rattle.binary.specs.Reader.{got, integer}
+use Rattle.binary.specs.declared.Cursor.{Cursor}
+use Rattle.binary.specs.Reader.{got, cursor, integer}
 use Rattle.binary.specs.Read.{readBinary}
 use Rattle.sound.specs.Placed.{Each}
 use Rattle.sound.specs.Refusal.{Refusal}
@@ -72,6 +73,8 @@ pub record SoundBinary (t : Told) (s : List ℕ) (n : ℕ) (m : Message) : Type 
   -- "`content-length` stands at most once, one or more digits, equal to the content's length"; where a response ends at its head, it is the stated length
   pub stated : StatesLength t (m .start) (binaryFramingOf (m .lines)) m
   pub names : LowerNames m
+  -- no more integers are not in their shortest form than the message has octets (02, item 8)
+  pub long : m .long ≤ n
 
 -- every accepted message is so
 abbrev pub BinarySound : Type 0
@@ -103,5 +106,5 @@ BinarySettled = (t : Told) (s : List ℕ) → Settled (readBinary t s)
 -- whether the message answers a HEAD means nothing where the framing indicator is not a response's
 abbrev pub BinaryHeadUnused : Type 0
 BinaryHeadUnused =
-    (t : Told) (h : ℕ) (s : List ℕ) (f e : ℕ) (r : List ℕ) → integer cutOff 0 0 s ≡ got f e r → eqb f 1 ≡ false → eqb f 3 ≡ false
+    (t : Told) (h : ℕ) (s : List ℕ) (f : ℕ) (e : Cursor) (r : List ℕ) → integer cutOff 0 (cursor 0 0) s ≡ got f e r → eqb f 1 ≡ false → eqb f 3 ≡ false
     → readBinary (answering h t) s ≡ readBinary t s

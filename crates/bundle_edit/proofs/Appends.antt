@@ -14,7 +14,12 @@ use Rattle.numbers.specs.Places.{push}
 use Rattle.numbers.specs.Integer.{intLen, tagOf, intBytes, plain}
 use Rattle.numbers.proofs.Places.{push-length}
 use Rattle.script.specs.Script.{Answer, accepted, refused, more}
-use Rattle.messages.specs.Message.{Message}
+use Rattle.messages.specs.Message.{Start, requestStart, responseStart, Message}
+use Rattle.messages.specs.Answers.{readingOf, recordFrom, recordOf}
+use Rattle.messages.specs.declared.Record.{Record}
+use Rattle.messages.specs.declared.Reading.{Reading}
+use Rattle.messages.specs.declared.Outcome.{Outcome}
+use Rattle.messages.specs.declared.Outcome.the-variants as outcome
 use Rattle.messages.specs.Meaning.{Control, request, response, Meaning, meaning}
 use Rattle.messages.specs.Valid.{ofResponse}
 use Rattle.binary.specs.Read.{readBinary}
@@ -27,11 +32,11 @@ use Rattle.output.specs.declared.Written.{Written}
 use Rattle.output.specs.declared.Written.the-variants.{Done, Refused}
 use Rattle.output.proofs.Laws.{splice-is, splice-before}
 use Rattle.turn.specs.Turn.{replyFrom, binaryToBinary}
-use Rattle.bundle.specs.Bundle.{headOf, headOctets, isFlock, kindNumber, walk}
+use Rattle.bundle.specs.Bundle.{headOf, headOctets, isFlock, readMessage, kindNumber, walk}
 use Rattle.bundle.specs.Answers.{bundleOf}
 use Rattle.bundle.specs.declared.Bundle.{Bundle}
 use Rattle.flock_table.proofs.Counted.{flock-least}
-use Rattle.bundle_edit.specs.Append.{withHead, entryFor, messageEntry, behindBundle, bufferReply, appendReply, planOf, appendPlan, appended, Fair}
+use Rattle.bundle_edit.specs.Append.{withHead, entryFor, messageEntry, behindBundle, bufferReply, appendReply, planOf, longIn, appendPlan, appended, Fair}
 use Rattle.bundle_edit.specs.declared.Plan.{Plan}
 
 -- ---- a message's first octet is its kind
@@ -387,21 +392,59 @@ module _ (b : List ℕ) (used f : ℕ) (m : List ℕ) where
   unfolding appendReply
   beside-none n e = rw e (serve-at-wrong badTable 0 used b)
 
-pub plan-served : (n : ℕ) (b : List ℕ) (used f : ℕ) (m : List ℕ) {r : Plan} {b′ : List ℕ} {w : Written} → ServedAt (appendReply n b used f m) used b b′ w → r ≡ planOf used f w
-    → (r ≡ appendPlan n b used f m) × (b′ ≡ appended n b used f m)
+pub plan-served : (n : ℕ) (b : List ℕ) (used f : ℕ) (m : List ℕ) {r : Plan} {b′ : List ℕ} {w : Written} → ServedAt (appendReply n b used f m) used b b′ w
+    → (k : ℕ) → k ≡ longIn (readMessage m) → r ≡ planOf used f k w → (r ≡ appendPlan n b used f m) × (b′ ≡ appended n b used f m)
 unfolding appendPlan appended
-plan-served n b used f m v e = (e ∙ ap (planOf used f) (v .answer), v .after)
+plan-served n b used f m {w = w} v k q e =
+    (e ∙ ap (λ (i : ℕ). planOf used f i w) q ∙ ap (planOf used f (longIn (readMessage m))) (v .answer), v .after)
+
+-- ---- the count of long integers
+
+module _ (x : Answer Message) {o : Outcome} (e : o ≡ readingOf x .outcome) where
+  pub long-message : {r : Record} → o ≡ outcome.Message r → r .long ≡ longIn x
+  unfolding recordOf
+  long-message {r} q = go x (sym q ∙ e)
+    where
+      by-start : (n : ℕ) (m : Message) (st : Start) → recordFrom st n m .long ≡ m .long
+      by-start n m (requestStart a b c d) = refl
+      by-start n m (responseStart a b) = refl
+
+      go : (y : Answer Message) → outcome.Message r ≡ readingOf y .outcome → r .long ≡ longIn y
+      go (accepted n m) z = let w : r ≡ recordOf n m = cc in ap (λ (c : Record). c .long) w ∙ by-start n m (m .start)
+      go (refused k p) z = let w : _≡_ {A = ℕ} 0 1 = cc in absurd (omega arith)
+      go more z = let w : _≡_ {A = ℕ} 0 1 = cc in absurd (omega arith)
+
+  pub long-refusal : {k p : ℕ} → o ≡ outcome.Refusal k p → 0 ≡ longIn x
+  long-refusal {k} {p} q = go x (sym q ∙ e)
+    where
+      go : (y : Answer Message) → outcome.Refusal k p ≡ readingOf y .outcome → 0 ≡ longIn y
+      go (accepted n m) z = let w : _≡_ {A = ℕ} 0 1 = cc in absurd (omega arith)
+      go (refused i j) z = refl
+      go more z = refl
+
+  pub long-more : o ≡ outcome.More → 0 ≡ longIn x
+  long-more q = go x (sym q ∙ e)
+    where
+      go : (y : Answer Message) → outcome.More ≡ readingOf y .outcome → 0 ≡ longIn y
+      go (accepted n m) z = let w : _≡_ {A = ℕ} 0 1 = cc in absurd (omega arith)
+      go (refused i j) z = refl
+      go more z = refl
 
 -- the answer under another name
 pub served-as : {y : Reply} {k : ℕ} {o o′ : List ℕ} {v w : Written} → ServedAt y k o o′ v → v ≡ w → ServedAt y k o o′ w
 served-as {y} {k} {o} {o′} h e = subst (λ (x : Written). ServedAt y k o o′ x) e h
 
+-- read as the bundle's messages are
+pub long-plain : (m : List ℕ) (t : Told) {r : Reading} → t ≡ toldPlain 0 → r ≡ readingOf (readBinary t m) → r .outcome ≡ readingOf (readMessage m) .outcome
+long-plain m t e q = ap (λ (x : Reading). x .outcome) q ∙ ap (λ (x : Told). readingOf (readBinary x m) .outcome) e
+
 -- ---- the record that an append changes
 
-index-of : (n room used f : ℕ) (w : Written) → FairAnswer n room used f w → planOf used f w .go ≡ true → planOf used f w .index < n
-index-of n room used f (Done k) h g = omega (arith, h .0 .3, h .1, h .2)
-index-of n room used f (Refused k p) h g = absurd (no-true g)
+index-of : (n room used f long : ℕ) (w : Written) → FairAnswer n room used f w → planOf used f long w .go ≡ true → planOf used f long w .index < n
+index-of n room used f long (Done k) h g = omega (arith, h .0 .3, h .1, h .2)
+index-of n room used f long (Refused k p) h g = absurd (no-true g)
 
 pub append-index : (n : ℕ) (b : List ℕ) (used f : ℕ) (m : List ℕ) → appendPlan n b used f m .go ≡ true → appendPlan n b used f m .index < n
 unfolding appendPlan
-append-index n b used f m = index-of n (length b) used f (writtenOf (appendReply n b used f m) (length b - used)) (fair-answer n b used f m)
+append-index n b used f m =
+    index-of n (length b) used f (longIn (readMessage m)) (writtenOf (appendReply n b used f m) (length b - used)) (fair-answer n b used f m)

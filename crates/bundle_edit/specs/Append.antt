@@ -19,6 +19,8 @@ use Rattle.bundle.specs.Bundle.{headOf, headOctets, isFlock, readMessage, kindN
 use Rattle.flock_table.specs.Table.{none, plus}
 use Rattle.flock_table.specs.declared.Flock.{Flock}
 use Rattle.bundle_edit.specs.Calls.{besideTable, inBuffer, ofBundle}
+use Rattle.script.specs.Script.{Answer, accepted, refused, more}
+use Rattle.messages.specs.Message.{Message}
 use Rattle.bundle_edit.specs.declared.Plan.{Plan}
 
 -- ---- what is written
@@ -55,14 +57,20 @@ appendReply n b used f m = besideTable refuses n (bufferReply b used f m)
 -- ---- the flat answer, and the buffer afterwards
 
 -- whether a record of a table is to be changed, which one and by how many octets of message; number, place and the used length afterwards; and how many
--- integers of the message were not in their shortest form, which is 0 until item 8
-abbrev pub planOf : ℕ → ℕ → Written → Plan
-planOf used f (Done n) = record { go = true; index = f - 1; size = n - 4; number = 0; place = 0; used = used + n; long = 0 }
-planOf used f (Refused number place) = record { go = false; index = 0; size = 0; number = number; place = place; used = used; long = 0 }
+-- integers of the message were not in their shortest form (item 8)
+abbrev pub planOf : ℕ → ℕ → ℕ → Written → Plan
+planOf used f long (Done n) = record { go = true; index = f - 1; size = n - 4; number = 0; place = 0; used = used + n; long = long }
+planOf used f long (Refused number place) = record { go = false; index = 0; size = 0; number = number; place = place; used = used; long = 0 }
+
+-- how many integers of a message that was read are not in their shortest form; none where it was refused
+abbrev pub longIn : Answer Message → ℕ
+longIn (accepted n m) = m .long
+longIn (refused k p) = 0
+longIn more = 0
 
 -- what an append answers: room is what is behind the used length, 13 at 0
 unfoldable pub appendPlan : ℕ → List ℕ → ℕ → ℕ → List ℕ → Plan
-appendPlan n b used f m = planOf used f (writtenOf (appendReply n b used f m) (length b - used))
+appendPlan n b used f m = planOf used f (longIn (readMessage m)) (writtenOf (appendReply n b used f m) (length b - used))
 
 -- the buffer afterwards: a refusal alters no octet of it
 unfoldable pub appended : ℕ → List ℕ → ℕ → ℕ → List ℕ → List ℕ

@@ -3,6 +3,7 @@
 pub mod delivery; // delivery.rt: marking an entry as delivered, and the sweep
 pub mod tables; // tables.rt: all records of a table at once: the rebuild
 
+use binary_reader::whole::read_binary;
 use bundle::Bundle;
 use bundle::Head;
 use bundle::entry::is_flock;
@@ -10,6 +11,7 @@ use bundle::reader::read_bundle;
 use flock_table::Flock;
 use flock_table::is_table;
 use flock_table::plus;
+use messages::Outcome;
 use messages::call::plain;
 use octets::Limits;
 use octets::Refusals;
@@ -25,9 +27,9 @@ ghost use Rattle.output.specs.Splice.{splice};
 ghost use Rattle.output.specs.Reply.{ServedAt};
 ghost use Rattle.messages.specs.Told.{plain as toldPlain};
 ghost use Rattle.turn.specs.Turn.{binaryToBinary};
-ghost use Rattle.bundle.specs.Bundle.{headOf, headOctets, isFlock, walk};
+ghost use Rattle.bundle.specs.Bundle.{headOf, headOctets, isFlock, readMessage, walk};
 ghost use Rattle.bundle.specs.Answers.{bundleOf};
-ghost use Rattle.bundle_edit.specs.Append.{messageEntry, behindBundle, bufferReply, appendReply, planOf, Planned, Fair, newRecord};
+ghost use Rattle.bundle_edit.specs.Append.{messageEntry, behindBundle, bufferReply, appendReply, planOf, longIn, Planned, Fair, newRecord};
 ghost use Rattle.flock_table.specs.Table.{plus as plusOf};
 
 // What a call that changes a bundle answers, flat: whether a table's record is to be changed, which one, by how many octets of message; number, place, the used
@@ -77,9 +79,9 @@ struct Found {
 }
 
 // The plan of a writer's answer.
-fn plan_of(room: usize, used: usize, flock: u32, w: Written) -> Plan
+fn plan_of(room: usize, used: usize, flock: u32, w: Written, long: usize) -> Plan
     requires { ⌜ Fair room used flock w ⌝ }
-    ensures { λ r. ⌜ r ≡ planOf used flock w ⌝ }
+    ensures { λ r. ⌜ r ≡ planOf used flock long w ⌝ }
 {
     match w {
         Written::Refused { number, place } => return Plan {
@@ -98,7 +100,7 @@ fn plan_of(room: usize, used: usize, flock: u32, w: Written) -> Plan
             number: 0,
             place: 0,
             used: used + n,
-            long: 0,
+            long,
         },
     }
 }
@@ -223,13 +225,30 @@ fn append_beside(n: usize, buf: &mut [u8], used: usize, flock: u32, message: &[u
     }
 }
 
+// How many integers of the message are not in their shortest form.
+fn long_forms(message: &[u8]) -> usize
+    ensures { λ r. ⌜ r ≡ longIn (readMessage (now (message .entry))) ⌝ }
+{
+    let told = plain(0);
+    let m = read_binary(message, told);
+    let o = m.outcome;
+    match o {
+        Outcome::Message(r) => return r.long,
+        Outcome::Refusal {
+            number: _,
+            place: _,
+        } => return 0,
+        Outcome::More => return 0,
+    }
+}
+
 // A Binary message behind a bundle of `used` octets in the buffer, as an undelivered entry of the flock, beside a table of n records.
 pub fn append(n: usize, buf: &mut [u8], used: usize, flock: u32, message: &[u8]) -> Plan
     ensures { λ r. ⌜ Planned n (now (buf .entry)) used flock (now (message .entry)) (now (buf .exit)) r ⌝ }
 {
     let room = buf.len();
     let w = append_beside(n, buf, used, flock, message);
-    plan_of(room, used, flock, w)
+    plan_of(room, used, flock, w, long_forms(message))
 }
 
 // A record with a new entry of so many octets of message.

@@ -40,15 +40,15 @@ countNumbers r = (r .status ∷ r .informational ∷ []) ++ (r .headers ∷ r .c
 abbrev pub wordEnd : ℕ
 wordEnd = 4294967296
 
--- a stated length: whether there is one, then its low and its high 32 bits. The number before it and the two behind it are 0: they are kept for items of
--- document 02 that have not landed
-abbrev pub statedNumbers : StatedLength → List ℕ
-statedNumbers Missing = (0 ∷ 0 ∷ []) ++ (0 ∷ 0 ∷ []) ++ (0 ∷ 0 ∷ [])
-statedNumbers (Of n) = (0 ∷ 1 ∷ []) ++ (n % wordEnd ∷ n / wordEnd ∷ []) ++ (0 ∷ 0 ∷ [])
+-- a stated length: whether there is one, then its low and its high 32 bits; then how many integers are long. The number before these and the one behind them
+-- are 0: they are kept for items of document 02 that have not landed
+abbrev pub statedNumbers : StatedLength → ℕ → List ℕ
+statedNumbers Missing long = (0 ∷ 0 ∷ []) ++ (0 ∷ 0 ∷ []) ++ (long ∷ 0 ∷ [])
+statedNumbers (Of n) long = (0 ∷ 1 ∷ []) ++ (n % wordEnd ∷ n / wordEnd ∷ []) ++ (long ∷ 0 ∷ [])
 
 -- the numbers of a record, but for the message's length
 unfoldable pub recordNumbers : Record → List ℕ
-recordNumbers r = controlNumbers r ++ countNumbers r ++ statedNumbers (r .stated)
+recordNumbers r = controlNumbers r ++ countNumbers r ++ statedNumbers (r .stated) (r .long)
 
 -- how many numbers control data have, the status and the counts, a stated length with what is kept beside it, and a record
 abbrev pub controlCount : ℕ

@@ -77,17 +77,17 @@ fn put_six(out: &mut [u32], at: usize, a: u32, b: u32, c: u32, d: u32, e: u32, f
     put_two(out, j, e, f)
 }
 
-// A stated length, and the zeros beside it.
-fn put_stated(out: &mut [u32], at: usize, stated: StatedLength) -> usize
+// A stated length and the count of long integers, and the zeros beside them.
+fn put_stated(out: &mut [u32], at: usize, stated: StatedLength, long: u32) -> usize
     requires { ⌜ at + statedCount ≤ length (now out) ⌝ }
-    ensures { λ z. ⌜ Put (now (out .entry)) at (statedNumbers stated) statedCount (now (out .exit)) z ⌝ }
+    ensures { λ z. ⌜ Put (now (out .entry)) at (statedNumbers stated long) statedCount (now (out .exit)) z ⌝ }
 {
     match stated {
-        StatedLength::Missing => return put_six(out, at, 0, 0, 0, 0, 0, 0),
+        StatedLength::Missing => return put_six(out, at, 0, 0, 0, 0, long, 0),
         StatedLength::Of(n) => {
             let low = (n % 4294967296) as u32;
             let high = (n / 4294967296) as u32;
-            return put_six(out, at, 0, 1, low, high, 0, 0);
+            return put_six(out, at, 0, 1, low, high, long, 0);
         }
     }
 }
@@ -109,7 +109,7 @@ fn put_record(out: &mut [u32], r: Record) -> usize
         r.trailers as u32,
     );
     let stated = r.stated;
-    put_stated(out, b, stated)
+    put_stated(out, b, stated, r.long as u32)
 }
 
 // The numbers of a record, and of its informational heads.

@@ -6,7 +6,7 @@ use Rattle.octets.specs.Ascii.{ascii}
 use Rattle.messages.specs.Told.{plain, answering, closing, keeping, inEdition}
 use Rattle.messages.specs.declared.StatedLength.the-variants.{Missing, Of}
 use Rattle.messages.specs.declared.Told.{Told}
-use Rattle.examples.specs.Examples.{http, Example, integer, http1, http1Reply, binaryReply, states, replyBecomes, goesAs, anewAs, turnedAway, figure13, hex, AllHold}
+use Rattle.examples.specs.Examples.{http, Example, integer, http1, http1Reply, binaryReply, states, replyBecomes, goesAs, anewAs, turnedAway, counted, longs, figure13, hex, AllHold}
 
 -- item 4: the sample integers of RFC 9000, appendix A.1, one of each width, the last in a form that is not the shortest
 unfoldable pub widths : List Example
@@ -209,10 +209,38 @@ editions =
     ∷ turnedAway (inEdition 1 (plain 2)) figure13 4 0
     ∷ []
 
+-- P5 of 01 with each integer in two octets, and behind it content and trailers of indeterminate length, each integer in eight
+unfoldable pub longPost : List ℕ
+longPost = hex "4000 4004504f5354 400468747470 400161 40022f73 4000 4003616263 4000"
+
+unfoldable pub longChunks : List ℕ
+longChunks = hex "0140c8" ++ hex "00" ++ hex "c000000000000003616263" ++ hex "c000000000000000"
+
+-- item 8
+unfoldable pub forms : List Example
+forms =
+    -- 63 fits one octet, 64 does not
+    counted (hex "25") 37 0
+    ∷ counted (hex "4025") 37 1
+    ∷ counted (hex "403f") 63 1
+    ∷ counted (hex "4040") 64 0
+    ∷ counted (hex "80004000") 16384 0
+    ∷ counted (hex "c000000000000000") 0 1
+    -- framing, lengths of control data, section, content and trailers; what follows is padding and counts nothing
+    ∷ longs longPost 8
+    ∷ longs (longPost ++ hex "0000") 8
+    ∷ longs longChunks 2
+    ∷ longs figure13 0
+    -- terminators of sections and content, and the lengths in a line that is dropped
+    ∷ longs (hex "03 40c8 4000 4000 4000") 3
+    ∷ longs (hex "03 40c8 4002 7465 4001 78 00 00 00") 2
+    ∷ []
+
 -- the statement: every row holds
 pub record Statement : Type 0 where
   pub item4 : AllHold widths
   pub item5 : AllHold replies
   pub item7 : AllHold editions
+  pub item8 : AllHold forms
   pub item9 : AllHold empties
   pub item10 : AllHold closings

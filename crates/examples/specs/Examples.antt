@@ -10,6 +10,7 @@ use lib.ListN.{length, take}
 use Rattle.octets.specs.Ascii.{ascii}
 use Rattle.numbers.specs.Digits.{digitOf}
 use Rattle.numbers.specs.Integer.{readInt}
+use Rattle.numbers.specs.declared.Integer.{Integer}
 use Rattle.numbers.specs.declared.Integer.the-variants.{Value, Cut}
 use Rattle.script.specs.Script.{Answer}
 use Rattle.messages.specs.Told.{plain}
@@ -74,6 +75,10 @@ pub data Example : Type 0 where
   anewAs : Told → List ℕ → List ℕ → Example
   -- a Binary message, as told, does not become HTTP/1.1: number and place
   turnedAway : Told → List ℕ → ℕ → ℕ → Example
+  -- the octets are this integer, counted so often as long
+  counted : List ℕ → ℕ → ℕ → Example
+  -- so many integers of an accepted Binary message are not in their shortest form
+  longs : List ℕ → ℕ → Example
 
 -- a call told http, that its message answers no HEAD, and that the connection is open
 abbrev pub http : Told
@@ -95,9 +100,20 @@ States (outcome.Message r) x = r .stated ≡ x
 States (outcome.Refusal k p) x = ⊥
 States outcome.More x = ⊥
 
+-- an integer, whether its form is the shortest left out
+abbrev pub uncounted : Integer → Integer
+uncounted (Value v next long) = Value v next 0
+uncounted Cut = Cut
+
+-- so many integers of an accepted message are not in their shortest form
+abbrev pub LongIn : Outcome → ℕ → Type 0
+LongIn (outcome.Message r) n = r .long ≡ n
+LongIn (outcome.Refusal k p) n = ⊥
+LongIn outcome.More n = ⊥
+
 -- what a row says of the definitions
 abbrev pub Holds : Example → Type 0
-Holds (integer s v) = readInt 0 s ≡ Value v (length s)
+Holds (integer s v) = uncounted (readInt 0 s) ≡ Value v (length s) 0
 Holds (http1 s k p) = Answers s (readRequest http s) k p
 Holds (http1Reply t s k p) = Answers s (readResponse t s) k p
 Holds (binaryReply t s k p) = Answers s (readBinary t s) k p
@@ -111,6 +127,8 @@ Holds (anew s b) = binaryToBinary http s ≡ writes b
 Holds (long s n) = length s ≡ n
 Holds (anewAs t s b) = binaryToBinary t s ≡ writes b
 Holds (turnedAway t s k p) = binaryToHttp1 t s ≡ refuses k p
+Holds (counted s v l) = readInt 0 s ≡ Value v (length s) l
+Holds (longs s n) = LongIn (readingOf (readBinary http s) .outcome) n
 
 -- each row of a list holds
 abbrev pub AllHold : List Example → Type 0

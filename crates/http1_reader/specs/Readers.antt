@@ -64,7 +64,7 @@ pub record RequestJudged (s : List ℕ) (end : ℕ) (notes : Notes) (r : HeadAns
 -- the counts of a message of length n: kept header fields, chunks and the octets in them, kept trailer fields; and its stated length
 abbrev pub countsWith : StatedLength → ℕ → ℕ → ℕ → ℕ → ℕ → Counts
 countsWith stated fields n chunks total trailers =
-    record { headers = fields; chunks = chunks; content = total; trailers = trailers; length = n; stated = stated }
+    record { headers = fields; chunks = chunks; content = total; trailers = trailers; length = n; stated = stated; long = 0 }
 
 -- the outcome of a request whose content was read
 abbrev pub requestOutcome : Told → ℕ → ℕ → ℕ → ℕ → ℕ → ContentRead → Outcome

@@ -62,6 +62,7 @@ fn request_outcome(
                 trailers,
                 length: end,
                 stated: StatedLength::Missing,
+                long: 0,
             };
             let method_part = Part {
                 start: 0,

@@ -227,6 +227,7 @@ fn response_outcome(
                 trailers,
                 length: end,
                 stated,
+                long: 0,
             };
             Outcome::Message(response_record(heads, status, counts))
         }

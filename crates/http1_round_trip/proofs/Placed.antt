@@ -54,6 +54,7 @@ placedFrom start at fs c ts x =
       chunks = contentAt (at + length (sectionText fs)) c ts .chunks;
       trailers = contentAt (at + length (sectionText fs)) c ts .trailers;
       stated = x;
+      long = 0;
     }
 
 abbrev pub placedAt : Told → ℕ → Meaning → Message

@@ -56,6 +56,7 @@ request-parts s t q a h c e r k p x = record {
   chunks = x .chunks;
   trailers = x .trailers;
   names = x .names;
+  long = omega arith;
 }
 
 -- what is known of each request at its end
@@ -134,6 +135,7 @@ response-parts s t hs n h c a v i k x y = record {
   chunks = x .chunks;
   trailers = x .trailers;
   names = x .names;
+  long = omega arith;
 }
 
 -- what is known of each response at its end, which is the place i

@@ -9,8 +9,8 @@ use native.Mathlib.Omega.{arith}
 use borrow.Author.Tests.{ltb-true, ltb-false, lt-ltb, le-ltb}
 use lib.Dec.{ltb}
 use lib.ListN.{length, take}
-use Rattle.numbers.specs.Integer.{readMore, readInt, extraOf}
-use Rattle.numbers.specs.Walk.{bigEndian, walked, OneWalk}
+use Rattle.numbers.specs.Integer.{readMore, readInt, extraOf, longOf}
+use Rattle.numbers.specs.Walk.{bigEndian, valueWalked, walked, OneWalk}
 use Rattle.numbers.specs.declared.Integer.{Integer}
 use Rattle.numbers.specs.declared.Integer.the-variants.{Value, Cut}
 
@@ -25,18 +25,22 @@ one-more : (n v b : ℕ) (s : List ℕ) → n ≤ length s → (v * 256 + b) * 2
 unfolding bigEndian
 one-more n v b s h = rw (take-length n s h, pow-succ', add-mul, mul-assoc, add-assoc)
 
-walk-value : (n v at : ℕ) (s : List ℕ) → readMore n v at s ≡ walked n v at s
-unfolding readMore walked bigEndian
-walk-value zero v at s = rw (le-ltb (length s) 0 (omega arith)) (ap₂ Value (rw (pow-zero, mul-one, add-zero) refl) (omega arith))
-walk-value (suc n) v at [] = rw (lt-ltb 0 (suc n) (omega arith))
-walk-value (suc n) v at (b ∷ s) = walk-value n (v * 256 + b) (at + 1) s ∙ go (ltb (length s) n) refl
+-- a value with a place, of an integer of w octets
+abbrev valueAt : ℕ → ℕ → ℕ → Integer
+valueAt w v at = Value v at (longOf w v)
+
+walk-value : (w n v at : ℕ) (s : List ℕ) → readMore w n v at s ≡ walked w n v at s
+unfolding readMore walked valueWalked bigEndian
+walk-value w zero v at s = rw (le-ltb (length s) 0 (omega arith)) (ap₂ (valueAt w) (rw (pow-zero, mul-one, add-zero) refl) (omega arith))
+walk-value w (suc n) v at [] = rw (lt-ltb 0 (suc n) (omega arith))
+walk-value w (suc n) v at (b ∷ s) = walk-value w n (v * 256 + b) (at + 1) s ∙ go (ltb (length s) n) refl
   where
-    go : (t : Bool) → ltb (length s) n ≡ t → walked n (v * 256 + b) (at + 1) s ≡ walked (suc n) v at (b ∷ s)
+    go : (t : Bool) → ltb (length s) n ≡ t → walked w n (v * 256 + b) (at + 1) s ≡ walked w (suc n) v at (b ∷ s)
     go true e = rw (e, lt-ltb (suc (length s)) (suc n) (omega (arith, ltb-true (length s) n e)))
     go false e =
         rw (e, le-ltb (suc (length s)) (suc n) (omega (arith, ltb-false (length s) n e)))
-        (ap₂ Value (one-more n v b s (ltb-false (length s) n e)) (omega arith))
+        (ap₂ (valueAt w) (one-more n v b s (ltb-false (length s) n e)) (omega arith))
 
 pub one-walk : OneWalk
 unfolding readInt
-one-walk = record { walk = walk-value; every-width = λ b at s. walk-value (extraOf b) _ _ s }
+one-walk = record { walk = walk-value; every-width = λ b at s. walk-value _ (extraOf b) _ _ s }

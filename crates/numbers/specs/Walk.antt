@@ -6,7 +6,7 @@ use mathlib.Core.Bool.{cond}
 use mathlib.Core.List.{List, [], _∷_}
 use lib.Dec.{ltb}
 use lib.ListN.{length, take}
-use Rattle.numbers.specs.Integer.{readMore, readInt, extraOf}
+use Rattle.numbers.specs.Integer.{readMore, readInt, extraOf, longOf}
 use Rattle.numbers.specs.declared.Integer.{Integer}
 use Rattle.numbers.specs.declared.Integer.the-variants.{Value, Cut}
 
@@ -15,11 +15,15 @@ unfoldable pub bigEndian : List ℕ → ℕ
 bigEndian [] = 0
 bigEndian (b ∷ s) = b * 256 ^ length s + bigEndian s
 
--- n octets of s, onto the value v: all of them count by their places; where fewer are there, the integer is cut off
-unfoldable pub walked : ℕ → ℕ → ℕ → List ℕ → Integer
-walked n v at s = cond (ltb (length s) n) Cut (Value (v * 256 ^ n + bigEndian (take n s)) (at + n))
+-- n octets of s, onto the value v
+unfoldable pub valueWalked : ℕ → ℕ → List ℕ → ℕ
+valueWalked n v s = v * 256 ^ n + bigEndian (take n s)
+
+-- of an integer of w octets: all of them count by their places; where fewer are there, the integer is cut off
+unfoldable pub walked : ℕ → ℕ → ℕ → ℕ → List ℕ → Integer
+walked w n v at s = cond (ltb (length s) n) Cut (Value (valueWalked n v s) (at + n) (longOf w (valueWalked n v s)))
 
 -- the claims: the walk, of any number of octets; and an integer, whatever its first octet says of its width
 pub record OneWalk : Type 0 where
-  pub walk : (n v at : ℕ) (s : List ℕ) → readMore n v at s ≡ walked n v at s
-  pub every-width : (b at : ℕ) (s : List ℕ) → readInt at (b ∷ s) ≡ walked (extraOf b) (b % 64) (at + 1) s
+  pub walk : (w n v at : ℕ) (s : List ℕ) → readMore w n v at s ≡ walked w n v at s
+  pub every-width : (b at : ℕ) (s : List ℕ) → readInt at (b ∷ s) ≡ walked (extraOf b + 1) (extraOf b) (b % 64) (at + 1) s

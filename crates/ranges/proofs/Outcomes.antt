@@ -115,6 +115,7 @@ sound-small s n m h = go (m .start) (h .heads)
           chunks = h .chunks .few;
           content = content-small m (h .valid);
           trailers = omega (arith, kept-few false (m .trailers), h .trailers .few);
+          long = h .long;
         }
     go (responseStart hs c) g =
         record {
@@ -123,6 +124,7 @@ sound-small s n m h = go (m .start) (h .heads)
           chunks = h .chunks .few;
           content = content-small m (h .valid);
           trailers = omega (arith, kept-few false (m .trailers), h .trailers .few);
+          long = h .long;
         }
 
 -- each head has 64 fields at most

@@ -5,7 +5,7 @@ use mathlib.Core.Path.{_≡_}
 use mathlib.Core.Bool.{Bool, true, false, cond}
 use mathlib.Core.List.{List, [], _∷_, _++_}
 use lib.ListN.{length}
-use Rattle.octets.specs.Limits.{linesMost, chunksMost, contentMost, informationalMost}
+use Rattle.octets.specs.Limits.{linesMost, chunksMost, contentMost, informationalMost, binaryMost}
 use Rattle.script.specs.Script.{Answer, accepted, refused, more}
 use Rattle.output.specs.Splice.{splice}
 use Rattle.output.specs.Reply.{Reply, Served}
@@ -94,6 +94,7 @@ pub record SmallRecord (r : Record) : Type 0 where
   pub chunks : r .chunks ≤ chunksMost
   pub content : r .content ≤ contentMost
   pub trailers : r .trailers ≤ linesMost
+  pub long : r .long ≤ binaryMost
 
 -- the numbers l stand at the front of o
 pub record Begins (l o : List ℕ) : Type 0 where

@@ -8,7 +8,7 @@ use borrow.Author.Tests.{le-leb, eqb-true, eqb-false}
 use lib.Dec.{eqb}
 use lib.ListN.{length, length-append, length-map}
 use Rattle.octets.specs.Text.{isEmpty}
-use Rattle.octets.specs.Limits.{linesMost, chunksMost, contentMost, informationalMost}
+use Rattle.octets.specs.Limits.{linesMost, chunksMost, contentMost, informationalMost, binaryMost}
 use Rattle.script.specs.Script.{Lies}
 use Rattle.script.specs.Do.{Piece, piece}
 use Rattle.messages.specs.Control.{methodVerdict, pathVerdict, isHost, statusVerdict, isInformational}
@@ -143,6 +143,7 @@ pub record PartsAt (s : List ℕ) (m : Message) : Type 0 where
   pub chunks : ChunksAt s (m .chunks)
   pub trailers : SectionAt s (m .trailers)
   pub names : areTrailers (m .trailers) ≡ true
+  pub long : m .long ≤ binaryMost
 
 parts-valid : (s : List ℕ) (m : Message) → PartsAt s m → valid (meaning m) ≡ true
 unfolding valid meaning keptTrailers
@@ -179,4 +180,5 @@ parts-sound s m h = record {
   };
   trailers = section-good s (m .trailers) (h .trailers);
   names = h .names;
+  long = h .long;
 }

@@ -6,7 +6,7 @@ use mathlib.Core.Bool.{true, false}
 use mathlib.Core.List.{List, [], _∷_, map}
 use lib.Dec.{eqb}
 use lib.ListN.{length}
-use Rattle.octets.specs.Limits.{linesMost, chunksMost, informationalMost}
+use Rattle.octets.specs.Limits.{linesMost, chunksMost, informationalMost, binaryMost}
 use Rattle.octets.specs.Text.{lowerOf}
 use Rattle.script.specs.Do.{Piece}
 use Rattle.messages.specs.Message.{FieldRead, Start, requestStart, responseStart, Message}
@@ -74,3 +74,5 @@ pub record Sound (s : List ℕ) (m : Message) : Type 0 where
   pub chunks : GoodChunks (m .chunks)
   pub trailers : GoodSection (m .trailers)
   pub names : areTrailers (m .trailers) ≡ true
+  -- no more integers are long than a Binary input has octets
+  pub long : m .long ≤ binaryMost

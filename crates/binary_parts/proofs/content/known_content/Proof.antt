@@ -9,7 +9,7 @@ use Rattle.binary_parts.proofs.content.known_content.Reads as reads
 use Rattle.binary_parts.proofs.content.known_content.Lts as lts
 
 part-within-requires : tie.Need-part-within-requires
-part-within-requires c κs = search needs
+part-within-requires c κs = c .before .before .pre .2
 
 enum-known-w : tie.Need-enum-known-w
 enum-known-w c = search needs
@@ -20,8 +20,8 @@ returns c = known-no (c .before .before .before .before .before .before .args .s
 enum-known-w-2 : tie.Need-enum-known-w-2
 enum-known-w-2 c = search needs
 
-add-end : tie.Need-add-end
-add-end c = omega (arith, part-got (c .before .before .before .part-within .ensures) (c .before .w2 .given .1) .1)
+add-t11 : tie.Need-add-t11
+add-t11 c = omega (arith, part-got (c .before .before .before .part-within .ensures) (c .before .w2 .given .1) .1)
 
 returns-2 : tie.Need-returns-2
 returns-2 c = known-none (c .before .before .before .before .before .before .before .args .s .now) (c .before .before .before .before .before .before .before .args .from) (c .before .before .before .before .part-within .ensures) (c .before .before .w2 .given .1) (c .if1 .taken) refl
@@ -49,7 +49,7 @@ known-content-spec =
     enum-known-w
     returns
     enum-known-w-2
-    add-end
+    add-t11
     returns-2
     cast-store
     cast-store-2

@@ -8,7 +8,7 @@ use Rattle.binary_parts.proofs.control.after_scheme.Reads as reads
 use Rattle.binary_parts.proofs.control.after_scheme.Lts as lts
 
 ruled-part-requires : tie.Need-ruled-part-requires
-ruled-part-requires c κs = c .before .pre .0
+ruled-part-requires c κs = (c .before .pre .0, c .before .pre .3)
 
 enum-known-a : tie.Need-enum-known-a
 enum-known-a c = search needs
@@ -19,11 +19,11 @@ returns c = authority-no (c .before .before .before .before .before .args .s .no
 enum-known-a-2 : tie.Need-enum-known-a-2
 enum-known-a-2 c = search needs
 
-add-ruled-part : tie.Need-add-ruled-part
-add-ruled-part c = omega (arith, part-got (c .before .before .before .ruled-part .ensures) (c .before .a2 .given .1) .1)
+add-t20 : tie.Need-add-t20
+add-t20 c = omega (arith, part-got (c .before .before .before .ruled-part .ensures) (c .before .a2 .given .1) .1)
 
 ruled-part-requires-2 : tie.Need-ruled-part-requires-2
-ruled-part-requires-2 c κs = c .before .before .before .before .before .pre .0
+ruled-part-requires-2 c κs = (c .before .before .before .before .before .pre .0, part-got (c .before .before .before .ruled-part .ensures) (c .before .a2 .given .1) .2)
 
 enum-known-p : tie.Need-enum-known-p
 enum-known-p c = search needs
@@ -34,8 +34,8 @@ returns-2 c = path-no (c .before .before .before .before .before .before .before
 enum-known-p-2 : tie.Need-enum-known-p-2
 enum-known-p-2 c = search needs
 
-add-t21 : tie.Need-add-t21
-add-t21 c = omega (arith, part-got (c .before .before .before .ruled-part2 .ensures) (c .before .p2 .given .1) .1)
+add-t24 : tie.Need-add-t24
+add-t24 c = omega (arith, part-got (c .before .before .before .ruled-part2 .ensures) (c .before .p2 .given .1) .1)
 
 returns-3 : tie.Need-returns-3
 returns-3 c = rest-got (c .before .before .before .before .before .before .before .before .before .args .s .now) _ _ _ (c .before .before .before .before .before .before .before .before .before .pre .1) (c .before .before .before .before .before .before .before .before .before .pre .2) (c .before .before .before .before .before .before .before .ruled-part .ensures) (c .before .before .before .before .before .a2 .given .1) (c .before .before .before .ruled-part2 .ensures) (c .before .p2 .given .1)
@@ -48,10 +48,10 @@ after-scheme-spec =
     enum-known-a
     returns
     enum-known-a-2
-    add-ruled-part
+    add-t20
     ruled-part-requires-2
     enum-known-p
     returns-2
     enum-known-p-2
-    add-t21
+    add-t24
     returns-3)

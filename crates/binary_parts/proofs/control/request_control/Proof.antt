@@ -9,7 +9,7 @@ use Rattle.binary_parts.proofs.control.request_control.Reads as reads
 use Rattle.binary_parts.proofs.control.request_control.Lts as lts
 
 ruled-part-requires : tie.Need-ruled-part-requires
-ruled-part-requires c κs = (c .before .pre)
+ruled-part-requires c κs = c .before .pre
 
 enum-known-m : tie.Need-enum-known-m
 enum-known-m c = search needs
@@ -20,11 +20,11 @@ returns c = method-no (c .before .before .before .before .before .args .s .now) 
 enum-known-m-2 : tie.Need-enum-known-m-2
 enum-known-m-2 c = search needs
 
-add-scheme-part : tie.Need-add-scheme-part
-add-scheme-part c = omega (arith, part-got (c .before .before .before .ruled-part .ensures) (c .before .m2 .given .1) .1)
+add-t17 : tie.Need-add-t17
+add-t17 c = omega (arith, part-got (c .before .before .before .ruled-part .ensures) (c .before .m2 .given .1) .1)
 
 scheme-part-requires : tie.Need-scheme-part-requires
-scheme-part-requires c κs = search needs
+scheme-part-requires c κs = part-got (c .before .before .before .ruled-part .ensures) (c .before .m2 .given .1) .2
 
 enum-known-c : tie.Need-enum-known-c
 enum-known-c c = search needs
@@ -36,7 +36,7 @@ enum-known-c-2 : tie.Need-enum-known-c-2
 enum-known-c-2 c = search needs
 
 after-scheme-requires : tie.Need-after-scheme-requires
-after-scheme-requires c κs = (c .before .before .before .before .before .before .before .before .before .pre, part-got (c .before .before .before .before .before .before .before .ruled-part .ensures) (c .before .before .before .before .before .m2 .given .1) .1, schemed-got (c .before .before .before .scheme-part .ensures) (c .before .c2 .given .1) .1)
+after-scheme-requires c κs = (c .before .before .before .before .before .before .before .before .before .pre .0, part-got (c .before .before .before .before .before .before .before .ruled-part .ensures) (c .before .before .before .before .before .m2 .given .1) .1, schemed-got (c .before .before .before .scheme-part .ensures) (c .before .c2 .given .1) .1, schemed-got (c .before .before .before .scheme-part .ensures) (c .before .c2 .given .1) .3)
 
 returns-3 : tie.Need-returns-3
 returns-3 c = behind-scheme (c .before .before .before .before .before .before .before .before .before .before .args .s .now) _ (c .before .before .before .before .before .before .before .before .ruled-part .ensures) (c .before .before .before .before .before .before .m2 .given .1) (c .before .before .before .before .scheme-part .ensures) (c .before .before .c2 .given .1) (c .after-scheme .ensures)
@@ -49,7 +49,7 @@ request-control-spec =
     enum-known-m
     returns
     enum-known-m-2
-    add-scheme-part
+    add-t17
     scheme-part-requires
     enum-known-c
     returns-2

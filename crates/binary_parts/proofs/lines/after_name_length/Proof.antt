@@ -2,7 +2,7 @@ use borrow.Author.Needs.{needs}
 use native.Mathlib.Omega.{arith}
 use mathlib.Core.Path.{_≡_, refl, sym, ap, _∙_}
 use lib.ListN.{length, take, drop}
-use Rattle.numbers.proofs.IntegerLaws.{int-within}
+use Rattle.numbers.proofs.IntegerLaws.{long-once, int-within}
 use Rattle.binary_parts.proofs.Rest.{lined-no, rest-name-cut, rest-length-cut, rest-value-cut, rest-judged, part-short}
 use Prim.Native.Nat.{_+_}
 use Rattle.binary_parts.proofs.lines.after_name_length.Statement.{statement}
@@ -17,7 +17,7 @@ sub-if1 : tie.Need-sub-if1
 sub-if1 c = search needs
 
 returns : tie.Need-returns
-returns c = lined-no (rest-name-cut _ _ _ (c .before .before .before .before .args .s .now) _ _ (c .if1 .taken)) (rw (c .before .cut-number .ensures))
+returns c = lined-no (rest-name-cut _ _ _ (c .before .before .before .before .args .s .now) _ _ _ (c .if1 .taken)) (rw (c .before .cut-number .ensures))
 
 add-m : tie.Need-add-m
 add-m c = search needs
@@ -38,13 +38,13 @@ enum-told : tie.Need-enum-told
 enum-told c = search needs
 
 returns-2 : tie.Need-returns-2
-returns-2 c = lined-no (rest-length-cut _ _ _ (c .before .before .before .before .before .before .before .before .args .s .now) _ _ (c .before .before .before .before .if1 .left) (sym (c .before .before .read-int .ensures .0) ∙ c .enum-told .given .1)) (rw (c .before .before .before .before .before .cut-number .ensures, c .before .before .before .cut-place .ensures))
+returns-2 c = lined-no (rest-length-cut _ _ _ (c .before .before .before .before .before .before .before .before .args .s .now) _ _ _ (c .before .before .before .before .if1 .left) (sym (c .before .before .read-int .ensures .0) ∙ c .enum-told .given .1)) (rw (c .before .before .before .before .before .cut-number .ensures, c .before .before .before .cut-place .ensures))
 
 sub-if2 : tie.Need-sub-if2
 sub-if2 c = omega (arith, int-within (c .before .before .before .before .before .before .before .before .before .args .s .now) (c .before .before .before .before .before .before .before .before .before .args .at + c .before .before .before .before .before .before .before .before .before .args .n) (sym (c .before .before .before .read-int .ensures .0) ∙ c .before .len .given .1))
 
 returns-3 : tie.Need-returns-3
-returns-3 c = lined-no (rest-value-cut _ _ _ (c .before .before .before .before .before .before .before .before .before .before .args .s .now) _ _ (c .before .before .before .before .before .before .if1 .left) (sym (c .before .before .before .before .read-int .ensures .0) ∙ c .before .before .len .given .1) (c .if2 .taken)) (rw (c .before .before .before .before .before .before .before .cut-number .ensures, c .before .before .before .before .before .cut-place .ensures))
+returns-3 c = lined-no (rest-value-cut _ _ _ (c .before .before .before .before .before .before .before .before .before .before .args .s .now) _ _ _ (c .before .before .before .before .before .before .if1 .left) (sym (c .before .before .before .before .read-int .ensures .0) ∙ c .before .before .len .given .1) (c .if2 .taken)) (rw (c .before .before .before .before .before .before .before .cut-number .ensures, c .before .before .before .before .before .cut-place .ensures))
 
 add-end : tie.Need-add-end
 add-end c = omega (arith, int-within (c .before .before .before .before .before .before .before .before .before .before .args .s .now) (c .before .before .before .before .before .before .before .before .before .before .args .at + c .before .before .before .before .before .before .before .before .before .before .args .n) (sym (c .before .before .before .before .read-int .ensures .0) ∙ c .before .before .len .given .1))
@@ -73,6 +73,9 @@ part-store-line-start-2 c = search needs
 part-store-line-end-2 : tie.Need-part-store-line-end-2
 part-store-line-end-2 c = omega (arith, int-within (c .before .before .before .before .before .before .before .before .before .before .before .args .s .now) (c .before .before .before .before .before .before .before .before .before .before .before .args .at + c .before .before .before .before .before .before .before .before .before .before .before .args .n) (sym (c .before .before .before .before .before .read-int .ensures .0) ∙ c .before .before .before .len .given .1))
 
+add-store-line-3 : tie.Need-add-store-line-3
+add-store-line-3 c = omega (arith, c .before .before .before .before .before .before .before .before .before .before .before .before .before .pre .4, c .before .before .before .before .before .before .before .before .before .before .before .before .before .pre .2, long-once _ (c .before .before .before .before .before .before .before .read-int .ensures .1) (c .before .before .before .before .before .len .given .1), int-within (c .before .before .before .before .before .before .before .before .before .before .before .before .before .args .s .now) (c .before .before .before .before .before .before .before .before .before .before .before .before .before .args .at + c .before .before .before .before .before .before .before .before .before .before .before .before .before .args .n) (sym (c .before .before .before .before .before .before .before .read-int .ensures .0) ∙ c .before .before .before .before .before .len .given .1))
+
 store-line-requires : tie.Need-store-line-requires
 store-line-requires c κs = (c .before .before .before .before .before .before .before .before .before .before .before .before .before .pre .0, omega (arith, part-short (c .before .before .before .before .before .before .before .before .before .before .before .before .before .args .s .now) (c .before .before .before .before .before .before .before .before .before .before .before .before .before .args .at) (c .before .before .before .before .before .before .before .before .before .before .before .before .before .args .at + c .before .before .before .before .before .before .before .before .before .before .before .before .before .args .n)), omega (arith, part-short (c .before .before .before .before .before .before .before .before .before .before .before .before .before .args .s .now) (c .before .before .before .before .before .len .given .0 .1 .0) (c .before .before .before .before .before .len .given .0 .1 .0 + c .before .before .before .before .before .len .given .0 .0), int-within (c .before .before .before .before .before .before .before .before .before .before .before .before .before .args .s .now) (c .before .before .before .before .before .before .before .before .before .before .before .before .before .args .at + c .before .before .before .before .before .before .before .before .before .before .before .before .before .args .n) (sym (c .before .before .before .before .before .before .before .read-int .ensures .0) ∙ c .before .before .before .before .before .len .given .1)), c .before .before .before .before .before .before .before .before .before .before .before .before .before .pre .3)
 
@@ -80,7 +83,7 @@ same-length : tie.Need-same-length
 same-length c = search needs
 
 returns-4 : tie.Need-returns-4
-returns-4 c = rest-judged _ _ _ (c .before .before .before .before .before .before .before .before .before .before .before .before .before .before .before .before .args .s .now) _ _ (c .before .before .before .before .before .before .before .before .before .before .before .before .if1 .left) (sym (c .before .before .before .before .before .before .before .before .before .before .read-int .ensures .0) ∙ c .before .before .before .before .before .before .before .before .len .given .1) (c .before .before .before .before .before .before .if2 .left) (c .before .before .store-line .ensures)
+returns-4 c = rest-judged _ _ _ (c .before .before .before .before .before .before .before .before .before .before .before .before .before .before .before .before .args .s .now) _ _ _ (c .before .before .before .before .before .before .before .before .before .before .before .before .if1 .left) (sym (c .before .before .before .before .before .before .before .before .before .before .read-int .ensures .0) ∙ c .before .before .before .before .before .before .before .before .len .given .1) (c .before .before .before .before .before .before .before .before .before .before .before .before .before .before .before .before .pre .4) (c .before .before .before .before .before .before .if2 .left) (c .before .before .store-line .ensures)
 
 pub after-name-length-spec : {M : Type 1} → statement M
 after-name-length-spec =
@@ -107,6 +110,7 @@ after-name-length-spec =
     sub-store-line-2
     part-store-line-start-2
     part-store-line-end-2
+    add-store-line-3
     store-line-requires
     same-length
     returns-4)

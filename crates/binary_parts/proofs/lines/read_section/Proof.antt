@@ -6,7 +6,7 @@ use Rattle.binary_parts.proofs.lines.read_section.Reads as reads
 use Rattle.binary_parts.proofs.lines.read_section.Lts as lts
 
 known-section-requires : tie.Need-known-section-requires
-known-section-requires c κs = (c .before .before .before .before .pre .0, c .before .before .before .before .pre .1, c .before .before .before .before .pre .2, c .before .before .before .before .pre .3, c .before .if1 .taken)
+known-section-requires c κs = (c .before .before .before .before .pre .0, c .before .before .before .before .pre .1, c .before .before .before .before .pre .2, c .before .before .before .before .pre .3, c .before .if1 .taken, c .before .before .before .before .pre .4)
 
 same-length : tie.Need-same-length
 same-length c = search needs
@@ -15,7 +15,7 @@ returns : tie.Need-returns
 returns c = c .before .before .known-section .ensures
 
 open-section-requires : tie.Need-open-section-requires
-open-section-requires c κs = (c .before .before .before .before .pre .0, c .before .before .before .before .pre .1, c .before .before .before .before .pre .2, c .before .before .before .before .pre .3, c .before .if1 .left)
+open-section-requires c κs = (c .before .before .before .before .pre .0, c .before .before .before .before .pre .1, c .before .before .before .before .pre .2, c .before .before .before .before .pre .3, c .before .if1 .left, c .before .before .before .before .pre .4)
 
 same-length-2 : tie.Need-same-length-2
 same-length-2 c = search needs

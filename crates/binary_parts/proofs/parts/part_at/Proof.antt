@@ -2,7 +2,7 @@ use borrow.Author.Needs.{needs}
 use native.Mathlib.Omega.{arith}
 use mathlib.Core.Path.{sym, _∙_}
 use Rattle.numbers.proofs.IntegerLaws.{int-within}
-use Rattle.binary_parts.proofs.Places.{part-cut, part-octets}
+use Rattle.binary_parts.proofs.Places.{integer-few, part-cut, part-octets}
 use Rattle.binary_parts.proofs.parts.part_at.Statement.{statement}
 use Rattle.binary_parts.proofs.parts.part_at.Tie as tie
 use Rattle.binary_parts.proofs.parts.part_at.Reads as reads
@@ -20,11 +20,14 @@ enum-told c = search needs
 returns : tie.Need-returns
 returns c = part-cut (c .before .before .before .before .args .s .now) _ (sym (c .before .before .read-int .ensures .0) ∙ c .enum-told .given .1)
 
+add-part-octets : tie.Need-add-part-octets
+add-part-octets c = omega (arith, integer-few (c .before .before .before .before .before .before .args .s .now) (c .before .before .before .before .before .before .args .from) (c .before .before .before .before .before .before .pre) (sym (c .before .before .before .before .read-int .ensures .0) ∙ c .before .before .v .given .1), int-within (c .before .before .before .before .before .before .args .s .now) (c .before .before .before .before .before .before .args .from .at) (sym (c .before .before .before .before .read-int .ensures .0) ∙ c .before .before .v .given .1))
+
 part-octets-requires : tie.Need-part-octets-requires
-part-octets-requires c κs = int-within (c .before .before .before .before .before .args .s .now) (c .before .before .before .before .before .args .from) (sym (c .before .before .before .read-int .ensures .0) ∙ c .before .v .given .1) .1
+part-octets-requires c κs = (int-within (c .before .before .before .before .before .before .args .s .now) (c .before .before .before .before .before .before .args .from .at) (sym (c .before .before .before .before .read-int .ensures .0) ∙ c .before .before .v .given .1) .1, integer-few (c .before .before .before .before .before .before .args .s .now) (c .before .before .before .before .before .before .args .from) (c .before .before .before .before .before .before .pre) (sym (c .before .before .before .before .read-int .ensures .0) ∙ c .before .before .v .given .1))
 
 returns-2 : tie.Need-returns-2
-returns-2 c = part-octets (c .before .before .before .before .before .before .args .s .now) _ (sym (c .before .before .before .before .read-int .ensures .0) ∙ c .before .before .v .given .1) (c .part-octets .ensures)
+returns-2 c = part-octets (c .before .before .before .before .before .before .before .args .s .now) _ (sym (c .before .before .before .before .before .read-int .ensures .0) ∙ c .before .before .before .v .given .1) (c .part-octets .ensures)
 
 pub part-at-spec : {M : Type 1} → statement M
 part-at-spec =
@@ -34,5 +37,6 @@ part-at-spec =
     enum-known-v
     enum-told
     returns
+    add-part-octets
     part-octets-requires
     returns-2)

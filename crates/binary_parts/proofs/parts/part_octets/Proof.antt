@@ -10,10 +10,10 @@ sub-if1 : tie.Need-sub-if1
 sub-if1 c = search needs
 
 returns : tie.Need-returns
-returns c = octets-short (c .before .args .s .now) _ _ _ (c .before .pre) (c .if1 .taken)
+returns c = octets-short (c .before .args .s .now) _ _ _ _ (c .before .pre .0) (c .if1 .taken)
 
 returns-2 : tie.Need-returns-2
-returns-2 c = octets-in (c .before .args .s .now) _ _ _ (c .before .pre) (c .if1 .left)
+returns-2 c = octets-in (c .before .args .s .now) _ _ _ _ (c .before .pre .0) (c .before .pre .1) (c .if1 .left)
 
 pub part-octets-spec : {M : Type 1} → statement M
 part-octets-spec =

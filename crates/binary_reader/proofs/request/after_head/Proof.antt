@@ -19,10 +19,10 @@ enum-known-j-2 : tie.Need-enum-known-j-2
 enum-known-j-2 c = search needs
 
 after-headers-requires : tie.Need-after-headers-requires
-after-headers-requires c κs = (c .before .before .before .before .before .before .before .before .before .pre .0, c .before .before .before .before .before .before .before .before .before .pre .1, c .before .before .before .before .before .before .before .before .before .pre .2, c .before .before .before .before .before .before .before .before .before .pre .6, c .before .before .before .before .before .before .before .before .before .pre .7)
+after-headers-requires c κs = (c .before .before .before .before .before .before .before .before .before .pre .0, c .before .before .before .before .before .before .before .before .before .pre .1, c .before .before .before .before .before .before .before .before .before .pre .2, c .before .before .before .before .before .before .before .before .before .pre .6, c .before .before .before .before .before .before .before .before .before .pre .7, c .before .before .before .before .before .before .before .before .before .pre .8)
 
 request-outcome-requires : tie.Need-request-outcome-requires
-request-outcome-requires c κs = (omega (arith, c .before .before .before .before .before .before .before .before .before .before .before .before .before .before .pre .2, c .before .before .before .before .before .before .before .before .before .before .before .before .before .before .pre .3), omega (arith, c .before .before .before .before .before .before .before .before .before .before .before .before .before .before .pre .2, head-lies (c .before .before .before .before .before .before .before .before .before .before .before .before .before .before .args .s .now) (c .before .before .before .before .before .before .before .before .before .before .before .before .before .before .args .form) (c .before .before .before .before .before .before .before .before .before .before .before .before .before .before .args .method) (c .before .before .before .before .before .before .before .before .before .before .before .before .before .before .args .authority) (c .before .before .before .before .before .before .before .before .before .before .before .before .before .before .args .path) 0 _ 0 _ (c .before .before .before .before .before .before .before .before .before .before .judge-head .ensures) (c .before .before .before .before .before .before .before .before .j2 .given .1)), omega (arith, c .before .before .before .before .before .before .before .before .before .before .before .before .before .before .pre .2, c .before .before .before .before .before .before .before .before .before .before .before .before .before .before .pre .5))
+request-outcome-requires c κs = (omega (arith, c .before .before .before .before .before .before .before .before .before .before .before .before .before .before .pre .2, c .before .before .before .before .before .before .before .before .before .before .before .before .before .before .pre .3), omega (arith, c .before .before .before .before .before .before .before .before .before .before .before .before .before .before .pre .2, head-lies (c .before .before .before .before .before .before .before .before .before .before .before .before .before .before .args .s .now) (c .before .before .before .before .before .before .before .before .before .before .before .before .before .before .args .form) (c .before .before .before .before .before .before .before .before .before .before .before .before .before .before .args .method) (c .before .before .before .before .before .before .before .before .before .before .before .before .before .before .args .authority) (c .before .before .before .before .before .before .before .before .before .before .before .before .before .before .args .path) 0 (c .before .before .before .before .before .before .before .before .before .before .before .before .before .before .args .end) 0 _ (c .before .before .before .before .before .before .before .before .before .before .judge-head .ensures) (c .before .before .before .before .before .before .before .before .j2 .given .1)), omega (arith, c .before .before .before .before .before .before .before .before .before .before .before .before .before .before .pre .2, c .before .before .before .before .before .before .before .before .before .before .before .before .before .before .pre .5))
 
 same-length : tie.Need-same-length
 same-length c = search needs

@@ -8,7 +8,7 @@ use Rattle.binary_reader.proofs.request.request_in.Reads as reads
 use Rattle.binary_reader.proofs.request.request_in.Lts as lts
 
 request-control-requires : tie.Need-request-control-requires
-request-control-requires c κs = c .before .before .before .before .pre .0
+request-control-requires c κs = (c .before .before .before .before .pre .0, c .before .before .before .before .pre .5)
 
 enum-known-c : tie.Need-enum-known-c
 enum-known-c c = search needs
@@ -20,7 +20,7 @@ enum-known-c-2 : tie.Need-enum-known-c-2
 enum-known-c-2 c = search needs
 
 after-control-requires : tie.Need-after-control-requires
-after-control-requires c κs = let d = control-done (c .before .before .before .before .before .before .request-control .ensures) (c .before .before .before .before .c2 .given .1) in (c .before .before .before .before .before .before .before .before .before .before .before .pre .0, d .within, c .before .before .before .before .before .before .before .before .before .before .before .pre .1, d .method, d .authority, d .path, c .before .before .before .before .before .before .before .before .before .before .before .pre .2, c .before .before .before .before .before .before .before .before .before .before .before .pre .3, c .before .before .before .before .before .before .before .before .before .before .before .pre .4)
+after-control-requires c κs = let d = control-done (c .before .before .before .before .before .before .request-control .ensures) (c .before .before .before .before .c2 .given .1) in (c .before .before .before .before .before .before .before .before .before .before .before .pre .0, d .within, c .before .before .before .before .before .before .before .before .before .before .before .pre .1, d .method, d .authority, d .path, c .before .before .before .before .before .before .before .before .before .before .before .pre .2, c .before .before .before .before .before .before .before .before .before .before .before .pre .3, c .before .before .before .before .before .before .before .before .before .before .before .pre .4, d .few)
 
 same-length : tie.Need-same-length
 same-length c = search needs

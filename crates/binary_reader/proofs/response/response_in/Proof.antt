@@ -1,13 +1,13 @@
 use borrow.Author.Needs.{needs}
 use native.Mathlib.Omega.{arith}
-use Rattle.binary_reader.proofs.ResponseLaws.{responded-no, final-within, responded-final}
+use Rattle.binary_reader.proofs.ResponseLaws.{responded-no, final-within, final-few, responded-final}
 use Rattle.binary_reader.proofs.response.response_in.Statement.{statement}
 use Rattle.binary_reader.proofs.response.response_in.Tie as tie
 use Rattle.binary_reader.proofs.response.response_in.Reads as reads
 use Rattle.binary_reader.proofs.response.response_in.Lts as lts
 
 read-heads-requires : tie.Need-read-heads-requires
-read-heads-requires c κs = (c .before .before .before .before .before .before .before .pre .0, c .before .before .before .before .before .before .before .pre .1, c .before .before .before .before .before .before .before .pre .2, c .before .before .before .before .before .before .before .pre .3)
+read-heads-requires c κs = (c .before .before .before .before .before .before .before .pre .0, c .before .before .before .before .before .before .before .pre .1, c .before .before .before .before .before .before .before .pre .2, c .before .before .before .before .before .before .before .pre .3, c .before .before .before .before .before .before .before .pre .6)
 
 enum-known-h : tie.Need-enum-known-h
 enum-known-h c = search needs
@@ -25,7 +25,7 @@ enum-known-h-2 : tie.Need-enum-known-h-2
 enum-known-h-2 c = search needs
 
 after-final-requires : tie.Need-after-final-requires
-after-final-requires c κs = (c .before .before .before .before .before .before .before .before .before .before .before .before .before .before .before .before .before .pre .0, final-within (c .before .before .before .before .before .before .before .before .before .read-heads .ensures) (c .before .before .before .h2 .given .1), c .before .before .before .before .before .before .before .before .before .before .before .before .before .before .before .before .before .pre .1, c .before .before .before .before .before .before .before .before .before .before .before .before .before .before .before .before .before .pre .4, c .before .before .before .before .before .before .before .before .before .before .before .before .before .before .before .before .before .pre .5)
+after-final-requires c κs = (c .before .before .before .before .before .before .before .before .before .before .before .before .before .before .before .before .before .pre .0, final-within (c .before .before .before .before .before .before .before .before .before .read-heads .ensures) (c .before .before .before .h2 .given .1), c .before .before .before .before .before .before .before .before .before .before .before .before .before .before .before .before .before .pre .1, c .before .before .before .before .before .before .before .before .before .before .before .before .before .before .before .before .before .pre .4, c .before .before .before .before .before .before .before .before .before .before .before .before .before .before .before .before .before .pre .5, final-few (c .before .before .before .before .before .before .before .before .before .read-heads .ensures) (c .before .before .before .h2 .given .1))
 
 same-length-3 : tie.Need-same-length-3
 same-length-3 c = search needs

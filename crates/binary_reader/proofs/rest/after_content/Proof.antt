@@ -8,7 +8,7 @@ use Rattle.binary_reader.proofs.rest.after_content.Reads as reads
 use Rattle.binary_reader.proofs.rest.after_content.Lts as lts
 
 read-trailers-requires : tie.Need-read-trailers-requires
-read-trailers-requires c κs = (c .before .before .before .pre .0, c .before .before .before .pre .1, c .before .before .before .pre .2, c .before .before .before .pre .3)
+read-trailers-requires c κs = c .before .before .before .pre
 
 enum-known-h : tie.Need-enum-known-h
 enum-known-h c = search needs

@@ -8,7 +8,7 @@ use Rattle.binary_reader.proofs.rest.after_headers.Reads as reads
 use Rattle.binary_reader.proofs.rest.after_headers.Lts as lts
 
 read-content-requires : tie.Need-read-content-requires
-read-content-requires c κs = (c .before .before .before .before .pre .1, c .before .before .before .before .pre .2, c .before .before .before .before .pre .3)
+read-content-requires c κs = (c .before .before .before .before .pre .1, c .before .before .before .before .pre .2, c .before .before .before .before .pre .3, c .before .before .before .before .pre .5)
 
 enum-known-c : tie.Need-enum-known-c
 enum-known-c c = search needs
@@ -26,7 +26,7 @@ content-agrees-requires : tie.Need-content-agrees-requires
 content-agrees-requires c κs = search needs
 
 after-content-requires : tie.Need-after-content-requires
-after-content-requires c κs = (c .before .before .before .before .before .before .before .before .before .before .before .before .before .pre .0, content-done (c .before .before .before .before .before .before .before .before .read-content .ensures) (c .before .before .before .before .c2 .given .1) .within, c .before .before .before .before .before .before .before .before .before .before .before .before .before .pre .2, c .before .before .before .before .before .before .before .before .before .before .before .before .before .pre .4)
+after-content-requires c κs = (c .before .before .before .before .before .before .before .before .before .before .before .before .before .pre .0, content-done (c .before .before .before .before .before .before .before .before .read-content .ensures) (c .before .before .before .before .c2 .given .1) .within, c .before .before .before .before .before .before .before .before .before .before .before .before .before .pre .2, c .before .before .before .before .before .before .before .before .before .before .before .before .before .pre .4, content-done (c .before .before .before .before .before .before .before .before .read-content .ensures) (c .before .before .before .before .c2 .given .1) .few)
 
 same-length-2 : tie.Need-same-length-2
 same-length-2 c = search needs

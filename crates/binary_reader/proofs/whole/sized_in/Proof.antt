@@ -1,4 +1,5 @@
 use borrow.Author.Needs.{needs}
+use Rattle.numbers.proofs.IntegerLaws.{long-once, int-within}
 use native.Mathlib.Omega.{arith}
 use mathlib.Core.Path.{sym, _∙_}
 use borrow.Author.Tests.{leb-true}
@@ -26,7 +27,7 @@ returns : tie.Need-returns
 returns c = whole-cut (c .before .before .before .before .before .before .before .before .before .before .args .told) (c .before .before .before .before .before .before .before .before .before .before .args .s .now) (sym (c .before .before .before .before .fits2 .ensures) ∙ c .before .before .before .if1 .taken) (sym (c .before .before .read-int .ensures .0) ∙ c .enum-told .given .1)
 
 after-indicator-requires : tie.Need-after-indicator-requires
-after-indicator-requires c κs = (c .before .before .before .before .before .before .before .before .before .before .before .before .before .before .before .pre .0, omega (arith, leb-true (length (c .before .before .before .before .before .before .before .before .before .before .before .before .before .before .before .args .s .now)) binaryMost (sym (c .before .before .before .before .before .before .before .before .before .fits2 .ensures) ∙ c .before .before .before .before .before .before .before .before .if1 .taken)), c .before .before .before .before .before .before .before .before .before .before .before .before .before .before .before .pre .1, c .before .before .before .before .before .before .before .before .before .before .before .before .before .before .before .pre .2, c .before .before .before .before .before .before .before .before .before .before .before .before .before .before .before .pre .3, c .before .before .before .before .before .before .before .before .before .before .before .before .before .before .before .pre .4)
+after-indicator-requires c κs = (c .before .before .before .before .before .before .before .before .before .before .before .before .before .before .before .pre .0, omega (arith, leb-true (length (c .before .before .before .before .before .before .before .before .before .before .before .before .before .before .before .args .s .now)) binaryMost (sym (c .before .before .before .before .before .before .before .before .before .fits2 .ensures) ∙ c .before .before .before .before .before .before .before .before .if1 .taken)), c .before .before .before .before .before .before .before .before .before .before .before .before .before .before .before .pre .1, c .before .before .before .before .before .before .before .before .before .before .before .before .before .before .before .pre .2, c .before .before .before .before .before .before .before .before .before .before .before .before .before .before .before .pre .3, c .before .before .before .before .before .before .before .before .before .before .before .before .before .before .before .pre .4, omega (arith, long-once _ (c .before .before .before .before .before .before .before .read-int .ensures .1) (c .before .before .before .before .before .v .given .1), int-within (c .before .before .before .before .before .before .before .before .before .before .before .before .before .before .before .args .s .now) 0 (sym (c .before .before .before .before .before .before .before .read-int .ensures .0) ∙ c .before .before .before .before .before .v .given .1)))
 
 same-length : tie.Need-same-length
 same-length c = search needs
