@@ -374,7 +374,10 @@ fn night(random: &mut Random, most: usize) -> Result<usize, (usize, &'static str
                 if got.0 != expected {
                     return Err(fault("an append's answer"));
                 }
-                got
+                if got.4 != 0 {
+                    return Err(fault("an append's total of long integers"));
+                }
+                (got.0, got.1, got.2, got.3)
             }
             9..=15 => {
                 let entry = random.below(kept.len() + 2);
