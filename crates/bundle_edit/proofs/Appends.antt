@@ -342,14 +342,16 @@ pub fair-done : (room used f n : ℕ) (w : Written) → Fair room used f w → w
 fair-done room used f n w h e = subst (Fair room used f) e h
 
 module _ (b : List ℕ) (used f : ℕ) (m : List ℕ) {r : Plan} where
-  pub plan-served : {b′ : List ℕ} {w : Written} → used ≤ length b → ServedAt (behindBundle b used f m) used b b′ w → r ≡ planOf used f (longIn (readMessage m)) w
+  pub plan-served : {b′ : List ℕ} {w : Written} → used ≤ length b → ServedAt (behindBundle b used f m) used b b′ w
+      → (n : ℕ) → n ≡ longIn (readMessage m) → r ≡ planOf used f n w
       → (r ≡ appendPlan b used f m) × (b′ ≡ appended b used f m)
   unfolding appendPlan appended appendReply
-  plan-served u v e = rw (le-leb used (length b) u) (e ∙ ap (planOf used f (longIn (readMessage m))) (v .answer), v .after)
+  plan-served {w = w} u v n q e =
+      rw (le-leb used (length b) u) (e ∙ ap (λ (k : ℕ). planOf used f k w) q ∙ ap (planOf used f (longIn (readMessage m))) (v .answer), v .after)
 
-  pub plan-past : {n : ℕ} → length b < used → r ≡ planOf used f n (Refused noRoom 0) → (r ≡ appendPlan b used f m) × (b ≡ appended b used f m)
+  pub plan-past : (n : ℕ) → length b < used → r ≡ planOf used f n (Refused noRoom 0) → (r ≡ appendPlan b used f m) × (b ≡ appended b used f m)
   unfolding appendPlan appended appendReply writtenOf lentAfterAt
-  plan-past u e = rw (lt-leb used (length b) u) (e, refl)
+  plan-past n u e = rw (lt-leb used (length b) u) (e, refl)
 
 -- ---- the count of long integers
 
@@ -390,6 +392,3 @@ served-as {y} {k} {o} {o′} h e = subst (λ (x : Written). ServedAt y k o o′ 
 -- read as the bundle's messages are
 pub long-plain : (m : List ℕ) (t : Told) {r : Reading} → t ≡ toldPlain 0 → r ≡ readingOf (readBinary t m) → r .outcome ≡ readingOf (readMessage m) .outcome
 long-plain m t e q = ap (λ (x : Reading). x .outcome) q ∙ ap (λ (x : Told). readingOf (readBinary x m) .outcome) e
-
-pub plan-long : (m : List ℕ) {used f n : ℕ} {w : Written} {r : Plan} → n ≡ longIn (readMessage m) → r ≡ planOf used f n w → r ≡ planOf used f (longIn (readMessage m)) w
-plan-long m {used} {f} {w = w} e q = q ∙ ap (λ (k : ℕ). planOf used f k w) e
