@@ -17,7 +17,7 @@ pub record-size : (r : Record) → length (recordNumbers r) ≡ 20
 unfolding recordNumbers
 record-size r = go (r .stated)
   where
-    go : (t : StatedLength) → length (controlNumbers r ++ countNumbers r ++ statedNumbers t) ≡ 20
+    go : (t : StatedLength) → length (controlNumbers r ++ countNumbers r ++ statedNumbers t (r .long)) ≡ 20
     go Missing = refl
     go (Of n) = refl
 

@@ -102,7 +102,7 @@ States outcome.More x = ⊥
 
 -- an integer, whether its form is the shortest left out
 abbrev pub uncounted : Integer → Integer
-uncounted (Value v next long) = Value v next 0
+uncounted (Value v next l) = Value v next 0
 uncounted Cut = Cut
 
 -- so many integers of an accepted message are not in their shortest form
