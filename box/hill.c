@@ -3,7 +3,7 @@
  *
  *     target/box/hill < file of a number and a message
  *
- * Says the method, the value of `x-tag` or that there is none, and what is written: in HTTP/1.1, and as Binary, which is RFC 9292 in either edition. Status 0; 1 where the
+ * Says the method, how many integers are not in their shortest form if any, the value of `x-tag` or that there is none, and what is written: in HTTP/1.1, and as Binary, which is RFC 9292 in either edition. Status 0; 1 where the
  * message is refused, with the number and the place counted from the message's first octet; 2 where the input could not be read or what was written is not.
  */
 #include <stdint.h>
@@ -32,6 +32,8 @@ int main(void)
         return 1;
     }
     printf("%.*s, ", (int)ranges[3], (const char *)input + at + ranges[2]);
+    if (ranges[18] != 0) /* a maker that pads its lengths */
+        printf("%u long integers, ", (unsigned)ranges[18]);
     if (ospirnar_binary_field(input + at, len - at, 0, edition, (const uint8_t *)"x-tag", 5, &number, &place, &start, &length) == 1)
         printf("tag '%.*s'", (int)length, (const char *)input + at + start);
     else
