@@ -22,7 +22,8 @@ use Rattle.flock_table.specs.Tabulate.{tabulate}
 use Rattle.flock_table.specs.declared.Flock.{Flock}
 use Rattle.flock_table.proofs.Tabulated.{tabulate-at}
 use Rattle.flock_table.proofs.Counted.{flock-least, Short, both, picked-few, picked-each, table-length, table-at, totals-more, totals-plus, table-plus}
-use Rattle.bundle_edit.specs.Append.{appendReply, appendPlan, appended, planOf, newRecord, entered}
+use Rattle.bundle_edit.specs.Append.{appendReply, appendPlan, appended, planOf, longIn, newRecord, entered}
+use Rattle.bundle.specs.Bundle.{readMessage}
 use Rattle.bundle_edit.specs.Changes.{tableNumbers, recordAt, puts, takesOff, changed, changedFrom, refusedChanges, changesBy, rebuildChanges}
 use Rattle.bundle_edit.specs.Delivery.{noneThere, entryNumber, entryPlace, idlePlan, markPlanOf, markedOf, markPlan, marked, oneUndelivered, lessened, keptOctets, sweepChanges, swept}
 use Rattle.bundle_edit.specs.declared.Plan.{Plan}
@@ -154,7 +155,7 @@ module _ (x : Night) (f : ℕ) (m : List ℕ) (t : IsTrue x) (k : ℕ) (a : Adde
 -- by what the append answers
 abbrev leftBy : Night → ℕ → List ℕ → Written → Night
 leftBy x f m w =
-    record { buffer = appended (length (x .table)) (x .buffer) (x .used) f m; used = planOf (x .used) f w .used; table = entered (planOf (x .used) f w) (x .table) }
+    record { buffer = appended (length (x .table)) (x .buffer) (x .used) f m; used = planOf (x .used) f (longIn (readMessage m)) w .used; table = entered (planOf (x .used) f (longIn (readMessage m)) w) (x .table) }
 
 kept-by : (x : Night) (f : ℕ) (m : List ℕ) (w : Written) → IsTrue x → appendAnswer (length (x .table)) (x .buffer) (x .used) f m ≡ w → IsTrue (leftBy x f m w)
 kept-by x f m (Done k) t e =
@@ -333,8 +334,8 @@ answers : (x : Night) (f : ℕ) → IsTrue x → isFlock f ≡ true → totalsAn
 unfolding slotOf
 answers x f t h = rw (t .table, eq-eqb (length (tableOf (entriesIn x))) 127 (table-length (entriesIn x)), h, table-at (entriesIn x) f h)
 
-plainly-by : (x : Night) (f : ℕ) (m : List ℕ) (w : Written) → IsTrue x → appendAnswer (length (x .table)) (x .buffer) (x .used) f m ≡ w → planOf (x .used) f w .go ≡ true
-    → getD (leftBy x f m w .table) (f - 1) none ≡ both (getD (x .table) (f - 1) none) (newRecord (planOf (x .used) f w .size))
+plainly-by : (x : Night) (f : ℕ) (m : List ℕ) (w : Written) → IsTrue x → appendAnswer (length (x .table)) (x .buffer) (x .used) f m ≡ w → planOf (x .used) f (longIn (readMessage m)) w .go ≡ true
+    → getD (leftBy x f m w .table) (f - 1) none ≡ both (getD (x .table) (f - 1) none) (newRecord (planOf (x .used) f (longIn (readMessage m)) w .size))
 plainly-by x f m (Done k) t e g =
     let a = appending .adds (length (x .table)) (x .buffer) (x .used) f m k e in
     let b = flock-least f (hf x f m t k a) in
@@ -347,7 +348,7 @@ plainly : (x : Night) (f : ℕ) (m : List ℕ) → IsTrue x → planIn x f m .go
 unfolding appendPlan
 plainly x f m t g = plainly-by x f m (appendAnswer (length (x .table)) (x .buffer) (x .used) f m) t refl g
 
-unchanged-by : (x : Night) (f : ℕ) (m : List ℕ) (w : Written) → appendAnswer (length (x .table)) (x .buffer) (x .used) f m ≡ w → planOf (x .used) f w .go ≡ false → leftBy x f m w ≡ x
+unchanged-by : (x : Night) (f : ℕ) (m : List ℕ) (w : Written) → appendAnswer (length (x .table)) (x .buffer) (x .used) f m ≡ w → planOf (x .used) f (longIn (readMessage m)) w .go ≡ false → leftBy x f m w ≡ x
 unchanged-by x f m (Done k) e g = absurd (no-true (sym g))
 unchanged-by x f m (Refused k p) e g = rw (appending .refused (length (x .table)) (x .buffer) (x .used) f m k p e)
 
