@@ -241,6 +241,8 @@ struct Message {
     method: Part,
     authority: Part,
     path: Part,
+    /// What is put before the octets of `path`.
+    before: &'static [u8],
     status: u32,
     stated: Option<u64>,
     long: u32,
@@ -296,7 +298,7 @@ fn message(ranges: &[u32], input_len: usize) -> Result<(Message, usize), &'stati
     let chunk_count = taker.number_up_to(256)?;
     let content = taker.number()? as usize;
     let trailer_count = taker.number_up_to(64)?;
-    taker.number_up_to(0)?;
+    let before: &[u8] = [&b""[..], b"/", b"*"][taker.number_up_to(if request { 2 } else { 0 })? as usize];
     let is_stated = taker.number_up_to(if request { 0 } else { 1 })?;
     let length = taker.number()? as u64 | (taker.number()? as u64) << 32;
     if length > if is_stated == 1 { 999_999_999_999_999 } else { 0 } {
@@ -322,7 +324,7 @@ fn message(ranges: &[u32], input_len: usize) -> Result<(Message, usize), &'stati
     if chunks.iter().map(|chunk| chunk.len).sum::<usize>() != content {
         return Err("range");
     }
-    Ok((Message { request, scheme, method, authority, path, status, stated, long, info, headers, chunks, trailers }, taker.next))
+    Ok((Message { request, scheme, method, authority, path, before, status, stated, long, info, headers, chunks, trailers }, taker.next))
 }
 
 // ---------------------------------------------------------------------------------------- the answers
@@ -377,7 +379,7 @@ fn meaning(out: &mut String, input: &[u8], m: &Message) {
         out.push_str(",\"k\":\"req\",\"method\":");
         part_hex(out, input, m.method);
         out.push_str(",\"path\":");
-        part_hex(out, input, m.path);
+        hex(out, m.before.iter().chain(m.path.of(input)).copied());
         out.push_str(",\"scheme\":\"");
         out.push_str(if m.scheme == 0 { "http" } else { "https" });
         out.push('"');
@@ -412,6 +414,10 @@ fn numbers(out: &mut String, m: &Message) {
     if m.request {
         out.push_str("\"authority\":");
         part_numbers(out, &m.authority);
+        if !m.before.is_empty() {
+            out.push_str(",\"before\":");
+            hex(out, m.before.iter().copied());
+        }
         out.push(',');
     }
     out.push_str("\"chunks\":");

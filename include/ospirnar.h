@@ -16,14 +16,14 @@
  *   ranges[1]        scheme of a request: 0 http, 1 https; 0 in a response
  *   ranges[2..4]     method       (start, length; 0 and 0 in a response)
  *   ranges[4..6]     authority
- *   ranges[6..8]     path
+ *   ranges[6..8]     path: the target's own octets, see ranges[14]
  *   ranges[8]        status of a response; 0 in a request
  *   ranges[9]        informational heads: I
  *   ranges[10]       header fields of the (final) head: H
  *   ranges[11]       non-empty content chunks: C
  *   ranges[12]       octets of content
  *   ranges[13]       trailer fields: T
- *   ranges[14]       0 (kept for document 02, item 2)
+ *   ranges[14]       what is put before the octets of the path's part: 0 nothing, 1 "/", 2 "*"; the path is both
  *   ranges[15]       1 where a response states the length of content that it does not have: a final response to a HEAD, or 304; else 0
  *   ranges[16]       that length, its low 32 bits: it has at most 15 digits, which 32 bits do not hold
  *   ranges[17]       its high 32 bits
@@ -56,13 +56,18 @@ extern "C" {
  * of 2021 (draft-thomson-http-binary-message-00), in which a value can't be empty, nothing may follow the trailers and a message may also end before its final
  * header section; another number is 17 at 0, before all else. RFC 9292 is what is written, and what bundles hold. */
 
-/* The first HTTP/1.1 request of a stream, under the scheme told. */
+/* The first HTTP/1.1 request of a stream, under the scheme told. Its target is a path; `*`, where the method is OPTIONS; or http or https in any case of letters,
+ * `://`, an authority, and then a path, a query or neither. That authority is the request's: Host stands once and is otherwise ignored. Where it has no path, `/`
+ * is put before the query, or stands alone; where it has no query either and the method is OPTIONS, `*` does. ranges[14] says which; the part of the path is then the
+ * query, or empty and at the target's end. A target is refused at the request line: 4 where it is none of these, 2 for its octets, 6 for its authority (empty and
+ * above 255 octets too), 8 for its path, what is put before it counted, and last 14 for a scheme that is not the one told. We write a path or `*`. */
 uint32_t ospirnar_read_request(const uint8_t *input, size_t input_len, uint32_t scheme, uint32_t *ranges, size_t ranges_len, size_t *place);
 
 /* The first HTTP/1.1 response of a stream. */
 uint32_t ospirnar_read_response(const uint8_t *input, size_t input_len, uint32_t head, uint32_t closed, uint32_t *ranges, size_t ranges_len, size_t *place);
 
-/* One Binary HTTP message of the edition told: the whole input, zero padding included, so that an accepted message is as long as the input and there is no call for more. */
+/* One Binary HTTP message of the edition told: the whole input, zero padding included, so that an accepted message is as long as the input and there is no call for more.
+ * Its path may be `*` where the method is OPTIONS; ranges[14] is 0. */
 uint32_t ospirnar_read_binary(const uint8_t *input, size_t input_len, uint32_t head, uint32_t edition, uint32_t *ranges, size_t ranges_len, size_t *place);
 
 /* Turning. The message is read by the reader of its form and written in the other, or anew, into `output`: 0 and *place the number of octets written, all behind

@@ -11,8 +11,8 @@ use Rattle.octets.specs.Limits.{methodMost, authorityMost, pathMost, linesMost,
 use Rattle.octets.specs.Refusals.{badSyntax, notSupported, badLength, tooLarge, cutOff, badIndicator, badSection, badPadding, badEdition}
 use Rattle.script.specs.Script.{Answer, accepted, refused}
 use Rattle.script.specs.Do.{Piece, Judged, good, wrong}
-use Rattle.messages.specs.Message.{FieldRead, Section, InformationalRead, Start, requestStart, responseStart, Message, countedMessage, nonEmpty}
-use Rattle.messages.specs.Control.{methodVerdict, pathVerdict, authorityVerdict, statusVerdict, isInformational, endsAtHead, isLowerName, isTrimmedValue}
+use Rattle.messages.specs.Message.{wholePath, FieldRead, Section, InformationalRead, Start, requestStart, responseStart, Message, countedMessage, nonEmpty}
+use Rattle.messages.specs.Control.{methodVerdict, isOptions, pathVerdict, authorityVerdict, statusVerdict, isInformational, endsAtHead, isLowerName, isTrimmedValue}
 use Rattle.messages.specs.Names.{areTrailers, keptTrailers}
 use Rattle.messages.specs.Rules.{authorityIn, binaryFramingOf, nothingStated, bodylessRule, mayState, agrees, statedIn}
 use Rattle.messages.specs.declared.Framing.{Framing}
@@ -86,7 +86,7 @@ pub record RequestControl : Type 0 where
 unfoldable pub afterScheme : Piece → ℕ → Reader RequestControl
 afterScheme m s = do
   a ← ruledPart authorityMost authorityVerdict
-  p ← ruledPart pathMost pathVerdict
+  p ← ruledPart pathMost (pathVerdict (isOptions (m .text)))
   give (record { method = m; scheme = s; authority = a; path = p })
 
 -- method, scheme, authority, path: each judged before the next is read
@@ -288,7 +288,7 @@ unfoldable pub afterHead : Form → RequestControl → Section → Reader Messag
 afterHead form q h = do
   a ← tell (authorityIn (h .end) (q .authority) (h .lines))
   f ← tell (mayState (h .end) (binaryFramingOf (h .lines)))
-  afterHeaders form true Missing (requestStart (q .method) (q .scheme) a (q .path)) h f
+  afterHeaders form true Missing (requestStart (q .method) (q .scheme) a (wholePath (q .path))) h f
 
 -- behind the control data of a request
 unfoldable pub afterControl : Form → RequestControl → Reader Message

@@ -1,12 +1,12 @@
 -- The control data of a request, part by part.
-use Prim.Native.Nat.{ℕ, _+_, _<_, _≤_}
-use mathlib.Core.Path.{_≡_, refl, sym, ap, subst}
+use Prim.Native.Nat.{ℕ, _+_, _<_, _≤_, _-_}
+use mathlib.Core.Path.{_≡_, refl, sym, ap, subst, _∙_}
 use mathlib.Core.List.{List}
 use native.Mathlib.Omega.{arith}
-use lib.ListN.{length, drop}
+use lib.ListN.{length, drop, take}
 use Rattle.octets.specs.Limits.{methodMost, authorityMost, pathMost}
 use Rattle.script.specs.Do.{Piece, piece}
-use Rattle.messages.specs.Control.{methodVerdict, authorityVerdict, pathVerdict}
+use Rattle.messages.specs.Control.{methodVerdict, authorityVerdict, pathVerdict, isOptions}
 use Rattle.binary.specs.declared.Cursor.{Cursor}
 use Rattle.binary.specs.Reader.{Got, got, no, cursor, _>>=_}
 use Rattle.binary.specs.Read.{RequestControl, ruledPart, schemePart, afterScheme, requestControl}
@@ -20,6 +20,8 @@ use Rattle.binary_parts.specs.declared.ControlRead.{ControlRead}
 use Rattle.binary_parts.specs.declared.ControlRead.the-variants as control-is
 use Rattle.binary_parts.proofs.Places.{part-length, stands-in, part-no, part-got}
 use Rattle.binary_parts.proofs.Judged.{schemed-no, schemed-got}
+use mathlib.Core.Bool.{Bool}
+use native.Mathlib.Nat.{add-sub-cancel-left}
 
 abbrev span : ℕ → ℕ → Span
 span a n = record { start = a; len = n }
@@ -50,15 +52,19 @@ module _ (s : List ℕ) (from : Cursor) (m : Span) (v : ℕ) (f : Inside s m) (g
   unfolding afterScheme _>>=_
   authority-no e = controlled-no (rw (part-no a e))
 
-  module _ {i k x : ℕ} (e : r ≡ Is i k x) {q : PartRead} (p : Parted s (ruledPart pathMost pathVerdict (cursor (i + k) x) (drop (i + k) s)) q) where
+  module _ {i k x : ℕ} (e : r ≡ Is i k x) {o : Bool} (z : o ≡ isOptions (take (m .start + m .len - m .start) (drop (m .start) s))) {q : PartRead}
+      (p : Parted s (ruledPart pathMost (pathVerdict o) (cursor (i + k) x) (drop (i + k) s)) q) where
+    options-is : isOptions (take (m .len) (drop (m .start) s)) ≡ o
+    options-is = sym (z ∙ ap (λ (n : ℕ). isOptions (take n (drop (m .start) s))) (add-sub-cancel-left (m .start) (m .len)))
+
     pub path-no : {n o : ℕ} → q ≡ Refused n o → Controlled s (afterScheme (pieceOf s m) v from (drop (from .at) s)) (control-is.Refused n o)
     unfolding afterScheme _>>=_
-    path-no d = controlled-no (rw (part-got a e .0, part-no p d))
+    path-no d = controlled-no (rw (part-got a e .0, options-is, part-no p d))
 
     pub rest-got : {j n y : ℕ} → q ≡ Is j n y → Controlled s (afterScheme (pieceOf s m) v from (drop (from .at) s)) (control-is.Done m v (span i k) (span j n) (cursor (j + n) y))
     unfolding afterScheme _>>=_
     rest-got {j} {n} {y} d =
-        controlled-got s m (span i k) (span j n) f g (part-got a e .1) (part-got p d .1) (part-got p d .1) (part-got p d .2) (rw (part-got a e .0, part-got p d .0))
+        controlled-got s m (span i k) (span j n) f g (part-got a e .1) (part-got p d .1) (part-got p d .1) (part-got p d .2) (rw (part-got a e .0, options-is, part-got p d .0))
 
 -- ---- method and scheme
 

@@ -42,13 +42,13 @@ pub record Parted (s : List ℕ) (x : Got Piece) (r : PartRead) : Type 0 where
 abbrev pub mostOf : Ruled → ℕ
 mostOf Method = methodMost
 mostOf Authority = authorityMost
-mostOf Path = pathMost
+mostOf (Path o) = pathMost
 
 -- the number that the rule of a part gives its octets
 abbrev pub verdictOf : Ruled → List ℕ → ℕ
 verdictOf Method = methodVerdict
 verdictOf Authority = authorityVerdict
-verdictOf Path = pathVerdict
+verdictOf (Path o) = pathVerdict o
 
 -- a scheme that was read from s: its number, behind which the reading goes on
 abbrev pub SchemeSays : List ℕ → Got ℕ → SchemeRead → Type 0

@@ -8,6 +8,7 @@ use crate::parts::part_at;
 use crate::parts::part_within;
 use binary::Cursor;
 use messages::parts::authority_verdict;
+use messages::parts::is_options;
 use messages::parts::method_verdict;
 use messages::parts::path_verdict;
 use octets::Limits;
@@ -26,7 +27,7 @@ fn most_of(what: Ruled) -> usize
     match what {
         Ruled::Method => Limits::METHOD,
         Ruled::Authority => Limits::AUTHORITY,
-        Ruled::Path => Limits::PATH,
+        Ruled::Path(_) => Limits::PATH,
     }
 }
 
@@ -38,7 +39,7 @@ fn verdict_of(t: &[u8; 256], what: Ruled, w: &[u8]) -> u32
     match what {
         Ruled::Method => method_verdict(t, w),
         Ruled::Authority => authority_verdict(t, w),
-        Ruled::Path => path_verdict(t, w),
+        Ruled::Path(options) => path_verdict(t, options, w),
     }
 }
 
@@ -107,11 +108,14 @@ fn after_scheme(t: &[u8; 256], s: &[u8], from: Cursor, method: Span, scheme: u32
     match a {
         PartRead::Refused { number, place } => return ControlRead::Refused { number, place },
         PartRead::Is { start, len, long } => {
+            let first = method.start;
+            let last = first + method.len;
+            let options = is_options(&s[first..last]);
             let behind = Cursor {
                 at: start + len,
                 long,
             };
-            let p = ruled_part(t, s, behind, Ruled::Path);
+            let p = ruled_part(t, s, behind, Ruled::Path(options));
             match p {
                 PartRead::Refused { number, place } => return ControlRead::Refused {
                     number,

@@ -27,11 +27,11 @@ enum PartRead {
     },
 }
 
-// The parts of control data that have a size and a rule of their octets.
+// The parts of control data that have a size and a rule of their octets; the path's goes by whether the method is OPTIONS.
 enum Ruled {
     Method,
     Authority,
-    Path,
+    Path(bool),
 }
 
 // A scheme that was read, by its number, and the place behind it.

@@ -6,7 +6,7 @@ use mathlib.Core.List.{List, [], _∷_}
 use native.Mathlib.Omega.{arith}
 use lib.ListN.{length, drop}
 use Rattle.script.specs.Do.{Piece, piece, Judged, good, wrong}
-use Rattle.messages.specs.Message.{FieldRead, Section, requestStart, isResponse, Message}
+use Rattle.messages.specs.Message.{FieldRead, Section, requestStart, isResponse, Message, wholePath}
 use Rattle.messages.specs.Names.{kept}
 use Rattle.messages.specs.Notes.{AllLie}
 use Rattle.messages.specs.Rules.{authorityIn, binaryFramingOf, mayState}
@@ -47,11 +47,11 @@ head-refuses : (form : Form) (q : RequestControl) (h : Section) (at : Cursor) (l
     → bothRules (authorityIn (h .end) (q .authority) (h .lines)) (mayState (h .end) (binaryFramingOf (h .lines))) ≡ wrong n p → afterHead form q h at l ≡ no n p
 unfolding afterHead
 head-refuses form q h at l e =
-    rules-refuse (λ a f. afterHeaders form true Missing (requestStart (q .method) (q .scheme) a (q .path)) h f) at l (authorityIn (h .end) (q .authority) (h .lines)) (mayState (h .end) (binaryFramingOf (h .lines))) e
+    rules-refuse (λ a f. afterHeaders form true Missing (requestStart (q .method) (q .scheme) a (wholePath (q .path))) h f) at l (authorityIn (h .end) (q .authority) (h .lines)) (mayState (h .end) (binaryFramingOf (h .lines))) e
 
 head-passes : (form : Form) (q : RequestControl) (h : Section) (at : Cursor) (l : List ℕ) {a : Piece} {f : Framing}
     → authorityIn (h .end) (q .authority) (h .lines) ≡ good a → mayState (h .end) (binaryFramingOf (h .lines)) ≡ good f
-    → afterHead form q h at l ≡ afterHeaders form true Missing (requestStart (q .method) (q .scheme) a (q .path)) h f at l
+    → afterHead form q h at l ≡ afterHeaders form true Missing (requestStart (q .method) (q .scheme) a (wholePath (q .path))) h f at l
 unfolding afterHead _>>=_
 head-passes form q h at l u v = rw (u, v)
 
@@ -62,7 +62,7 @@ part-back s a h = ap (partAt (a .start)) (part-length s (a .start) (a .len) h)
 rest-says : (s : List ℕ) (m p : Span) (v : ℕ) (w : List ℕ) (a n k : ℕ) (lines : List FieldRead) (x : Got Message) (cs cs′ ts ts′ : List ℕ) (c : RestRead) (r : Outcome)
     → m .start + m .len ≤ length s → p .start + p .len ≤ length s → length w ≡ n → length (kept false lines) ≡ k
     → r ≡ requestOutcome (length s) v m (record { start = a; len = n }) p k c
-    → RestSays s Missing (requestStart (pieceOf s m) v (piece a w) (pieceOf s p)) lines x cs cs′ ts ts′ c → MessageSays false [] lines x cs cs′ ts ts′ r
+    → RestSays s Missing (requestStart (pieceOf s m) v (piece a w) (wholePath (pieceOf s p))) lines x cs cs′ ts ts′ c → MessageSays false [] lines x cs cs′ ts ts′ r
 unfolding recordOf
 rest-says s m p v w a n k lines (got x e l) cs cs′ ts ts′ c r f g h i o u =
     (o ∙ rw (u .0, u .3, u .4, u .5, u .6, i, part-back s m f, part-back s p g, h) refl, u .1, u .2, u .4, ap isResponse (u .3), ap informationalIn (u .3))
@@ -90,7 +90,7 @@ module _ (s : List ℕ) (form : Form) (m a p : Span) (v : ℕ) (end : Cursor) (f
       record {
         by = λ h y.
             let u = said e h y in
-            let z = requestStart (pieceOf s m) v (piece i (u .0)) (pieceOf s p) in
+            let z = requestStart (pieceOf s m) v (piece i (u .0)) (wholePath (pieceOf s p)) in
             message-as (head-passes form (controlOf s m v a p) h end (drop (end .at) s) (u .1) (u .3))
             (record { says = rest-says s m p v (u .0) i n fields (h .lines) (afterHeaders form true Missing z h (notes .framing) end (drop (end .at) s)) cs cs′ ts ts′ c o f g (u .2) (y .fields) q (w .by Missing z h .says) });
       }

@@ -8,6 +8,7 @@ use Rattle.script.specs.Do.{Piece, piece, Judged, good, wrong}
 use Rattle.messages.specs.Message.{FieldRead, Section, Message}
 use Rattle.messages.specs.Names.{kept}
 use Rattle.messages.specs.Answers.{partAt, requestRecord}
+use Rattle.messages.specs.declared.PathPrefix.the-variants as prefix
 use Rattle.messages.specs.Notes.{notesOf, AllLie}
 use Rattle.messages.specs.Rules.{authorityIn, binaryFramingOf, mayState}
 use Rattle.messages.specs.declared.Framing.{Framing}
@@ -62,7 +63,7 @@ partIs a = partAt (a .start) (a .len)
 -- the outcome of a request of n octets, by its numbers
 abbrev pub requestOutcome : ℕ → ℕ → Span → Span → Span → ℕ → RestRead → Outcome
 requestOutcome n scheme method authority path fields (rest-is.Done chunks total trailers long) =
-    outcome.Message (requestRecord scheme (partIs method) (partIs authority) (partIs path) (counted Missing fields chunks total trailers n long))
+    outcome.Message (requestRecord scheme (partIs method) (partIs authority) prefix.Nothing (partIs path) (counted Missing fields chunks total trailers n long))
 requestOutcome n scheme method authority path fields (rest-is.Refused k p) = outcome.Refusal k p
 
 -- ---- behind the head

@@ -14,6 +14,7 @@ use messages::Counts;
 use messages::Notes;
 use messages::Outcome;
 use messages::Part;
+use messages::PathPrefix;
 use messages::StatedLength;
 use messages::answers::request_record;
 use messages::sections::authority_in;
@@ -99,6 +100,7 @@ fn request_outcome(
                 scheme,
                 part_of(method),
                 part_of(authority),
+                PathPrefix::Nothing,
                 part_of(path),
                 counts,
             ));

@@ -14,7 +14,7 @@ use Rattle.octets.proofs.Kit.{and-split}
 use Rattle.numbers.specs.Integer.{integerEnd, intBytes}
 use Rattle.numbers.proofs.IntegerLaws.{int-length, int-some}
 use Rattle.script.specs.Do.{piece, good}
-use Rattle.messages.specs.Message.{Section, InformationalRead, Start, requestStart, responseStart, nonEmpty, statingMessage}
+use Rattle.messages.specs.Message.{Section, InformationalRead, Start, requestStart, responseStart, nonEmpty, statingMessage, wholePath}
 use Rattle.messages.specs.Control.{statusVerdict, isInformational, endsAtHead}
 use Rattle.messages.specs.Names.{keptTrailers}
 use Rattle.messages.specs.Rules.{authorityFrom, authorityIn, binaryFramingOf, mayState, nothingStated, bodylessRule, statedIn}
@@ -155,7 +155,7 @@ requestBytes m s a p = counted m ++ (counted (schemeBytes s) ++ (counted a ++ co
 abbrev pub requestAt : ℕ → List ℕ → ℕ → List ℕ → List ℕ → Start
 requestAt at m s a p =
     requestStart (countedAt at m) s (countedAt (at + length (counted m) + length (counted (schemeBytes s))) a)
-    (countedAt (at + length (counted m) + length (counted (schemeBytes s)) + length (counted a)) p)
+    (wholePath (countedAt (at + length (counted m) + length (counted (schemeBytes s)) + length (counted a)) p))
 
 pub reads-request-message : (w : Meaning) (m a p : List ℕ) (s at : ℕ) → validControl (request m s a p) ≡ true → TailOk false true w → w .stated ≡ Missing
     → Reads (requestMessage (rfc9292 true)) at (requestBytes m s a p ++ tailBytes w) [] (placedFrom (requestAt at m s a p) (at + length (requestBytes m s a p)) w)

@@ -14,7 +14,7 @@ use Rattle.octets.specs.Limits.{methodMost, authorityMost, pathMost}
 use Rattle.octets.specs.Refusals.{cutOff}
 use Rattle.numbers.specs.Integer.{integerEnd}
 use Rattle.script.specs.Do.{good}
-use Rattle.messages.specs.Control.{methodVerdict, pathVerdict, authorityVerdict}
+use Rattle.messages.specs.Control.{methodVerdict, pathVerdict, authorityVerdict, isOptions}
 use Rattle.messages.specs.Valid.{isScheme, validControl}
 use Rattle.messages.proofs.Verdicts.{method-rule, path-rule}
 use Rattle.messages.proofs.Valid.{request-ok}
@@ -79,4 +79,4 @@ reads-request m a p s at rest v =
     reads-bind _ (reads-ruled methodMost methodVerdict at m _ (method-rule m (o .method) .2) (lit< tt) (o .method))
     (reads-bind _ (reads-scheme s _ _ (o .scheme))
     (reads-bind _ (reads-ruled authorityMost authorityVerdict _ a _ (o .host .short) (lit< tt) (o .host .judged))
-    (behind _ (reads-ruled pathMost pathVerdict _ p rest (path-rule p (o .path) .3) (lit< tt) (o .path)) (reads-give _ rest _))))
+    (behind _ (reads-ruled pathMost (pathVerdict (isOptions m)) _ p rest (path-rule (isOptions m) p (o .path) .3) (lit< tt) (o .path)) (reads-give _ rest _))))

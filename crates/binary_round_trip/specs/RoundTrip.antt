@@ -8,7 +8,7 @@ use lib.ListN.{length}
 use Rattle.numbers.specs.Integer.{intBytes}
 use Rattle.script.specs.Script.{accepted, means}
 use Rattle.script.specs.Do.{Piece, piece}
-use Rattle.messages.specs.Message.{FieldRead, InformationalRead, Start, requestStart, responseStart, Message, nonEmpty}
+use Rattle.messages.specs.Message.{FieldRead, InformationalRead, Start, requestStart, responseStart, Message, nonEmpty, wholePath}
 use Rattle.messages.specs.Meaning.{Field, Informational, Control, request, response, Meaning, meaning, statedFields}
 use Rattle.messages.specs.Valid.{valid, suits}
 use Rattle.messages.specs.declared.Told.{Told}
@@ -48,7 +48,7 @@ headsAt at (h ∷ hs) = headAt at h ∷ headsAt (at + length (intBytes (h .statu
 unfoldable pub startOf : Control → Start
 startOf (request m s a p) =
     requestStart (countedAt 1 m) s (countedAt (1 + length (counted m) + length (counted (schemeBytes s))) a)
-    (countedAt (1 + length (counted m) + length (counted (schemeBytes s)) + length (counted a)) p)
+    (wholePath (countedAt (1 + length (counted m) + length (counted (schemeBytes s)) + length (counted a)) p))
 startOf (response hs s) = responseStart (headsAt 1 hs) s
 
 -- the lines of the final header: a stated length goes first

@@ -12,7 +12,7 @@ use Rattle.octets.specs.Text.{sameText}
 use Rattle.octets.specs.Limits.{methodMost, authorityMost, pathMost}
 use Rattle.octets.specs.Refusals.{notSupported}
 use Rattle.script.specs.Do.{Piece, good, wrong}
-use Rattle.messages.specs.Control.{methodVerdict, pathVerdict, authorityVerdict}
+use Rattle.messages.specs.Control.{methodVerdict, pathVerdict, authorityVerdict, isOptions}
 use Rattle.messages.specs.Valid.{isScheme}
 use Rattle.binary.specs.declared.Cursor.{Cursor}
 use Rattle.binary.specs.Read.{part, partWithin, ruledPart, schemeOf, schemePart, RequestControl, afterScheme, requestControl}
@@ -29,7 +29,7 @@ pub record ControlAt (s : List ℕ) (q : RequestControl) : Type 0 where
   pub method : RuledAt s methodMost methodVerdict (q .method)
   pub scheme : isScheme (q .scheme) ≡ true
   pub authority : RuledAt s authorityMost authorityVerdict (q .authority)
-  pub path : RuledAt s pathMost pathVerdict (q .path)
+  pub path : RuledAt s pathMost (pathVerdict (isOptions (q .method .text))) (q .path)
 
 scheme-is : (w : List ℕ) (p v : ℕ) → schemeOf w p ≡ good v → isScheme v ≡ true
 unfolding schemeOf isScheme
@@ -77,5 +77,5 @@ module _ {s : List ℕ} {e : ℕ} where
       stops-then _ (every-ruled methodMost methodVerdict) λ i m a.
       stops-then _ every-scheme λ j v b.
       stops-then _ (every-ruled authorityMost authorityVerdict) λ k h c.
-      stops-then _ (every-ruled pathMost pathVerdict) λ l p d.
+      stops-then _ (every-ruled pathMost (pathVerdict (isOptions (m .text)))) λ l p d.
       stops-give (record { method = a; scheme = b; authority = c; path = d })

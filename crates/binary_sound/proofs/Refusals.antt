@@ -15,7 +15,7 @@ use Rattle.script.specs.Script.{refused, Settled}
 use Rattle.script.specs.Do.{Piece, piece, good, wrong}
 use Rattle.script.proofs.Places.{lies-all, lies-in}
 use Rattle.messages.specs.Message.{FieldRead, Section, InformationalRead, Start, Message}
-use Rattle.messages.specs.Control.{methodVerdict, pathVerdict, authorityVerdict, statusVerdict, isInformational, endsAtHead, isLowerName}
+use Rattle.messages.specs.Control.{methodVerdict, pathVerdict, authorityVerdict, statusVerdict, isInformational, endsAtHead, isLowerName, isOptions}
 use Rattle.messages.specs.Meaning.{contentOf}
 use Rattle.messages.specs.Names.{areTrailers, keptTrailers}
 use Rattle.messages.specs.Rules.{authorityIn, binaryFramingOf, nothingStated, bodylessRule, mayState, statedIn}
@@ -169,7 +169,7 @@ module _ {s : List ℕ} {e : ℕ} where
       stops-then _ (stops-ruled methodMost methodVerdict method-verdict) λ i m a.
       stops-then _ stops-scheme λ j v b.
       stops-then _ (stops-ruled authorityMost authorityVerdict authority-verdict) λ k h c.
-      stops-then _ (stops-ruled pathMost pathVerdict path-verdict) λ l p d.
+      stops-then _ (stops-ruled pathMost (pathVerdict (isOptions (m .text))) (path-verdict (isOptions (m .text)))) λ l p d.
       stops-give tt
 
   -- ---- sections

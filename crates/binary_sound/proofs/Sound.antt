@@ -15,7 +15,7 @@ use Rattle.octets.proofs.Texts.{some}
 use Rattle.script.specs.Script.{accepted, refused}
 use Rattle.script.specs.Do.{Piece, good}
 use Rattle.script.proofs.Places.{lies-all}
-use Rattle.messages.specs.Message.{FieldRead, Section, InformationalRead, requestStart, responseStart, Message, countedMessage}
+use Rattle.messages.specs.Message.{FieldRead, Section, InformationalRead, requestStart, responseStart, Message, countedMessage, wholePath}
 use Rattle.messages.specs.Control.{isHost, statusVerdict, isInformational, isBodyless, endsAtHead}
 use Rattle.messages.specs.Names.{linesOf, kept, keptTrailers}
 use Rattle.messages.specs.Rules.{authorityIn, binaryFramingOf, nothingStated, bodylessRule, mayState, statedIn}
@@ -99,7 +99,7 @@ scheme-number (suc (suc v)) h = let z = ltb-true (suc (suc v)) 2 h in absurd (om
 
 request-at : (w : Told) (s : List ℕ) (z : ℕ) → z ≤ binaryMost → (q : RequestControl) (h : Section) (a : Piece) (f : Framing) (cs : List Piece) (ts : List FieldRead) → ControlAt s q
     → LinesAt s (h .lines) → AuthorityAt s (h .lines) a → binaryFramingOf (h .lines) ≡ f → TailAt s true f cs ts
-    → MessageAt w s (countedMessage z Missing (requestStart (q .method) (q .scheme) a (q .path)) (h .lines) cs ts)
+    → MessageAt w s (countedMessage z Missing (requestStart (q .method) (q .scheme) a (wholePath (q .path))) (h .lines) cs ts)
 unfolding suits meaning
 request-at w s z small q h a f cs ts c l o g t = record {
   parts = record {

@@ -20,9 +20,11 @@ use Rattle.messages.specs.declared.StatedLength.{StatedLength}
 use Rattle.messages.specs.declared.StatedLength.the-variants.{Missing, Of}
 use Rattle.messages.specs.declared.Part.{Part}
 use Rattle.messages.specs.declared.Record.{Record}
-use Rattle.ranges.specs.Entries.{fieldIn, fieldsIn, headsIn, partIn, controlIn, meaningIn, MessageWithin}
+use Rattle.ranges.specs.Entries.{fieldIn, fieldsIn, headsIn, partIn, controlIn, meaningIn, MessageWithin, pathIn, pathSize}
 use Rattle.binary_writer.specs.Write.{counted, fieldBytes, fieldsBytes, sectionBytes, schemeBytes, informationalBytes, controlBytes, binaryOf}
 use Rattle.binary_writer.specs.Sizes.{countedSize, entrySize, fieldsSize, sectionSize, statedSize, headerSize, headsSize, schemeSize, controlSize, messageSize}
+use Rattle.messages.specs.declared.PathPrefix.{PathPrefix}
+use Rattle.messages.specs.Message.{prefixOctets}
 
 counted-length : (w : List ℕ) (n : ℕ) → length w ≡ n → length (counted w) ≡ countedSize n
 unfolding counted
@@ -124,6 +126,12 @@ scheme-length n = go (eqb n 0)
 part-counted : (s : List ℕ) (p : Part) → length (counted (partIn s p)) ≡ countedSize (p .len)
 part-counted s p = counted-length (partIn s p) (p .len) (part-length s (p .start) (p .len))
 
+pub path-long : (s : List ℕ) (prefix : PathPrefix) (p : Part) → length (pathIn s prefix p) ≡ pathSize prefix p
+path-long s prefix p = length-append (prefixOctets prefix) (partIn s p) ∙ rw (part-length s (p .start) (p .len))
+
+path-counted : (s : List ℕ) (prefix : PathPrefix) (p : Part) → length (counted (pathIn s prefix p)) ≡ countedSize (pathSize prefix p)
+path-counted s prefix p = counted-length (pathIn s prefix p) (pathSize prefix p) (path-long s prefix p)
+
 control-length : (x : Bool) (s : List ℕ) (r : Record) (hs ns : List ℕ) → length (controlBytes (controlIn x s r hs ns)) ≡ controlSize x r hs ns
 unfolding controlBytes controlSize intLen
 control-length true s r hs ns = rw (length-append, length-append, int-length, int-length, heads-length s hs ns) refl
@@ -137,7 +145,7 @@ control-length false s r hs ns =
       part-counted s (r .method),
       scheme-length,
       part-counted s (r .authority),
-      part-counted s (r .path),
+      path-counted s (r .prefix) (r .path),
     )
     refl
 

@@ -20,7 +20,7 @@ use Rattle.messages.specs.Meaning.{Informational, request, response, fieldMeans
 use Rattle.messages.specs.declared.StatedLength.{StatedLength}
 use Rattle.messages.specs.declared.StatedLength.the-variants.{Of}
 use Rattle.messages.specs.declared.Record.{Record}
-use Rattle.ranges.specs.Entries.{fieldIn, fieldsIn, chunksIn, fieldsBefore, headsIn, partIn, controlIn, meaningIn, FieldsWithin}
+use Rattle.ranges.specs.Entries.{fieldIn, fieldsIn, chunksIn, fieldsBefore, headsIn, partIn, controlIn, meaningIn, FieldsWithin, pathSize, pathIn}
 use Rattle.ranges.proofs.Entries.{fields-more, fields-none, heads-more, heads-none}
 use Rattle.binary_writer.proofs.Lengths.{counted-is, fields-length, header-fields, fields-append, is-of}
 use Rattle.binary_writer.specs.Write.{counted, fieldBytes, fieldsBytes, sectionBytes, schemeBytes, informationalBytes, controlBytes, binaryOf}
@@ -78,7 +78,7 @@ module _ (r : Record) (hs ns : List ℕ) where
   size-response e = rw e
 
   pub size-request : r .response ≡ false
-      → controlSize (r .response) r hs ns ≡ 1 + countedSize (r .method .len) + schemeSize (r .scheme) + countedSize (r .authority .len) + countedSize (r .path .len)
+      → controlSize (r .response) r hs ns ≡ 1 + countedSize (r .method .len) + schemeSize (r .scheme) + countedSize (r .authority .len) + countedSize (pathSize (r .prefix) (r .path))
   unfolding controlSize
   size-request e = rw e
 
@@ -227,8 +227,8 @@ module _ (s : List ℕ) (r : Record) (hs ns : List ℕ) {o o₁ : List ℕ} {a :
   control-response e p = rw (size-response r hs ns e, e) p
 
   pub control-request : r .response ≡ false
-      → Put o 0 (controlBytes (request (partIn s (r .method)) (r .scheme) (partIn s (r .authority)) (partIn s (r .path))))
-      (1 + countedSize (r .method .len) + schemeSize (r .scheme) + countedSize (r .authority .len) + countedSize (r .path .len)) o₁ a
+      → Put o 0 (controlBytes (request (partIn s (r .method)) (r .scheme) (partIn s (r .authority)) (pathIn s (r .prefix) (r .path))))
+      (1 + countedSize (r .method .len) + schemeSize (r .scheme) + countedSize (r .authority .len) + countedSize (pathSize (r .prefix) (r .path))) o₁ a
       → Put o 0 (controlBytes (controlIn (r .response) s r hs ns)) (controlSize (r .response) r hs ns) o₁ a
   control-request e p = rw (size-request r hs ns e, e) p
 

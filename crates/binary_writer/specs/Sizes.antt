@@ -10,7 +10,7 @@ use Rattle.messages.specs.declared.Part.{Part}
 use Rattle.messages.specs.declared.Record.{Record}
 use Rattle.messages.specs.declared.StatedLength.{StatedLength}
 use Rattle.messages.specs.declared.StatedLength.the-variants.{Missing, Of}
-use Rattle.ranges.specs.Entries.{fieldsBefore}
+use Rattle.ranges.specs.Entries.{fieldsBefore, pathSize}
 
 -- so many octets with their count in front
 abbrev pub countedSize : ℕ → ℕ
@@ -55,14 +55,14 @@ schemeSize s = cond (eqb s 0) 5 6
 abbrev pub responseSize : List ℕ → List ℕ → ℕ → ℕ → ℕ
 responseSize hs ns n status = 1 + headsSize hs ns 0 n + intLen status
 
--- the same of a request, by its method, scheme, authority and path
-abbrev pub requestSize : Part → ℕ → Part → Part → ℕ
-requestSize m scheme a p = 1 + countedSize (m .len) + schemeSize scheme + countedSize (a .len) + countedSize (p .len)
+-- the same of a request, by its method, scheme and authority, and a path of so many octets
+abbrev pub requestSize : Part → ℕ → Part → ℕ → ℕ
+requestSize m scheme a p = 1 + countedSize (m .len) + schemeSize scheme + countedSize (a .len) + countedSize p
 
 -- framing indicator and control data of a response, or of a request
 unfoldable pub controlSize : Bool → Record → List ℕ → List ℕ → ℕ
 controlSize true r hs ns = responseSize hs ns (r .informational) (r .status)
-controlSize false r hs ns = requestSize (r .method) (r .scheme) (r .authority) (r .path)
+controlSize false r hs ns = requestSize (r .method) (r .scheme) (r .authority) (pathSize (r .prefix) (r .path))
 
 -- a whole message
 unfoldable pub messageSize : Record → List ℕ → List ℕ → List ℕ → ℕ

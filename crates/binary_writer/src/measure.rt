@@ -1,18 +1,20 @@
 // How long a message is in Binary, by its numbers alone.
 use messages::Part;
+use messages::PathPrefix;
 use messages::Record;
 use messages::StatedLength;
 use numbers::digit_count;
 use numbers::int_len;
 use ranges::fields_before;
 use ranges::number_at;
+use ranges::path_size;
 ghost use mathlib.Core.Path.{_≡_};
 ghost use Prim.Native.Nat.{ℕ, _+_, _*_, _≤_, _<_};
 ghost use mathlib.Core.List.{List};
 ghost use lib.ListN.{length};
 ghost use Rattle.numbers.specs.Integer.{integerEnd, intLen};
 ghost use Rattle.octets.specs.Limits.{linesMost};
-ghost use Rattle.ranges.specs.Entries.{HeadsCounted, MessageWithin};
+ghost use Rattle.ranges.specs.Entries.{HeadsCounted, MessageWithin, pathSize};
 ghost use Rattle.binary_writer.specs.Sizes.{countedSize, entrySize, fieldsSize, sectionSize, statedSize, headerSize, headsSize};
 ghost use Rattle.binary_writer.specs.Sizes.{schemeSize, requestSize, responseSize, controlSize, messageSize};
 ghost use Rattle.binary_writer.specs.Sizes.{countMost, schemeMost, entryMost, fieldsMost, sectionMost, statedFieldMost, headerMost, headMost, headsMost};
@@ -122,10 +124,11 @@ fn part_size(p: Part) -> usize
 }
 
 // The control data of a request, with the framing indicator.
-fn request_size(method: Part, scheme: u32, authority: Part, path: Part) -> usize
-    ensures { λ r. ⌜ (r ≡ requestSize method scheme authority path) × (r ≤ headsMost) ⌝ }
+fn request_size(method: Part, scheme: u32, authority: Part, prefix: PathPrefix, path: Part) -> usize
+    ensures { λ r. ⌜ (r ≡ requestSize method scheme authority (pathSize prefix path)) × (r ≤ headsMost) ⌝ }
 {
-    1 + part_size(method) + scheme_size(scheme) + part_size(authority) + part_size(path)
+    let size = counted_size(path_size(prefix, path));
+    1 + part_size(method) + scheme_size(scheme) + part_size(authority) + size
 }
 
 // The control data of a response, with the framing indicator.
@@ -144,7 +147,8 @@ fn control_size(r: Record, fields: &[u32], heads: &[u32]) -> usize
     if r.response {
         return response_size(fields, heads, r.informational, r.status);
     }
-    request_size(r.method, r.scheme, r.authority, r.path)
+    let prefix = r.prefix;
+    request_size(r.method, r.scheme, r.authority, prefix, r.path)
 }
 
 // A whole message.

@@ -2,6 +2,7 @@
 use crate::measure::fields_size;
 use crate::measure::stated_size;
 use messages::Part;
+use messages::PathPrefix;
 use messages::Record;
 use messages::StatedLength;
 use numbers::digit_count;
@@ -13,7 +14,9 @@ use output::put_part;
 use output::put_text;
 use ranges::fields_before;
 use ranges::number_at;
+use ranges::path_size;
 use ranges::put_chunks;
+use ranges::put_path;
 ghost use mathlib.Core.Path.{_≡_};
 ghost use mathlib.Core.List.{map, _++_};
 ghost use Prim.Native.Nat.{_+_, _*_, _≤_, _<_};
@@ -22,7 +25,7 @@ ghost use Rattle.octets.specs.Text.{lowerOf};
 ghost use Rattle.numbers.specs.Integer.{integerEnd, intLen, intBytes};
 ghost use Rattle.output.specs.Splice.{part, Put};
 ghost use Rattle.messages.specs.Meaning.{request, response, statedFields};
-ghost use Rattle.ranges.specs.Entries.{fieldNamed, fieldsNamed, contentIn, headsIn, partIn, controlIn, meaningIn};
+ghost use Rattle.ranges.specs.Entries.{fieldNamed, fieldsNamed, contentIn, headsIn, partIn, pathIn, pathSize, controlIn, meaningIn};
 ghost use Rattle.ranges.specs.Entries.{PartWithin, EntryWithin, FieldsWithin, HeadsWithin, ChunksWithin, MessageWithin, HeadWithin};
 ghost use Rattle.binary_writer.specs.Write.{counted, fieldBytes, fieldsBytes, sectionBytes, schemeBytes, informationalBytes, controlBytes, binaryOf};
 ghost use Rattle.binary_writer.specs.Sizes.{countedSize, entrySize, fieldsSize, sectionSize, statedSize, headerSize, headsSize};
@@ -191,6 +194,16 @@ fn put_counted_part(out: &mut [u8], at: usize, s: &[u8], p: Part) -> usize
     put_counted(out, at, s, p.start as usize, p.len as usize)
 }
 
+// A path with its count in front.
+fn put_counted_path(out: &mut [u8], at: usize, s: &[u8], prefix: PathPrefix, path: Part) -> usize
+    requires { ⌜ PartWithin (length (now s)) path × (at + countedSize (pathSize prefix path) ≤ length (now out)) ⌝ }
+    ensures { λ r. ⌜ Put (now (out .entry)) at
+        (counted (pathIn (now (s .entry)) prefix path)) (countedSize (pathSize prefix path)) (now (out .exit)) r ⌝ }
+{
+    let a = put_int(out, at, path_size(prefix, path));
+    put_path(out, a, s, prefix, path)
+}
+
 // Framing indicator and control data of a request, at the front.
 fn put_request(
     out: &mut [u8],
@@ -198,19 +211,20 @@ fn put_request(
     method: Part,
     scheme: u32,
     authority: Part,
+    prefix: PathPrefix,
     path: Part,
 ) -> usize
     requires { ⌜ PartWithin (length (now s)) method × PartWithin (length (now s)) authority × PartWithin (length (now s)) path
-        × (requestSize method scheme authority path ≤ length (now out)) ⌝ }
+        × (requestSize method scheme authority (pathSize prefix path) ≤ length (now out)) ⌝ }
     ensures { λ r. ⌜ Put (now (out .entry)) 0
-        (controlBytes (request (partIn (now (s .entry)) method) scheme (partIn (now (s .entry)) authority) (partIn (now (s .entry)) path)))
-        (requestSize method scheme authority path) (now (out .exit)) r ⌝ }
+        (controlBytes (request (partIn (now (s .entry)) method) scheme (partIn (now (s .entry)) authority) (pathIn (now (s .entry)) prefix path)))
+        (requestSize method scheme authority (pathSize prefix path)) (now (out .exit)) r ⌝ }
 {
     let a = put_octet(out, 0, 0);
     let b = put_counted_part(out, a, s, method);
     let d = put_scheme(out, b, scheme);
     let e = put_counted_part(out, d, s, authority);
-    put_counted_part(out, e, s, path)
+    put_counted_path(out, e, s, prefix, path)
 }
 
 // Framing indicator and control data of a response, at the front.
@@ -242,7 +256,8 @@ fn put_control_data(out: &mut [u8], s: &[u8], r: Record, fields: &[u32], heads: 
     if r.response {
         return put_response(out, s, fields, heads, r.informational, r.status);
     }
-    put_request(out, s, r.method, r.scheme, r.authority, r.path)
+    let prefix = r.prefix;
+    put_request(out, s, r.method, r.scheme, r.authority, prefix, r.path)
 }
 
 // A whole message, at the front.

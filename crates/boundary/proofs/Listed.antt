@@ -26,7 +26,8 @@ use Rattle.messages.specs.Names.{kept, keptTrailers}
 use Rattle.messages.specs.Meaning.{fieldMeans, contentOf, meaning}
 use Rattle.messages.specs.Answers.{recordFrom, recordOf}
 use Rattle.messages.specs.Valid.{isScheme}
-use Rattle.http1.specs.Lines.{isOther, version, requestParts, requestVersion, requestTarget, requestLens, onRequest, requestOf, RequestRead}
+use Rattle.http1.specs.Lines.{requestLens, onRequest, requestOf, RequestRead}
+use Rattle.http1.proofs.Views.{request-view}
 use Rattle.http1.specs.Read.{lineWithin, less, section, fieldLines, afterRequestLine, request, readRequest}
 use Rattle.http1.specs.declared.RequestLine.{RequestLine}
 use Rattle.http1.specs.declared.RequestLine.the-variants as request-line
@@ -55,45 +56,16 @@ Long w (request-line.Bad n) = Unit {0}
 no : {A : Type 0} → _≡_ {A = ℕ} 0 1 → A
 no z = absurd (omega arith)
 
-some-method : (m : ℕ) (w : List ℕ) → eqb (methodVerdict (take m w)) 0 ≡ true → 1 ≤ m
-unfolding methodVerdict isEmpty
-some-method zero w e = no cc
-some-method (suc m) w e = omega arith
+lens-long : (scheme : ℕ) (w : List ℕ) → Long w (requestLens scheme w)
+lens-long scheme w = on (requestLens scheme w) refl
+  where
+    on : (x : RequestLine) → requestLens scheme w ≡ x → Long w x
+    on (request-line.Of m y) e = let v = request-view scheme w m y e in omega (arith, v .some, v .more, v .size)
+    on (request-line.Bad n) e = tt
 
-some-path : (p : ℕ) (w : List ℕ) → eqb (pathVerdict (take p w)) 0 ≡ true → 1 ≤ p
-unfolding pathVerdict isEmpty
-some-path zero w e = no cc
-some-path (suc p) w e = omega arith
-
-parts-long : (w : List ℕ) (m p : ℕ) → (1 ≤ m → 1 ≤ p → 12 ≤ length w) → Long w (requestParts w m p)
-unfolding requestParts
-parts-long w m p h =
-    either (Long w) (eqb (methodVerdict (take m w)) 0) _ _
-    (λ a. either (Long w) (eqb (pathVerdict (take p (drop (m + 1) w))) 0) _ _ (λ b. h (some-method m w a) (some-path p (drop (m + 1) w) b)) (λ b. tt))
-    (λ a. tt)
-
-version-long : (w : List ℕ) (m e : ℕ) → Long w (requestVersion w m e)
-unfolding requestVersion
-version-long w m e =
-    either (Long w) (eqb (e + 1 + spanLen (isOther 32) (drop (e + 1) w)) (length w)) _ _
-    (λ a.
-    either (Long w) (sameText (drop (e + 1) w) version) _ _
-    (λ b.
-    let l : length (drop (e + 1) w) ≡ 8 = ap length (same-eq (drop (e + 1) w) version b) in
-    let k = length-drop (e + 1) w in
-    parts-long w m (e - (m + 1)) (λ x y. omega (arith, l, k, x, y)))
-    (λ b. tt))
-    (λ a. tt)
-
-lens-long : (w : List ℕ) → Long w (requestLens w)
-unfolding requestLens requestTarget
-lens-long w =
-    either (Long w) (leb (length w) (spanLen (isOther 32) w)) _ _ (λ a. tt)
-    (λ a. either (Long w) (leb (length w) _) _ _ (λ b. tt) (λ b. version-long w _ _))
-
-line-long : (at : ℕ) (w : List ℕ) → Judges (λ n p. Unit {0}) (λ x. 12 ≤ length w) (requestOf (piece at w))
+line-long : (scheme at : ℕ) (w : List ℕ) → Judges (λ n p. Unit {0}) (λ x. 12 ≤ length w) (requestOf scheme (piece at w))
 unfolding requestOf
-line-long at w = on (requestLens w) (lens-long w)
+line-long scheme at w = on (requestLens scheme w) (lens-long scheme w)
   where
     on : (x : RequestLine) → Long w x → Judges (λ n p. Unit {0}) (λ q. 12 ≤ length w) (onRequest (piece at w) x)
     on (request-line.Of m p) h = h
@@ -116,7 +88,7 @@ module _ {s : List ℕ} where
   unfolding request
   stops-long t =
       stops-bind _ (stops-word (lineWithin headMost) (λ z. (tt, tt)) λ w g i.
-      stops-judged (λ x. 12 ≤ length w) (requestOf (piece 0 w)) _ (line-long 0 w) λ q h.
+      stops-judged (λ x. 12 ≤ length w) (requestOf (t .scheme) (piece 0 w)) _ (line-long (t .scheme) 0 w) λ q h.
       let k = length-append w (13 ∷ 10 ∷ []) in
       stops-map (λ n m f. omega (arith, k, h, f)) (tail-long t q (less headMost (piece 0 w))))
 
@@ -210,7 +182,7 @@ rows-small (suc f) s i at h g = on (reader s) refl (λ n. rows-small f (drop n s
         omega (arith, a, b, c, d, r, l, ok .within)
     on (refused k p) e ih =
         let q = request-refused (plain 0) s k p e in
-        let z : k < 100 = one-of (λ j. j < 100) requestNumbers (lit≤ tt, (lit≤ tt, (lit≤ tt, (lit≤ tt, (lit≤ tt, (lit≤ tt, tt)))))) k (q .ofForm) in
+        let z : k < 100 = one-of (λ j. j < 100) requestNumbers (lit≤ tt, (lit≤ tt, (lit≤ tt, (lit≤ tt, (lit≤ tt, (lit≤ tt, (lit≤ tt, tt))))))) k (q .ofForm) in
         omega (arith, end-length (at + p) k, end-small (at + p) k (omega (arith, q .inside, g)) z)
     on more e ih = omega (arith, last-small i at s g)
 

@@ -11,13 +11,13 @@ use Rattle.output.proofs.Laws.{elements-length, put-then}
 use Rattle.messages.specs.declared.Record.{Record}
 use Rattle.messages.specs.declared.StatedLength.{StatedLength}
 use Rattle.messages.specs.declared.StatedLength.the-variants.{Missing, Of}
-use Rattle.capi.specs.Entries.{controlNumbers, countNumbers, statedNumbers, recordNumbers, Numbered}
+use Rattle.capi.specs.Entries.{controlNumbers, countNumbers, prefixNumber, statedNumbers, recordNumbers, Numbered}
 
 pub record-size : (r : Record) → length (recordNumbers r) ≡ 20
 unfolding recordNumbers
 record-size r = go (r .stated)
   where
-    go : (t : StatedLength) → length (controlNumbers r ++ countNumbers r ++ statedNumbers t (r .long)) ≡ 20
+    go : (t : StatedLength) → length (controlNumbers r ++ countNumbers r ++ statedNumbers (prefixNumber (r .prefix)) t (r .long)) ≡ 20
     go Missing = refl
     go (Of n) = refl
 

@@ -16,6 +16,8 @@ use Rattle.messages.specs.Room.{informationalRoom}
 use Rattle.messages.specs.Answers.{chunksNumbers, informationalNumbers, informationalIn, padded, recordOf, readingOf, numberOf, placeOf}
 use Rattle.messages.specs.declared.Part.{Part}
 use Rattle.messages.specs.declared.Record.{Record}
+use Rattle.messages.specs.declared.PathPrefix.{PathPrefix}
+use Rattle.messages.specs.declared.PathPrefix.the-variants as prefix
 use Rattle.messages.specs.declared.StatedLength.{StatedLength}
 use Rattle.messages.specs.declared.StatedLength.the-variants.{Missing, Of}
 use Rattle.ranges.specs.Ranges.{headNumbers, trailerNumbers}
@@ -40,15 +42,21 @@ countNumbers r = (r .status ∷ r .informational ∷ []) ++ (r .headers ∷ r .c
 abbrev pub wordEnd : ℕ
 wordEnd = 4294967296
 
--- a stated length: whether there is one, then its low and its high 32 bits; then how many integers are long. The number before these and the one behind them
--- are 0: they are kept for items of document 02 that have not landed
-abbrev pub statedNumbers : StatedLength → ℕ → List ℕ
-statedNumbers Missing long = (0 ∷ 0 ∷ []) ++ (0 ∷ 0 ∷ []) ++ (long ∷ 0 ∷ [])
-statedNumbers (Of n) long = (0 ∷ 1 ∷ []) ++ (n % wordEnd ∷ n / wordEnd ∷ []) ++ (long ∷ 0 ∷ [])
+-- what is put before a path: nothing, a slash, an asterisk
+abbrev pub prefixNumber : PathPrefix → ℕ
+prefixNumber prefix.Nothing = 0
+prefixNumber prefix.Slash = 1
+prefixNumber prefix.Asterisk = 2
+
+-- what is put before the path; a stated length: whether there is one, then its low and its high 32 bits; then how many integers are long. The number behind these
+-- is 0: it is kept for an item of document 02 that has not landed
+abbrev pub statedNumbers : ℕ → StatedLength → ℕ → List ℕ
+statedNumbers before Missing long = (before ∷ 0 ∷ []) ++ (0 ∷ 0 ∷ []) ++ (long ∷ 0 ∷ [])
+statedNumbers before (Of n) long = (before ∷ 1 ∷ []) ++ (n % wordEnd ∷ n / wordEnd ∷ []) ++ (long ∷ 0 ∷ [])
 
 -- the numbers of a record, but for the message's length
 unfoldable pub recordNumbers : Record → List ℕ
-recordNumbers r = controlNumbers r ++ countNumbers r ++ statedNumbers (r .stated) (r .long)
+recordNumbers r = controlNumbers r ++ countNumbers r ++ statedNumbers (prefixNumber (r .prefix)) (r .stated) (r .long)
 
 -- how many numbers control data have, the status and the counts, a stated length with what is kept beside it, and a record
 abbrev pub controlCount : ℕ

@@ -1,5 +1,6 @@
 // Numbers put into lent ranges.
 use messages::Part;
+use messages::PathPrefix;
 use messages::Record;
 use messages::StatedLength;
 use octets::Refusals;
@@ -11,7 +12,7 @@ ghost use lib.ListN.{length};
 ghost use Rattle.output.specs.Splice.{part, Put};
 ghost use Rattle.messages.specs.Room.{informationalRoom};
 ghost use Rattle.ranges.specs.Ranges.{SmallRecord};
-ghost use Rattle.capi.specs.Entries.{partNumbers, controlNumbers, statedNumbers, recordNumbers, startNumbers, listNumbers, Numbered};
+ghost use Rattle.capi.specs.Entries.{partNumbers, controlNumbers, prefixNumber, statedNumbers, recordNumbers, startNumbers, listNumbers, Numbered};
 ghost use Rattle.capi.specs.Entries.{controlCount, statedCount, recordCount, startCount, fieldsMost};
 
 // The first `len` numbers of src, from `at` on in out.
@@ -77,17 +78,34 @@ fn put_six(out: &mut [u32], at: usize, a: u32, b: u32, c: u32, d: u32, e: u32, f
     put_two(out, j, e, f)
 }
 
-// A stated length and the count of long integers, and the zeros beside them.
-fn put_stated(out: &mut [u32], at: usize, stated: StatedLength, long: u32) -> usize
-    requires { ⌜ at + statedCount ≤ length (now out) ⌝ }
-    ensures { λ z. ⌜ Put (now (out .entry)) at (statedNumbers stated long) statedCount (now (out .exit)) z ⌝ }
+fn prefix_number(prefix: PathPrefix) -> u32
+    ensures { λ r. ⌜ r ≡ prefixNumber prefix ⌝ }
 {
+    match prefix {
+        PathPrefix::Nothing => 0,
+        PathPrefix::Slash => 1,
+        PathPrefix::Asterisk => 2,
+    }
+}
+
+// What is put before the path, a stated length, the count of long integers, and the zero behind them.
+fn put_stated(
+    out: &mut [u32],
+    at: usize,
+    prefix: PathPrefix,
+    stated: StatedLength,
+    long: u32,
+) -> usize
+    requires { ⌜ at + statedCount ≤ length (now out) ⌝ }
+    ensures { λ z. ⌜ Put (now (out .entry)) at (statedNumbers (prefixNumber prefix) stated long) statedCount (now (out .exit)) z ⌝ }
+{
+    let before = prefix_number(prefix);
     match stated {
-        StatedLength::Missing => return put_six(out, at, 0, 0, 0, 0, long, 0),
+        StatedLength::Missing => return put_six(out, at, before, 0, 0, 0, long, 0),
         StatedLength::Of(n) => {
             let low = (n % 4294967296) as u32;
             let high = (n / 4294967296) as u32;
-            return put_six(out, at, 0, 1, low, high, long, 0);
+            return put_six(out, at, before, 1, low, high, long, 0);
         }
     }
 }
@@ -108,8 +126,9 @@ fn put_record(out: &mut [u32], r: Record) -> usize
         r.content as u32,
         r.trailers as u32,
     );
+    let prefix = r.prefix;
     let stated = r.stated;
-    put_stated(out, b, stated, r.long as u32)
+    put_stated(out, b, prefix, stated, r.long as u32)
 }
 
 // The numbers of a record, and of its informational heads.

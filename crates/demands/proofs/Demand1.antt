@@ -44,7 +44,7 @@ abbrev pub From : ℕ → List ℕ → Type 0
 From least ns = Each (λ k. least ≤ k) ns
 
 pub request-from : From 2 requestNumbers
-request-from = (lit≤ tt, (lit≤ tt, (lit≤ tt, (lit≤ tt, (lit≤ tt, (lit≤ tt, tt))))))
+request-from = (lit≤ tt, (lit≤ tt, (lit≤ tt, (lit≤ tt, (lit≤ tt, (lit≤ tt, (lit≤ tt, tt)))))))
 
 pub response-from : From 2 responseNumbers
 response-from = (lit≤ tt, (lit≤ tt, (lit≤ tt, (lit≤ tt, (lit≤ tt, (lit≤ tt, tt))))))

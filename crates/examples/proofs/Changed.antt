@@ -1,12 +1,13 @@
 -- Every row of the table for 02, by computation.
 use mathlib.Core.Path.{refl}
 use Rattle.examples.specs.Examples.{figure13, hex}
-use Rattle.examples.specs.Changes.{Statement, widths, headText, statedText, statedBinary, wideText, replies, oldText, oldBinary, measuredText, closings, silentText, sayingText, empties, figure8, figure9, figure11, emptyValue, emptyHost, editions, longPost, longChunks, forms}
+use Rattle.examples.specs.Changes.{Statement, widths, headText, statedText, statedBinary, wideText, replies, oldText, oldBinary, measuredText, closings, silentText, sayingText, empties, figure8, figure9, figure11, emptyValue, emptyHost, editions, longPost, longChunks, forms, binaryGet, binaryOptions, targets}
 use Rattle.examples.specs.Computing.{computing}
 
 pub changed : Statement
-unfolding computing widths headText statedText statedBinary wideText replies oldText oldBinary measuredText closings silentText sayingText empties figure8 figure9 figure11 figure13 emptyValue emptyHost editions longPost longChunks forms hex
+unfolding computing widths headText statedText statedBinary wideText replies oldText oldBinary measuredText closings silentText sayingText empties figure8 figure9 figure11 figure13 emptyValue emptyHost editions longPost longChunks forms binaryGet binaryOptions targets hex
 changed = record {
+  item2 = ((refl, refl), ((refl, refl), ((refl, refl), ((refl, refl), ((refl, refl), ((refl, refl), ((refl, refl), ((refl, refl), ((refl, refl), ((refl, refl), ((refl, refl), ((refl, refl), ((refl, refl), ((refl, refl), ((refl, refl), ((refl, refl), ((refl, refl), ((refl, refl, refl), ((refl, refl, refl), ((refl, refl, refl), ((refl, refl, refl), ((refl, refl, refl), (refl, (refl, (refl, (refl, (refl, (refl, (refl, ((refl, refl), ((refl, refl), ((refl, refl), ((refl, refl), tt)))))))))))))))))))))))))))))))));
   item4 = (refl, (refl, (refl, (refl, (refl, tt)))));
   item5 = (
     (refl, refl),

@@ -1,12 +1,15 @@
 -- The table of examples for 02: rows for each item that has landed, in the items' order, one statement. What a row says is in `Examples`.
 use Prim.Native.Nat.{ℕ}
+use Prim.Native.String.{String}
 use mathlib.Core.List.{List, [], _∷_, _++_}
-use lib.ListN.{take}
+use lib.ListN.{take, replicate}
 use Rattle.octets.specs.Ascii.{ascii}
 use Rattle.messages.specs.Told.{plain, answering, closing, keeping, inEdition}
+use Rattle.messages.specs.Answers.{partAt}
+use Rattle.messages.specs.declared.PathPrefix.the-variants as prefix
 use Rattle.messages.specs.declared.StatedLength.the-variants.{Missing, Of}
 use Rattle.messages.specs.declared.Told.{Told}
-use Rattle.examples.specs.Examples.{http, Example, integer, http1, http1Reply, binaryReply, states, replyBecomes, goesAs, anewAs, turnedAway, counted, longs, figure13, hex, AllHold}
+use Rattle.examples.specs.Examples.{http, Example, integer, http1, http1Reply, binaryReply, states, replyBecomes, goesAs, binary, becomes, anewAs, turnedAway, counted, longs, http1As, aims, figure13, hex, AllHold}
 
 -- item 4: the sample integers of RFC 9000, appendix A.1, one of each width, the last in a form that is not the shortest
 unfoldable pub widths : List Example
@@ -236,8 +239,80 @@ forms =
     ∷ longs (hex "03 40c8 4002 7465 4001 78 00 00 00") 2
     ∷ []
 
+-- a request line with this method and target
+abbrev pub lineTo : String → List ℕ
+lineTo x = ascii x ++ ascii " HTTP/1.1\r\n"
+
+-- a request with this method and target, and a Host that is b
+abbrev pub requestTo : String → List ℕ
+requestTo x = lineTo x ++ ascii "Host:b\r\n\r\n"
+
+-- a line whose target is of https, an authority of one octet, and a query of so many octets behind its "?"
+abbrev pub longQuery : ℕ → List ℕ
+longQuery n = ascii "GET https://a?" ++ replicate n 97 ++ ascii " HTTP/1.1\r\n"
+
+-- a line whose target has an authority of so many octets
+abbrev pub longAuthority : ℕ → List ℕ
+longAuthority n = ascii "GET https://" ++ replicate n 97 ++ ascii " HTTP/1.1\r\n"
+
+-- GET and OPTIONS as Binary, up to the authority's length
+unfoldable pub binaryGet : List ℕ
+binaryGet = hex "00 03474554 0468747470"
+
+unfoldable pub binaryOptions : List ℕ
+binaryOptions = hex "00 07" ++ ascii "OPTIONS" ++ hex "0468747470"
+
+-- item 2
+unfoldable pub targets : List Example
+targets =
+    -- 4: neither "/", "*" nor http or https with "://"; "*" of another method, in another case of letters, or with octets behind
+    http1 (lineTo "GET http:/a") 4 0
+    ∷ http1 (lineTo "GET httpx://a") 4 0
+    ∷ http1 (lineTo "GET *") 4 0
+    ∷ http1 (lineTo "options *") 4 0
+    ∷ http1 (lineTo "OPTIONS *#") 4 0
+    -- 2: then the octets of the whole target, its authority's too
+    ∷ http1 (lineTo "GET http://#") 2 0
+    -- 6: then the authority, by its octets and its size
+    ∷ http1 (lineTo "GET https:///") 6 0
+    ∷ http1 (lineTo "GET http://u@a/") 6 0
+    ∷ http1 (longAuthority 256) 6 0
+    -- 8: then the path's size, with what is put before it
+    ∷ http1 (longQuery 4095) 8 0
+    -- 14: the scheme last, of the line alone
+    ∷ http1 (longQuery 4094) 14 0
+    ∷ http1 (longAuthority 255) 14 0
+    ∷ http1As (plain 1) (lineTo "GET http://a") 14 0
+    ∷ http1As (plain 1) (requestTo "GET hTTpS://a") 0 34
+    -- Host stands once, whatever its value; else 6 behind the head
+    ∷ http1 (lineTo "GET http://a/" ++ ascii "Host:\r\n\r\n") 0 33
+    ∷ http1 (lineTo "GET http://a/" ++ ascii "\r\n") 6 26
+    ∷ http1 (lineTo "GET http://a/" ++ ascii "Host:a\r\nHost:a\r\n\r\n") 6 42
+    -- the authority is the target's; the path's range shows the target's own octets, and stands at its end where there are none
+    ∷ aims (requestTo "GET http://a/") (partAt 11 1) prefix.Nothing (partAt 12 1)
+    ∷ aims (requestTo "GET http://a") (partAt 11 1) prefix.Slash (partAt 12 0)
+    ∷ aims (requestTo "GET HTTP://A?x") (partAt 11 1) prefix.Slash (partAt 12 2)
+    ∷ aims (requestTo "OPTIONS http://a") (partAt 15 1) prefix.Asterisk (partAt 16 0)
+    ∷ aims (requestTo "OPTIONS *") (partAt 25 1) prefix.Nothing (partAt 8 1)
+    -- what it means: no path is "/", a query goes behind it; for OPTIONS neither is "*"
+    ∷ becomes (requestTo "GET http://a") (binaryGet ++ hex "0161 012f 00 00 00")
+    ∷ becomes (requestTo "GET HTTP://A?x") (binaryGet ++ hex "0141 032f3f78 00 00 00")
+    ∷ becomes (requestTo "OPTIONS http://a?") (binaryOptions ++ hex "0161 022f3f 00 00 00")
+    ∷ becomes (requestTo "OPTIONS http://a") (binaryOptions ++ hex "0161 012a 00 00 00")
+    ∷ becomes (requestTo "OPTIONS *") (binaryOptions ++ hex "0162 012a 00 00 00")
+    -- written: origin-form, or "*"
+    ∷ goesAs http (binaryGet ++ hex "0141 032f3f78 00 00 00") (ascii "GET /?x HTTP/1.1\r\nhost: A\r\n\r\n")
+    ∷ goesAs http (binaryOptions ++ hex "0161 012a 00 00 00") (ascii "OPTIONS * HTTP/1.1\r\nhost: a\r\ncontent-length: 0\r\n\r\n")
+    -- Binary: "*" for OPTIONS alone; absolute-form stays 4
+    ∷ binary (binaryOptions ++ hex "0161 012a 00 00 00") 0 21
+    ∷ binary (binaryOptions ++ hex "0161 022a78") 4 16
+    ∷ binary (binaryGet ++ hex "0161 012a") 4 12
+    ∷ binary (binaryGet ++ hex "0161 08" ++ ascii "http://a") 4 12
+    ∷ []
+
 -- the statement: every row holds
 pub record Statement : Type 0 where
+  pub item2 : AllHold targets
   pub item4 : AllHold widths
   pub item5 : AllHold replies
   pub item7 : AllHold editions

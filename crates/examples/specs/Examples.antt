@@ -17,6 +17,8 @@ use Rattle.messages.specs.Told.{plain}
 use Rattle.messages.specs.declared.Told.{Told}
 use Rattle.messages.specs.Message.{Message}
 use Rattle.messages.specs.Answers.{readingOf, numberOf, placeOf}
+use Rattle.messages.specs.declared.Part.{Part}
+use Rattle.messages.specs.declared.PathPrefix.{PathPrefix}
 use Rattle.messages.specs.declared.Record.{Record}
 use Rattle.messages.specs.declared.StatedLength.{StatedLength}
 use Rattle.messages.specs.declared.Outcome.{Outcome}
@@ -79,6 +81,10 @@ pub data Example : Type 0 where
   counted : List ℕ → ℕ → ℕ → Example
   -- so many integers of an accepted Binary message are not in their shortest form
   longs : List ℕ → ℕ → Example
+  -- reading as an HTTP/1.1 request, as told: number, then the length or the refusal's place
+  http1As : Told → List ℕ → ℕ → ℕ → Example
+  -- an accepted HTTP/1.1 request under http has this authority and this path, and what is put before it
+  aims : List ℕ → Part → PathPrefix → Part → Example
 
 -- a call told http, that its message answers no HEAD, and that the connection is open
 abbrev pub http : Told
@@ -111,6 +117,12 @@ LongIn (outcome.Message r) n = r .long ≡ n
 LongIn (outcome.Refusal k p) n = ⊥
 LongIn outcome.More n = ⊥
 
+-- authority and path of an accepted message, and what is put before the path
+abbrev pub Aims : Outcome → Part → PathPrefix → Part → Type 0
+Aims (outcome.Message r) a x p = (r .authority ≡ a) × (r .prefix ≡ x) × (r .path ≡ p)
+Aims (outcome.Refusal k q) a x p = ⊥
+Aims outcome.More a x p = ⊥
+
 -- what a row says of the definitions
 abbrev pub Holds : Example → Type 0
 Holds (integer s v) = uncounted (readInt 0 s) ≡ Value v (length s) 0
@@ -129,6 +141,8 @@ Holds (anewAs t s b) = binaryToBinary t s ≡ writes b
 Holds (turnedAway t s k p) = binaryToHttp1 t s ≡ refuses k p
 Holds (counted s v l) = readInt 0 s ≡ Value v (length s) l
 Holds (longs s n) = LongIn (readingOf (readBinary http s) .outcome) n
+Holds (http1As t s k p) = Answers s (readRequest t s) k p
+Holds (aims s a x p) = Aims (readingOf (readRequest http s) .outcome) a x p
 
 -- each row of a list holds
 abbrev pub AllHold : List Example → Type 0

@@ -5,12 +5,7 @@ use mathlib.Core.List.{List, [], _∷_}
 use native.Mathlib.Omega.{arith}
 use lib.ListN.{length, take, drop, length-drop}
 use lib.Seq.{length-take-le, take-take, drop-drop, take-nil}
-
-pub drop-take : (b n : ℕ) (l : List ℕ) → drop b (take n l) ≡ take (n - b) (drop b l)
-drop-take zero n l = let e : n - 0 ≡ n = omega arith in rw e
-drop-take (suc b) zero l = let e : 0 - suc b ≡ 0 = omega arith in rw e
-drop-take (suc b) (suc n) [] = sym (take-nil (suc n - suc b))
-drop-take (suc b) (suc n) (x ∷ l) = let e : suc n - suc b ≡ n - b = omega arith in rw e (drop-take b n l)
+pub use Rattle.http1.proofs.Views.{drop-take}
 
 -- the first n octets of the part from i to e
 pub part-front : (s : List ℕ) (i e n : ℕ) → n ≤ e - i → take (i + n - i) (drop i s) ≡ take n (take (e - i) (drop i s))

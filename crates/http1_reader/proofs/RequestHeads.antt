@@ -15,7 +15,7 @@ use Rattle.output.specs.Splice.{splice}
 use Rattle.messages.specs.Message.{FieldRead, InformationalRead, isResponse, Message}
 use Rattle.messages.specs.Names.{kept, keptTrailers}
 use Rattle.messages.specs.Answers.{fieldsNumbers, chunksNumbers, informationalLines, informationalIn, partAt, partOf, recordOf}
-use Rattle.messages.specs.Rules.{authorityIn, framingOf, requestBody}
+use Rattle.messages.specs.Rules.{targetAuthority, framingOf, requestBody}
 use Rattle.messages.specs.declared.Told.{Told}
 use Rattle.messages.specs.declared.Notes.{Notes}
 use Rattle.messages.specs.declared.Part.{Part}
@@ -29,6 +29,7 @@ use Rattle.http1_parts.proofs.Outcomes.{linesWith, SectionDone, behind-done}
 use Rattle.http1_parts.specs.Section.{Before}
 use Rattle.http1_reader.specs.Readers.{requestIs, HeadFacts, RestSays, RestRead}
 use Rattle.http1_reader.proofs.Facts.{SectionFacts, section-facts}
+use Rattle.http1.specs.declared.Target.{Target}
 
 -- an answer that equals another promises the same
 pub outcomed-as : {x y : Answer Message} {hs hs′ cs cs′ ts ts′ : List ℕ} {r : Outcome} → x ≡ y → OutcomeSays y hs hs′ cs cs′ ts ts′ r → Outcomed x hs hs′ cs cs′ ts ts′ r
@@ -47,7 +48,7 @@ pub record OfRequest (h : Lines) (m : Message) : Type 0 where
 every-rest : (s : List ℕ) (t : Told) (q : RequestRead) (h : Lines) (at : ℕ) → Every s (λ n m. OfRequest h m) at (afterHead t q h)
 unfolding afterHead
 every-rest s t q h at =
-    every-bind s _ at (tell (authorityIn (h .end) (piece 0 []) (h .lines))) _ (every-tell s _ _ (authorityIn (h .end) (piece 0 []) (h .lines)) λ a u.
+    every-bind s _ at (tell (targetAuthority (h .end) (q .authority) (h .lines))) _ (every-tell s _ _ (targetAuthority (h .end) (q .authority) (h .lines)) λ a u.
     every-bind s _ _ (tell (requestBody (h .end) (framingOf (h .lines)))) _ (every-tell s _ _ (requestBody (h .end) (framingOf (h .lines))) λ b v.
     every-then s (λ n c. Unit {0}) _ _ (content b) _ (every-any s _ (content b)) λ n c w.
     record { lines = refl; request = refl; alone = refl }))
@@ -70,18 +71,22 @@ with-headers h (accepted n m) hs hs′ cs cs′ ts ts′ r e u w = (w .0, e ∙ 
 with-headers h (refused n p) hs hs′ cs cs′ ts ts′ r e u w = w
 with-headers h more hs hs′ cs cs′ ts ts′ r e u w = w
 
-module _ (s : List ℕ) (m p next : ℕ) (g : next ≤ length s) (k : m + 1 + p + 11 ≡ next) (b : next ≤ headMost) where
+module _ (s : List ℕ) (m : ℕ) (x : Target) (next : ℕ) (g : next ≤ length s) (k : m + 1 + (x .start + x .len) + 11 ≡ next)
+    (i : m + 1 + (x .host + x .hostlen) + 2 ≤ next) (b : next ≤ headMost) where
   line-long : length (take (next - 2) s) ≡ next - 2
   line-long = length-take-le (next - 2) s (omega (arith, g))
 
-  method-is : partOf (requestIs s next m p .method) ≡ partAt 0 m
+  method-is : partOf (requestIs s next m x .method) ≡ partAt 0 m
   method-is = ap (partAt 0) (length-take-le m (take (next - 2) s) (omega (arith, line-long, k)))
 
-  path-is : partOf (requestIs s next m p .path) ≡ partAt (m + 1) p
+  path-is : partOf (requestIs s next m x .path .own) ≡ partAt (m + 1 + x .start) (x .len)
   path-is =
-      let z : 0 + (m + 1) ≡ m + 1 = omega arith in
-      let l = length-take-le p (drop (m + 1) (take (next - 2) s)) (omega (arith, line-long, k, length-drop (m + 1) (take (next - 2) s))) in
+      let z : 0 + (m + 1 + x .start) ≡ m + 1 + x .start = omega arith in
+      let l = length-take-le (x .len) (drop (m + 1 + x .start) (take (next - 2) s)) (omega (arith, line-long, k, length-drop (m + 1 + x .start) (take (next - 2) s))) in
       ap₂ partAt z l
+
+  named : m + 1 + (x .host + x .hostlen) + 2 ≤ next → length (requestIs s next m x .authority .text) ≡ x .hostlen
+  named h = length-take-le (x .hostlen) (drop (m + 1 + x .host) (take (next - 2) s)) (omega (arith, line-long, h, length-drop (m + 1 + x .host) (take (next - 2) s)))
 
   module _ {hs hs′ : List ℕ} {e l c : ℕ} {n : Notes} (d : SectionDone (run (section (headMost - next)) next (drop next s)) false 0 hs hs′ e l c n) where
     abbrev pub head-lines : Lines
@@ -96,11 +101,15 @@ module _ (s : List ℕ) (m p next : ℕ) (g : next ≤ length s) (k : m + 1 + p 
     pub head-within : (e ≤ length s) × (e ≤ headMost)
     head-within = (omega (arith, place-is, facts .within), omega (arith, place-is, facts .ended .left, b))
 
-    pub head-facts : HeadFacts s (requestIs s next m p) head-lines m p e c n
+    pub head-facts : HeadFacts s (requestIs s next m x) head-lines m x e c n
     head-facts =
         record {
           method = method-is;
+          prefix = refl;
           path = path-is;
+          authority = omega arith;
+          named = named (omega (arith, i));
+          inside = omega (arith, i, place-is, facts .behind);
           end = refl;
           fields = omega (arith, d .counted);
           notes = d .noted;
@@ -108,10 +117,10 @@ module _ (s : List ℕ) (m p next : ℕ) (g : next ≤ length s) (k : m + 1 + p 
           before = subst (λ (x : ℕ). Each (Before x) (d .lines)) place-is (facts .ended .before);
         }
 
-    pub head-done : (t : Told) (cs cs′ ts ts′ : List ℕ) (r : Outcome) → RestRead s t m p e c n cs cs′ ts ts′ r
-        → Outcomed (run (section (headMost - next) >>= afterHead t (requestIs s next m p)) next (drop next s)) hs hs′ cs cs′ ts ts′ r
+    pub head-done : (t : Told) (cs cs′ ts ts′ : List ℕ) (r : Outcome) → RestRead s t m x e c n cs cs′ ts ts′ r
+        → Outcomed (run (section (headMost - next) >>= afterHead t (requestIs s next m x)) next (drop next s)) hs hs′ cs cs′ ts ts′ r
     head-done t cs cs′ ts ts′ r w =
-        let q = requestIs s next m p in
+        let q = requestIs s next m x in
         let f = behind-done (headMost - next) (afterHead t q) s next (d .place) head-lines (d .taken) in
         let z = ap (λ (x : ℕ). run (afterHead t q head-lines) x (drop x s)) place-is in
         outcomed-as (f ∙ z)

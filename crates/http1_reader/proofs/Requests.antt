@@ -18,7 +18,7 @@ use Rattle.messages.specs.Message.{FieldRead, requestStart, Message, plainMessa
 use Rattle.messages.specs.Names.{linesOf, kept, keptTrailers}
 use Rattle.messages.specs.Meaning.{contentOf}
 use Rattle.messages.specs.Notes.{notesOf, AllLie}
-use Rattle.messages.specs.Rules.{authorityIn, framingOf, requestBody}
+use Rattle.messages.specs.Rules.{targetAuthority, framingOf, requestBody}
 use Rattle.messages.specs.Answers.{fieldsNumbers, chunksNumbers, partAt, partOf, recordOf}
 use Rattle.messages.specs.declared.Told.{Told}
 use Rattle.messages.specs.Valid.{isScheme}
@@ -30,11 +30,10 @@ use Rattle.messages.specs.declared.Outcome.the-variants as outcome
 use Rattle.http1.specs.Lines.{RequestRead, requestLens, requestOf}
 use Rattle.http1.specs.declared.RequestLine.the-variants as line
 use Rattle.http1.specs.Read.{Lines, Content, less, section, content, afterHead, request, readRequest}
-use Rattle.http1.proofs.Views.{request-within}
+use Rattle.http1.proofs.Views.{request-view}
 use Rattle.sound.specs.Placed.{Each}
 use Rattle.sound.proofs.Each.{each-of}
-use Rattle.sound.proofs.Rules.{HostIs}
-use Rattle.http1_sound.proofs.Rules.{host-is, request-framed}
+use Rattle.http1_sound.proofs.Rules.{HostOf, host-of, request-framed}
 use Rattle.http1_parts.specs.Content.{SizedWithin, ContentSays, Contented}
 use Rattle.http1_parts.specs.declared.ContentRead.{ContentRead}
 use Rattle.http1_parts.specs.Section.{Before}
@@ -42,6 +41,10 @@ use Rattle.http1_reader.specs.Readers.{JudgedSays, HeadJudged, RequestJu
 use Rattle.http1_reader.specs.declared.HeadAnswer.{HeadAnswer}
 use Rattle.http1_reader.specs.declared.HeadAnswer.the-variants as head
 use Rattle.http1_reader.proofs.Facts.{fits-within}
+use Rattle.http1.specs.declared.Target.{Target}
+use Rattle.messages.specs.Control.{isHost}
+use mathlib.Core.Logic.{_⊎_, inl, inr}
+use Rattle.octets.specs.Text.{isEmpty}
 
 -- ---- the head's rules
 
@@ -71,11 +74,11 @@ messageWith t q h a c = plainMessage (requestStart (q .method) (t .scheme) a (q 
 
 -- what stands behind a head that is refused
 pub rest-refused : (t : Told) (q : RequestRead) (h : Lines) (s : List ℕ) (e : ℕ) {r : HeadAnswer} (i p : ℕ)
-    → HeadJudged (authorityIn (h .end) (piece 0 []) (h .lines)) (requestBody (h .end) (framingOf (h .lines))) r → r ≡ head.Refused i p
+    → HeadJudged (targetAuthority (h .end) (q .authority) (h .lines)) (requestBody (h .end) (framingOf (h .lines))) r → r ≡ head.Refused i p
     → run (afterHead t q h) e (drop e s) ≡ refused i p
 unfolding afterHead _>>=_
 rest-refused t q h s e {r} i p w g =
-    go (authorityIn (h .end) (piece 0 []) (h .lines)) (requestBody (h .end) (framingOf (h .lines))) (w .says)
+    go (targetAuthority (h .end) (q .authority) (h .lines)) (requestBody (h .end) (framingOf (h .lines))) (w .says)
   where
     go : (j : Judged Piece) (k : Judged Body) → JudgedSays j k r
         → run (tell j >>= λ a. tell k >>= λ b. content b >>= λ c. done (messageWith t q h a c)) e (drop e s) ≡ refused i p
@@ -84,7 +87,7 @@ rest-refused t q h s e {r} i p w g =
     go (wrong n m) y u = let z : head.Refused n m ≡ head.Refused i p = sym u ∙ g in run-stop n m e (drop e s) ∙ cc
 
 rest-content : (t : Told) (q : RequestRead) (h : Lines) (s : List ℕ) (e : ℕ) (a : Piece) (b : Body)
-    → authorityIn (h .end) (piece 0 []) (h .lines) ≡ good a → requestBody (h .end) (framingOf (h .lines)) ≡ good b
+    → targetAuthority (h .end) (q .authority) (h .lines) ≡ good a → requestBody (h .end) (framingOf (h .lines)) ≡ good b
     → run (afterHead t q h) e (drop e s) ≡ andThen (run (content b) e (drop e s)) (λ n c. accepted n (messageWith t q h a c))
 unfolding afterHead _>>=_
 rest-content t q h s e a b u v =
@@ -96,29 +99,36 @@ rest-content t q h s e a b u v =
     go more = refl
 
 -- what stands behind a head that is good, with its content as it was read
-pub rest-read : (t : Told) (q : RequestRead) (h : Lines) (s : List ℕ) (m p e k : ℕ) (n : Notes) (a l : ℕ) (b : Body) (cs cs′ ts ts′ : List ℕ) (c : ContentRead) (r : Outcome)
-    → HeadFacts s q h m p e k n → GoodHead (authorityIn (h .end) (piece 0 []) (h .lines)) (requestBody (h .end) (framingOf (h .lines))) a l b
-    → Contented (run (content b) e (drop e s)) cs cs′ ts ts′ c → r ≡ requestOutcome t m p a l k c
+pub rest-read : (t : Told) (q : RequestRead) (h : Lines) (s : List ℕ) (m : ℕ) (x : Target) (e k : ℕ) (n : Notes) (a l : ℕ) (b : Body) (cs cs′ ts ts′ : List ℕ) (c : ContentRead) (r : Outcome)
+    → HeadFacts s q h m x e k n → GoodHead (targetAuthority (h .end) (q .authority) (h .lines)) (requestBody (h .end) (framingOf (h .lines))) a l b
+    → Contented (run (content b) e (drop e s)) cs cs′ ts ts′ c → r ≡ requestOutcome t m x a l k c
     → RestSays (run (afterHead t q h) e (drop e s)) cs cs′ ts ts′ r
 unfolding recordOf
-rest-read t q h s m p e k n a l b cs cs′ ts ts′ c r f g w o =
+rest-read t q h s m x e k n a l b cs cs′ ts ts′ c r f g w o =
     subst (λ (x : Answer Message). RestSays x cs cs′ ts ts′ r) (sym (rest-content t q h s e (g .authority) b (g .found) (g .body)))
     (go (run (content b) e (drop e s)) (w .says))
   where
     go : (x : Answer Content) → ContentSays x cs cs′ ts ts′ c → RestSays (andThen x (λ n c. accepted n (messageWith t q h (g .authority) c))) cs cs′ ts ts′ r
-    go (accepted i d) u = (o ∙ rw (u .0, f .method, f .path, f .fields, g .place, g .long) refl, u .1, u .2)
+    go (accepted i d) u = (o ∙ rw (u .0, f .method, f .prefix, f .path, f .fields, g .place, g .long) refl, u .1, u .2)
     go (refused i j) u = o ∙ rw u refl
     go more u = o ∙ rw u refl
 
 -- ---- bounds
 
 -- the authority ends at or before the head
-pub authority-before : (e : ℕ) (fs : List FieldRead) (a n : ℕ) {k : Judged Body} {b : Body} → Each (Before e) fs → GoodHead (authorityIn e (piece 0 []) fs) k a n b → a + n ≤ e
-authority-before e fs a n h g =
-    let w = host-is e fs (g .authority) (g .found) in
-    let l = rw (w .one) at (each-of (Before e) kind.Host fs h) in
-    let z = ap (λ (x : Piece). x .place + length (x .text)) (w .same) in
-    omega (arith, l .0, g .place, g .long, z)
+pub authority-before : (e : ℕ) (q : Piece) (fs : List FieldRead) (a n : ℕ) {k : Judged Body} {b : Body} → Each (Before e) fs → q .place + length (q .text) ≤ e
+    → GoodHead (targetAuthority e q fs) k a n b → a + n ≤ e
+authority-before e q fs a n h i g = go (w .from)
+  where
+    w : HostOf q fs (g .authority)
+    w = host-of e q fs (g .authority) (g .found)
+
+    go : ((g .authority ≡ w .line .value) × (isHost (g .authority .text) ≡ true)) ⊎ ((g .authority ≡ q) × (isEmpty (q .text) ≡ false)) → a + n ≤ e
+    go (inl v) =
+        let l = rw (w .one) at (each-of (Before e) kind.Host fs h) in
+        let z = ap (λ (x : Piece). x .place + length (x .text)) (v .0) in
+        omega (arith, l .0, g .place, g .long, z)
+    go (inr v) = let z = ap (λ (x : Piece). x .place + length (x .text)) (v .0) in omega (arith, i, g .place, g .long, z)
 
 pub body-within : (e : ℕ) (fs : List FieldRead) (a n : ℕ) {j : Judged Piece} {b : Body} → GoodHead j (requestBody e (framingOf fs)) a n b → SizedWithin b
 body-within e fs a n {j} {b} g = fits-within b (request-framed e (framingOf fs) b (g .body) .fits)
@@ -144,57 +154,59 @@ module _ (t : Told) (s : List ℕ) (y : isScheme (t .scheme) ≡ true) where
 
   module _ (next : ℕ) (e : lineOf (drop 0 s) headMost 0 0 ≡ Ends next) where
     first : readRequest t s
-        ≡ run (tell (requestOf (piece 0 (take (next - 2) s))) >>= λ q. section (headMost - (length (take (next - 2) s) + 2)) >>= afterHead t q) next (drop next s)
+        ≡ run (tell (requestOf (t .scheme) (piece 0 (take (next - 2) s))) >>= λ q. section (headMost - (length (take (next - 2) s) + 2)) >>= afterHead t q) next (drop next s)
     unfolding readRequest request _>>=_
     first = let z : next - 2 - 0 ≡ next - 2 = omega arith in rw y (line-ends _ _ _ _ s 0 next e ∙ rw z refl)
 
     first-long-as : length (take (next - 2) s) ≡ next - 2
     first-long-as = length-take-le (next - 2) s (omega (arith, line-within s headMost 0 next (omega arith) e))
 
-    pub first-wrong : (k : ℕ) → requestLens (take (next - 2) s) ≡ line.Bad k → readRequest t s ≡ refused k 0
+    pub first-wrong : (k : ℕ) → requestLens (t .scheme) (take (next - 2) s) ≡ line.Bad k → readRequest t s ≡ refused k 0
     unfolding requestOf _>>=_
     first-wrong k q = first ∙ rw (q, run-stop) refl
 
-    pub first-rest : (m p : ℕ) → requestLens (take (next - 2) s) ≡ line.Of m p
-        → readRequest t s ≡ run (section (headMost - next) >>= afterHead t (requestIs s next m p)) next (drop next s)
+    pub first-rest : (m : ℕ) (x : Target) → requestLens (t .scheme) (take (next - 2) s) ≡ line.Of m x
+        → readRequest t s ≡ run (section (headMost - next) >>= afterHead t (requestIs s next m x)) next (drop next s)
     unfolding requestOf _>>=_
-    first-rest m p q =
+    first-rest m x q =
         let l : headMost - (length (take (next - 2) s) + 2) ≡ headMost - next = omega (arith, first-long-as, line-within s headMost 0 next (omega arith) e) in
         first ∙ rw (q, l) refl
 
 -- what is known of the request line's end
-pub first-in : (s : List ℕ) (next m p : ℕ) → lineOf (drop 0 s) headMost 0 0 ≡ Ends next → requestLens (take (next - 2) s) ≡ line.Of m p
-    → (next ≤ length s) × (m + 1 + p + 11 ≡ next) × (next ≤ headMost)
-first-in s next m p e q =
+pub first-in : (scheme : ℕ) (s : List ℕ) (next m : ℕ) (x : Target) → lineOf (drop 0 s) headMost 0 0 ≡ Ends next
+    → requestLens scheme (take (next - 2) s) ≡ line.Of m x
+    → (next ≤ length s) × (m + 1 + (x .start + x .len) + 11 ≡ next) × (m + 1 + (x .host + x .hostlen) + 2 ≤ next) × (next ≤ headMost)
+first-in scheme s next m x e q =
     let k = line-within s headMost 0 next (omega arith) e in
-    let v = request-within (take (next - 2) s) m p q in
+    let v = request-view scheme (take (next - 2) s) m x q in
     let l = length-take-le (next - 2) s (omega (arith, k)) in
-    (k .1, omega (arith, v .2, l, k), omega (arith, k))
+    (k .1, omega (arith, v .size, l, k), omega (arith, v .within, l, k), omega (arith, k))
 
 -- ---- as the code has it
 
-module _ (s : List ℕ) (e : ℕ) (n : Notes) {r : HeadAnswer} (w : RequestJudged s e n r) (t : Told) (m p k : ℕ) where
-  head-of : (q : RequestRead) (h : Lines) → HeadFacts s q h m p e k n
-      → HeadJudged (authorityIn (h .end) (piece 0 []) (h .lines)) (requestBody (h .end) (framingOf (h .lines))) r
+module _ (s : List ℕ) (e : ℕ) (n : Notes) {r : HeadAnswer} (t : Told) (m : ℕ) (x : Target) (w : RequestJudged s (m + 1 + x .host) (x .hostlen) e n r) (k : ℕ) where
+  head-of : (q : RequestRead) (h : Lines) → HeadFacts s q h m x e k n
+      → HeadJudged (targetAuthority (h .end) (q .authority) (h .lines)) (requestBody (h .end) (framingOf (h .lines))) r
   head-of q h f =
-      subst (λ (x : ℕ). HeadJudged (authorityIn x (piece 0 []) (h .lines)) (requestBody x (framingOf (h .lines))) r) (sym (f .end))
-      (w .by (h .lines) (f .notes) (f .lie))
+      subst (λ (z : ℕ). HeadJudged (targetAuthority z (q .authority) (h .lines)) (requestBody z (framingOf (h .lines))) r) (sym (f .end))
+      (w .by (q .authority) (f .authority) (f .named) (h .lines) (f .notes) (f .lie))
 
-  pub rest-wrong : (i j : ℕ) → r ≡ head.Refused i j → (cs cs′ ts ts′ : List ℕ) → RestRead s t m p e k n cs cs′ ts ts′ (outcome.Refusal i j)
+  pub rest-wrong : (i j : ℕ) → r ≡ head.Refused i j → (cs cs′ ts ts′ : List ℕ) → RestRead s t m x e k n cs cs′ ts ts′ (outcome.Refusal i j)
   rest-wrong i j g cs cs′ ts ts′ =
       record {
-        by = λ q h f. subst (λ (x : Answer Message). RestSays x cs cs′ ts ts′ (outcome.Refusal i j)) (sym (rest-refused t q h s e i j (head-of q h f) g)) refl;
+        by = λ q h f. subst (λ (z : Answer Message). RestSays z cs cs′ ts ts′ (outcome.Refusal i j)) (sym (rest-refused t q h s e i j (head-of q h f) g)) refl;
       }
 
   module _ (a l : ℕ) (b : Body) (g : r ≡ head.Good a l b) where
     pub rest-good : (cs cs′ ts ts′ : List ℕ) (c : ContentRead) (o : Outcome) → Contented (run (content b) e (drop e s)) cs cs′ ts ts′ c
-        → o ≡ requestOutcome t m p a l k c → RestRead s t m p e k n cs cs′ ts ts′ o
+        → o ≡ requestOutcome t m x a l k c → RestRead s t m x e k n cs cs′ ts ts′ o
     rest-good cs cs′ ts ts′ c o u v =
-        record { by = λ q h f. rest-read t q h s m p e k n a l b cs cs′ ts ts′ c o f (head-good a l b (head-of q h f) g) u v }
+        record { by = λ q h f. rest-read t q h s m x e k n a l b cs cs′ ts ts′ c o f (head-good a l b (head-of q h f) g) u v }
 
-    pub rest-bounds : (q : RequestRead) (h : Lines) → HeadFacts s q h m p e k n → SizedWithin b × (a + l ≤ e)
+    pub rest-bounds : (q : RequestRead) (h : Lines) → HeadFacts s q h m x e k n → SizedWithin b × (a + l ≤ e)
     rest-bounds q h f =
-        let x = head-good a l b (head-of q h f) g in (
-          body-within (h .end) (h .lines) a l x,
-          omega (arith, f .end, authority-before (h .end) (h .lines) a l (subst (λ (z : ℕ). Each (Before z) (h .lines)) (sym (f .end)) (f .before)) x),
+        let y = head-good a l b (head-of q h f) g in
+        let i : q .authority .place + length (q .authority .text) ≤ h .end = omega (arith, f .end, f .authority, f .named, f .inside) in (
+          body-within (h .end) (h .lines) a l y,
+          omega (arith, f .end, authority-before (h .end) (q .authority) (h .lines) a l (subst (λ (z : ℕ). Each (Before z) (h .lines)) (sym (f .end)) (f .before)) i y),
         )

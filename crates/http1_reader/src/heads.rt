@@ -3,20 +3,27 @@ use crate::HeadAnswer;
 use messages::Authority;
 use messages::BodyAnswer;
 use messages::Notes;
-use messages::sections::host_in;
 use messages::sections::request_body;
+use messages::sections::target_authority;
 use octets::Refusals;
 ghost use mathlib.Core.Path.{_≡_};
 ghost use Rattle.octets.specs.Table.{classes};
 ghost use Rattle.http1_reader.specs.Readers.{RequestJudged};
 
-// A request's head that ends at `end`: host, then length.
-pub(crate) fn judge_request(t: &[u8; 256], s: &[u8], end: usize, notes: Notes) -> HeadAnswer
+// A request's head that ends at `end`, where the target has `hostlen` octets from `host` on for its authority: host, then length.
+pub(crate) fn judge_request(
+    t: &[u8; 256],
+    s: &[u8],
+    host: usize,
+    hostlen: usize,
+    end: usize,
+    notes: Notes,
+) -> HeadAnswer
     requires { ⌜ now t ≡ classes ⌝ }
-    ensures { λ r. ⌜ RequestJudged (now (s .entry)) end notes r ⌝ }
+    ensures { λ r. ⌜ RequestJudged (now (s .entry)) host hostlen end notes r ⌝ }
 {
     let hosts = notes.hosts;
-    let a = host_in(t, s, hosts);
+    let a = target_authority(t, s, host, hostlen, hosts);
     match a {
         Authority::Wrong => return HeadAnswer::Refused {
             number: Refusals::BAD_HOST,

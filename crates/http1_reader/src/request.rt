@@ -2,6 +2,7 @@
 use crate::HeadAnswer;
 use crate::heads::judge_request;
 use http1::RequestLine;
+use http1::Target;
 use http1::lines::request_line;
 use http1_parts::ContentRead;
 use http1_parts::Section;
@@ -38,13 +39,13 @@ fn request_outcome(
     read: ContentRead,
     told: Told,
     method: usize,
-    path: usize,
+    target: Target,
     start: usize,
     len: usize,
     fields: usize,
 ) -> Outcome
-    requires { ⌜ (method + 1 + path < placesEnd) × (start + len < placesEnd) ⌝ }
-    ensures { λ r. ⌜ r ≡ requestOutcome told method path start len fields read ⌝ }
+    requires { ⌜ (method + 1 + (target .start + target .len) < placesEnd) × (start + len < placesEnd) ⌝ }
+    ensures { λ r. ⌜ r ≡ requestOutcome told method target start len fields read ⌝ }
 {
     match read {
         ContentRead::More => Outcome::More,
@@ -72,11 +73,12 @@ fn request_outcome(
                 start: start as u32,
                 len: len as u32,
             };
-            let path_part = Part {
-                start: (method + 1) as u32,
-                len: path as u32,
+            let path = Part {
+                start: (method + 1 + target.start) as u32,
+                len: target.len as u32,
             };
-            let record = request_record(told.scheme, method_part, authority, path_part, counts);
+            let prefix = target.prefix;
+            let record = request_record(told.scheme, method_part, authority, prefix, path, counts);
             Outcome::Message(record)
         }
     }
@@ -88,24 +90,25 @@ fn read_rest(
     s: &[u8],
     told: Told,
     method: usize,
-    path: usize,
+    target: Target,
     end: usize,
     fields: usize,
     notes: Notes,
     chunks: &mut [u32],
     trailers: &mut [u32],
 ) -> Outcome
-    requires { ⌜ (now t ≡ classes) × (end ≤ length (now s)) × (end ≤ headMost) × (method + 1 + path ≤ headMost)
-        × (chunksRoom ≤ length (now chunks)) × (sectionRoom ≤ length (now trailers)) × HeadKnown (now s) method path end fields notes ⌝ }
-    ensures { λ r. ⌜ RestRead (now (s .entry)) told method path end fields notes
+    requires { ⌜ (now t ≡ classes) × (end ≤ length (now s)) × (end ≤ headMost) × (method + 1 + (target .start + target .len) ≤ headMost)
+        × (chunksRoom ≤ length (now chunks)) × (sectionRoom ≤ length (now trailers)) × HeadKnown (now s) method target end fields notes ⌝ }
+    ensures { λ r. ⌜ RestRead (now (s .entry)) told method target end fields notes
         (now (chunks .entry)) (now (chunks .exit)) (now (trailers .entry)) (now (trailers .exit)) r ⌝ }
 {
-    let j = judge_request(t, s, end, notes);
+    let host = method + 1 + target.host;
+    let j = judge_request(t, s, host, target.hostlen, end, notes);
     match j {
         HeadAnswer::Refused { number, place } => return Outcome::Refusal { number, place },
         HeadAnswer::Good { start, len, body } => {
             let c = read_content(t, s, end, body, chunks, trailers);
-            return request_outcome(c, told, method, path, start, len, fields);
+            return request_outcome(c, told, method, target, start, len, fields);
         }
     }
 }
@@ -116,15 +119,16 @@ fn read_head(
     s: &[u8],
     told: Told,
     method: usize,
-    path: usize,
+    target: Target,
     next: usize,
     headers: &mut [u32],
     chunks: &mut [u32],
     trailers: &mut [u32],
 ) -> Outcome
-    requires { ⌜ (now t ≡ classes) × (next ≤ length (now s)) × (method + 1 + path + versionLen ≡ next) × (next ≤ headMost)
+    requires { ⌜ (now t ≡ classes) × (next ≤ length (now s)) × (method + 1 + (target .start + target .len) + versionLen ≡ next)
+        × (method + 1 + (target .host + target .hostlen) + 2 ≤ next) × (next ≤ headMost)
         × (sectionRoom ≤ length (now headers)) × (chunksRoom ≤ length (now chunks)) × (sectionRoom ≤ length (now trailers)) ⌝ }
-    ensures { λ r. ⌜ BehindLineRead told (now (s .entry)) method path next
+    ensures { λ r. ⌜ BehindLineRead told (now (s .entry)) method target next
         (now (headers .entry)) (now (headers .exit)) (now (chunks .entry)) (now (chunks .exit)) (now (trailers .entry)) (now (trailers .exit)) r ⌝ }
 {
     let h = read_section(t, s, next, Limits::HEAD - next, false, 0, headers);
@@ -136,7 +140,18 @@ fn read_head(
             left: _,
             kept,
             notes,
-        } => return read_rest(t, s, told, method, path, end, kept, notes, chunks, trailers),
+        } => return read_rest(
+            t,
+            s,
+            told,
+            method,
+            target,
+            end,
+            kept,
+            notes,
+            chunks,
+            trailers,
+        ),
     }
 }
 
@@ -168,15 +183,15 @@ pub fn request_in(
             },
             Line::Ends(next) => {
                 let e = next - 2;
-                let q = request_line(t, &s[..e]);
+                let q = request_line(t, scheme, &s[..e]);
                 match q {
                     RequestLine::Bad { number } => return Outcome::Refusal { number, place: 0 },
-                    RequestLine::Of { method, path } => return read_head(
+                    RequestLine::Of { method, target } => return read_head(
                         t,
                         s,
                         told,
                         method,
-                        path,
+                        target,
                         next,
                         headers,
                         chunks,

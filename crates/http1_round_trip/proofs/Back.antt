@@ -18,7 +18,7 @@ use Rattle.messages.specs.declared.Ending.{Ending}
 use Rattle.messages.specs.declared.StatedLength.{StatedLength}
 use Rattle.messages.specs.declared.StatedLength.the-variants.{Missing, Of}
 use Rattle.messages.specs.declared.Told.{Told}
-use Rattle.messages.specs.Message.{requestStart, Message}
+use Rattle.messages.specs.Message.{requestStart, Message, wholePath}
 use Rattle.messages.specs.Control.{endsAtHead}
 use Rattle.messages.specs.Names.{keptTrailers}
 use Rattle.messages.specs.Meaning.{Field, Control, request, response, Meaning, meaning}
@@ -92,7 +92,7 @@ request-back t (request m s a p) fs b ts Missing v f e =
     let l : List ℕ = requestLine m p in
     let h : List Field = requestLines t m a fs b ts in
     let x : s ≡ t .scheme = eqb-true s (t .scheme) e in
-    reads-as (ap (λ (z : ℕ). placedFrom (requestStart (piece 0 m) z (piece (0 + length l + 6) a) (piece (0 + (length m + 1)) p)) (0 + length l) h b ts Missing) (sym x))
+    reads-as (ap (λ (z : ℕ). placedFrom (requestStart (piece 0 m) z (piece (0 + length l + 6) a) (wholePath (piece (0 + (length m + 1)) p))) (0 + length l) h b ts Missing) (sym x))
     (reads-from (append-assoc l (sectionText h) (bodyText b ts))
     (reads-request t m a p fs b ts 0 (o .method) (o .named) (o .path) (section-fields false fs (ok .headers)) (ok .content) (trailers-ok t w v f) (fit .lines) (fit .head)))
 

@@ -18,7 +18,7 @@ use Rattle.numbers.specs.Digits.{digits}
 use Rattle.numbers.proofs.DigitLaws.{digits-value}
 use Rattle.script.specs.Script.{free}
 use Rattle.script.specs.Do.{piece, good}
-use Rattle.messages.specs.Control.{methodVerdict, pathVerdict, statusVerdict, isHost, isLowerName, isTrimmedValue}
+use Rattle.messages.specs.Control.{methodVerdict, pathVerdict, statusVerdict, isHost, isLowerName, isTrimmedValue, isOptions}
 use Rattle.messages.specs.Meaning.{Field}
 use Rattle.messages.proofs.Verdicts.{method-rule, path-rule, name-rule, value-rule}
 use Rattle.messages.proofs.Stating.{LineOk, bare-value}
@@ -26,6 +26,7 @@ use Rattle.http1.specs.Lines.{requestOf, statusOf, fieldOf, chunkOf}
 use Rattle.http1.proofs.Back.{field-back, request-back, status-back, chunk-back, chunk-end}
 use Rattle.http1_writer.specs.Write.{hostField, codingField}
 use Rattle.http1_round_trip.proofs.Placed.{lineAt}
+use Rattle.messages.specs.Message.{wholePath}
 
 -- ---- octets of a value have no CR and no LF
 
@@ -106,23 +107,26 @@ coding-line = record { name = names .1; value = names .2 }
 
 -- ---- request lines
 
-module _ (m p : List ℕ) (hm : methodVerdict m ≡ 0) (hp : pathVerdict p ≡ 0) where
+module _ (m p : List ℕ) (hm : methodVerdict m ≡ 0) (hp : pathVerdict (isOptions m) p ≡ 0) where
   pub request-clean : Clean (m ++ 32 ∷ [] ++ p ++ ascii " HTTP/1.1")
   request-clean =
       let a = all-implied (hasClass token) (hasClass value) token-value m (method-rule m hm .1) in
-      let b = all-implied (hasClass path) (hasClass value) path-value p (path-rule p hp .2) in
+      let b = all-implied (hasClass path) (hasClass value) path-value p (path-rule (isOptions m) p hp .2) in
       clean _ (values _ _ (values _ _ (values _ _ a (signs .1)) b) (signs .2))
 
-  pub request-good : (at : ℕ)
-      → requestOf (piece at (m ++ 32 ∷ [] ++ p ++ ascii " HTTP/1.1")) ≡ good (record { method = piece at m; path = piece (at + (length m + 1)) p })
+  pub request-good : (scheme at : ℕ)
+      → requestOf scheme (piece at (m ++ 32 ∷ [] ++ p ++ ascii " HTTP/1.1"))
+      ≡ good (record { method = piece at m; path = wholePath (piece (at + (length m + 1)) p); authority = piece (at + (length m + 1)) [] })
   unfolding requestOf
-  request-good at =
+  request-good scheme at =
+      let z : length m + 1 + 0 ≡ length m + 1 = omega arith in
       let w : List ℕ = p ++ ascii " HTTP/1.1" in
       let d : drop (length m + 1) (m ++ 32 ∷ w) ≡ w = drop-append-add m (32 ∷ w) 1 in
       rw (
         append-assoc (m ++ 32 ∷ []) p (ascii " HTTP/1.1"),
         append-assoc m (32 ∷ []) w,
-        request-back m p hm hp,
+        request-back scheme m p hm hp,
+        z,
         take-append-seam m (32 ∷ w),
         d,
         take-append-seam p (ascii " HTTP/1.1"),

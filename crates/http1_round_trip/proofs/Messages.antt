@@ -11,9 +11,9 @@ use Rattle.octets.specs.Limits.{headMost, linesMost, contentMost, informational
 use Rattle.script.specs.Do.{piece, good, Reads}
 use Rattle.script.proofs.Do.{reads-done, reads-word, reads-tell, reads-bind, before, behind}
 use Rattle.messages.specs.declared.Told.{Told}
-use Rattle.messages.specs.Message.{InformationalRead, requestStart, responseStart, Message}
-use Rattle.messages.specs.Control.{methodVerdict, pathVerdict, isHost, statusVerdict, isInformational}
-use Rattle.messages.specs.Rules.{framingOf, nothingStated}
+use Rattle.messages.specs.Message.{InformationalRead, requestStart, responseStart, Message, wholePath}
+use Rattle.messages.specs.Control.{methodVerdict, pathVerdict, isHost, statusVerdict, isInformational, isOptions}
+use Rattle.messages.specs.Rules.{framingOf, nothingStated, targetAuthority}
 use Rattle.messages.specs.declared.Body.the-variants.{Sized}
 use Rattle.messages.specs.declared.StatedLength.{StatedLength}
 use Rattle.messages.specs.declared.StatedLength.the-variants.{Missing}
@@ -28,15 +28,16 @@ use Rattle.http1_round_trip.proofs.Lines.{host-line, request-clean, req
 use Rattle.http1_round_trip.proofs.Sections.{reads-from, reads-as, reads-section}
 use Rattle.http1_round_trip.proofs.Keeping.{unstated, lead-ok, requestLength, requestLines, request-host, request-told, responseLength, responseLines, response-told, response-stated}
 use Rattle.http1_round_trip.proofs.Body.{TrailersOk, reads-body}
+use Rattle.octets.specs.Text.{isEmpty}
 
 -- ---- requests
 
 pub reads-request : (t : Told) (m a p : List ℕ) (fs : List Field) (c : List ℕ) (ts : List Field) (at : ℕ)
-    → methodVerdict m ≡ 0 → isHost a ≡ true → pathVerdict p ≡ 0 → validFields false fs ≡ true → length c ≤ contentMost → TrailersOk ts
+    → methodVerdict m ≡ 0 → isHost a ≡ true → pathVerdict (isOptions m) p ≡ 0 → validFields false fs ≡ true → length c ≤ contentMost → TrailersOk ts
     → length (requestLines t m a fs c ts) ≤ linesMost → length (requestLine m p ++ sectionText (requestLines t m a fs c ts)) ≤ headMost
     → Reads (request t) at (requestLine m p ++ (sectionText (requestLines t m a fs c ts) ++ bodyText c ts))
-    (placedFrom (requestStart (piece at m) (t .scheme) (piece (at + length (requestLine m p) + 6) a) (piece (at + (length m + 1)) p)) (at + length (requestLine m p)) (requestLines t m a fs c ts) c ts Missing)
-unfolding request afterHead requestLine
+    (placedFrom (requestStart (piece at m) (t .scheme) (piece (at + length (requestLine m p) + 6) a) (wholePath (piece (at + (length m + 1)) p))) (at + length (requestLine m p)) (requestLines t m a fs c ts) c ts Missing)
+unfolding request afterHead requestLine targetAuthority isEmpty
 reads-request t m a p fs c ts at hm ha hp v few ok lines fit =
     let w : List ℕ = m ++ 32 ∷ [] ++ p ++ ascii " HTTP/1.1" in
     let s : List ℕ = sectionText (requestLines t m a fs c ts) in
@@ -44,7 +45,7 @@ reads-request t m a p fs c ts at hm ha hp v few ok lines fit =
     let l2 : length (w ++ crlf) ≡ length w + 2 = length-append w crlf in
     let k = request-clean m p hm hp in
     reads-bind _ (reads-word (lineWithin headMost) at w (k .lf, k .cr, omega arith))
-    (before _ (reads-tell _ _ _ (request-good m p hm hp at))
+    (before _ (reads-tell _ _ _ (request-good m p hm hp (t .scheme) at))
     (reads-bind _ (reads-section (requestLines t m a fs c ts) (headMost - (length w + 2)) _ (host-line a ha, lead-ok false fs v (requestLength t m c ts)) lines (omega arith))
     (before _ (reads-tell _ _ _ (request-host t m a fs c ts _ v _ ha))
     (before _ (reads-tell _ _ _ (request-told t m a fs c ts _ v _ few))

@@ -6,7 +6,7 @@ use lib.ListN.{length}
 use Rattle.octets.specs.Ascii.{ascii}
 use Rattle.numbers.specs.Digits.{digits}
 use Rattle.script.specs.Do.{piece}
-use Rattle.messages.specs.Message.{FieldRead, InformationalRead, Start, requestStart, responseStart, Message, nonEmpty}
+use Rattle.messages.specs.Message.{FieldRead, InformationalRead, Start, requestStart, responseStart, Message, nonEmpty, wholePath}
 use Rattle.messages.specs.Meaning.{Field, Informational, Control, request, response, Meaning}
 use Rattle.messages.specs.Valid.{noFields}
 use Rattle.messages.specs.declared.StatedLength.{StatedLength}
@@ -42,7 +42,7 @@ contentAt at c ts =
 
 -- control data; the authority is the value of the first line, behind "host: "
 abbrev pub startAt : ℕ → Control → Start
-startAt at (request m s a p) = requestStart (piece at m) s (piece (at + length (requestLine m p) + 6) a) (piece (at + (length m + 1)) p)
+startAt at (request m s a p) = requestStart (piece at m) s (piece (at + length (requestLine m p) + 6) a) (wholePath (piece (at + (length m + 1)) p))
 startAt at (response hs s) = responseStart (headsAt at hs) s
 
 -- lines, content and trailers from the place `at` on, behind control data

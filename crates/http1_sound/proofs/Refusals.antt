@@ -1,5 +1,5 @@
 -- What the two readers of HTTP/1.1 refuse with, and where.
-use Prim.Native.Nat.{ℕ, zero, suc, _+_, _≤_}
+use Prim.Native.Nat.{ℕ, _-_, zero, suc, _+_, _≤_}
 use mathlib.Core.Path.{_≡_, refl}
 use mathlib.Core.Bool.{Bool, true, false, cond}
 use mathlib.Core.List.{List, [], _∷_, _++_}
@@ -7,24 +7,25 @@ use native.Mathlib.Omega.{arith}
 use borrow.Author.Tests.{eqb-false}
 use lib.Dec.{eqb, leb, ltb}
 use lib.ListN.{length, take, drop, length-append}
-use Rattle.octets.specs.Limits.{headMost, trailerMost, chunkLineMost, linesMost, chunksMost, contentMost, informationalMost}
-use Rattle.octets.specs.Refusals.{badSyntax, badVersion, notSupported, tooLarge}
-use Rattle.octets.specs.Text.{spanLen, sameText, isEmpty}
+use Rattle.octets.specs.Limits.{headMost, trailerMost, chunkLineMost, linesMost, chunksMost, contentMost, informationalMost, pathMost}
+use Rattle.octets.specs.Refusals.{badSyntax, badVersion, notSupported, tooLarge, badHost, otherScheme}
+use Rattle.octets.specs.Text.{spanLen, sameText, isEmpty, all}
 use Rattle.octets.proofs.Kit.{either}
 use Rattle.script.specs.Script.{refused, someOctets, Script, run}
 use Rattle.script.specs.Do.{Piece, piece, good, wrong}
 use Rattle.script.proofs.Refusals.{Judges, Stops, CutRefuses, stops-done, stops-stop, stops-word, stops-if, stops-bind, stops-then, stops-judged, stops-all}
 use Rattle.messages.specs.declared.Told.{Told}
-use Rattle.messages.specs.Message.{FieldRead, InformationalRead}
-use Rattle.messages.specs.Control.{methodVerdict, pathVerdict, statusVerdict, isInformational}
+use Rattle.messages.specs.Message.{FieldRead, InformationalRead, prefixOctets}
+use Rattle.messages.specs.Control.{methodVerdict, pathVerdict, statusVerdict, isInformational, isOptions, isHost}
 use Rattle.messages.specs.Names.{areTrailers}
-use Rattle.messages.specs.Rules.{authorityIn, framingOf, requestBody, nothingStated, responseBody}
+use Rattle.messages.specs.Rules.{authorityIn, framingOf, requestBody, nothingStated, responseBody, targetAuthority}
 use Rattle.messages.specs.Valid.{isScheme}
 use Rattle.messages.specs.declared.Body.{Body}
 use Rattle.messages.specs.declared.Body.the-variants.{Sized, InChunks, UntilClosed}
-use Rattle.http1.specs.Lines.{isOther, version, requestParts, requestVersion, requestTarget, requestLens, onRequest, requestOf, statusAt, statusVersion, isStatusShape, statusLens, onStatus, statusOf}
+use Rattle.http1.specs.Lines.{isOther, version, requestParts, requestVersion, requestTarget, requestLens, onRequest, requestOf, statusAt, statusVersion, isStatusShape, statusLens, onStatus, statusOf, onTarget}
 use Rattle.http1.specs.Lines.{fieldLens, onField, fieldOf, chunkLens, onChunk, chunkOf}
 use Rattle.http1.specs.Read.{lineWithin, less, Lines, fieldLines, section, trailerSection, chunkData, chunksFrom, content, afterHead, request, readRequest, ResponseCall, responseCall, afterFinal, heads, headsThen, readResponse}
+use Rattle.http1.specs.declared.TargetRead.the-variants as target
 use Rattle.http1.specs.declared.RequestLine.{RequestLine}
 use Rattle.http1.specs.declared.RequestLine.the-variants as request
 use Rattle.http1.specs.declared.StatusLine.{StatusLine}
@@ -36,8 +37,11 @@ use Rattle.http1.specs.declared.ChunkLine.the-variants as chunk
 use Rattle.sound.specs.Placed.{Each}
 use Rattle.sound.specs.Refusal.{isOneOf, Refusal}
 use Rattle.sound.proofs.Each.{each-snoc}
-use Rattle.sound.proofs.Refusals.{Among, among, commonNumbers, Common, statusNumbers, method-verdict, path-verdict, status-verdict, not-good, NamedIn, framing-in, Refuses, refusal, authority-judged, nothing-judged, request-judged, response-judged}
+use Rattle.sound.proofs.Refusals.{Among, among, commonNumbers, Common, statusNumbers, method-verdict, path-verdict, status-verdict, not-good, NamedIn, framing-in, Refuses, refusal, target-judged, nothing-judged, request-judged, response-judged}
 use Rattle.http1_sound.specs.Read.{requestNumbers, responseNumbers, RequestsRefused, ResponsesRefused}
+use Rattle.http1.specs.declared.TargetRead.{TargetRead}
+use Rattle.http1.specs.Target.{absoluteTarget, targetOf, absolutePath, plainTarget, schemeLen, isBeforePath, schemeNumber, prefixOf}
+use Rattle.octets.specs.Class.{hasClass, path}
 
 -- the numbers that both readers have
 request-wide : Among commonNumbers requestNumbers
@@ -48,7 +52,7 @@ response-wide = among commonNumbers responseNumbers (refl, (refl, (refl, (refl, 
 
 -- those of a start line: of a request's, and of a response's
 abbrev requestLineNumbers : List ℕ
-requestLineNumbers = badVersion ∷ commonNumbers
+requestLineNumbers = badVersion ∷ badHost ∷ otherScheme ∷ commonNumbers
 
 abbrev statusLineNumbers : List ℕ
 statusLineNumbers = badSyntax ∷ badVersion ∷ statusNumbers
@@ -65,27 +69,59 @@ common-line = among commonNumbers requestLineNumbers (refl, (refl, (refl, (refl,
 syntax-number : Common badSyntax
 syntax-number = refl
 
-request-parts : (w : List ℕ) (m p : ℕ) → OfRequest (requestParts w m p)
-unfolding requestParts
-request-parts w m p =
-    either OfRequest (eqb (methodVerdict (take m w)) 0) _ _
-    (λ a.
-    either OfRequest (eqb (pathVerdict (take p (drop (m + 1) w))) 0) _ _ (λ b. tt)
-    (λ b. common-line .has (pathVerdict (take p (drop (m + 1) w))) (not-good commonNumbers (path-verdict (take p (drop (m + 1) w))) (eqb-false (pathVerdict (take p (drop (m + 1) w))) 0 b))))
-    (λ a. common-line .has (methodVerdict (take m w)) (not-good commonNumbers (method-verdict (take m w)) (eqb-false (methodVerdict (take m w)) 0 a)))
+abbrev OfTarget : TargetRead → Type 0
+OfTarget (target.Of x) = Unit {0}
+OfTarget (target.Bad n) = isOneOf requestLineNumbers n ≡ true
 
-request-version : (w : List ℕ) (m e : ℕ) → OfRequest (requestVersion w m e)
-unfolding requestVersion
-request-version w m e =
-    either OfRequest (eqb (e + 1 + spanLen (isOther 32) (drop (e + 1) w)) (length w)) _ _
-    (λ a. either OfRequest (sameText (drop (e + 1) w) version) _ _ (λ b. request-parts w m _) (λ b. refl))
+absolute-path : (scheme : ℕ) (options : Bool) (w : List ℕ) (k e : ℕ) → OfTarget (absolutePath scheme options w k e)
+unfolding absolutePath
+absolute-path scheme options w k e =
+    either OfTarget (leb (length (prefixOctets (prefixOf options (drop e w))) + (length w - e)) pathMost) _ _
+    (λ c. either OfTarget (eqb (schemeNumber k) scheme) _ _ (λ d. tt) (λ d. refl))
+    (λ c. refl)
+
+absolute-target : (scheme : ℕ) (options : Bool) (w : List ℕ) (k : ℕ) → OfTarget (absoluteTarget scheme options w k)
+unfolding absoluteTarget
+absolute-target scheme options w k =
+    either OfTarget (all (hasClass path) w) _ _
+    (λ a.
+    either OfTarget (isHost (take (spanLen isBeforePath (drop k w)) (drop k w))) _ _
+    (λ b. absolute-path scheme options w k (k + spanLen isBeforePath (drop k w)))
+    (λ b. refl))
     (λ a. refl)
 
-request-lens : (w : List ℕ) → OfRequest (requestLens w)
+any-target : (scheme : ℕ) (options : Bool) (w : List ℕ) → OfTarget (targetOf scheme options w)
+unfolding targetOf plainTarget
+any-target scheme options w =
+    either OfTarget (eqb (schemeLen w) 0) _ _
+    (λ a.
+    either OfTarget (eqb (pathVerdict options w) 0) _ _ (λ b. tt)
+    (λ b. common-line .has (pathVerdict options w) (not-good commonNumbers (path-verdict options w) (eqb-false (pathVerdict options w) 0 b))))
+    (λ a. absolute-target scheme options w (schemeLen w))
+
+on-target : (m : ℕ) (x : TargetRead) → OfTarget x → OfRequest (onTarget m x)
+on-target m (target.Of x) h = tt
+on-target m (target.Bad n) h = h
+
+request-parts : (scheme : ℕ) (w : List ℕ) (m p : ℕ) → OfRequest (requestParts scheme w m p)
+unfolding requestParts
+request-parts scheme w m p =
+    either OfRequest (eqb (methodVerdict (take m w)) 0) _ _
+    (λ a. on-target m (targetOf scheme (isOptions (take m w)) (take p (drop (m + 1) w))) (any-target scheme (isOptions (take m w)) (take p (drop (m + 1) w))))
+    (λ a. common-line .has (methodVerdict (take m w)) (not-good commonNumbers (method-verdict (take m w)) (eqb-false (methodVerdict (take m w)) 0 a)))
+
+request-version : (scheme : ℕ) (w : List ℕ) (m e : ℕ) → OfRequest (requestVersion scheme w m e)
+unfolding requestVersion
+request-version scheme w m e =
+    either OfRequest (eqb (e + 1 + spanLen (isOther 32) (drop (e + 1) w)) (length w)) _ _
+    (λ a. either OfRequest (sameText (drop (e + 1) w) version) _ _ (λ b. request-parts scheme w m _) (λ b. refl))
+    (λ a. refl)
+
+request-lens : (scheme : ℕ) (w : List ℕ) → OfRequest (requestLens scheme w)
 unfolding requestLens requestTarget
-request-lens w =
+request-lens scheme w =
     either OfRequest (leb (length w) (spanLen (isOther 32) w)) _ _ (λ a. refl)
-    (λ a. either OfRequest (leb (length w) _) _ _ (λ b. refl) (λ b. request-version w _ _))
+    (λ a. either OfRequest (leb (length w) _) _ _ (λ b. refl) (λ b. request-version scheme w _ _))
 
 abbrev OfStatus : StatusLine → Type 0
 OfStatus (status.Of n) = Unit {0}
@@ -108,13 +144,13 @@ status-lens w =
     (λ a. refl)
 
 module _ (s : List ℕ) (l : Piece) (i : l .place ≤ length s) where
-  request-line : Refuses requestNumbers s (requestOf l)
+  request-line : (scheme : ℕ) → Refuses requestNumbers s (requestOf scheme l)
   unfolding requestOf
-  request-line = on (requestLens (l .text)) (request-lens (l .text))
+  request-line scheme = on (requestLens scheme (l .text)) (request-lens scheme (l .text))
     where
       on : (x : RequestLine) → OfRequest x → Refuses requestNumbers s (onRequest l x)
       on (request.Of m p) h = tt
-      on (request.Bad n) h = record { ofForm = among requestLineNumbers requestNumbers (refl, (refl, (refl, (refl, (refl, tt))))) .has n h; inside = i }
+      on (request.Bad n) h = record { ofForm = among requestLineNumbers requestNumbers (refl, (refl, (refl, (refl, (refl, (refl, (refl, tt))))))) .has n h; inside = i }
 
   status-line : Refuses responseNumbers s (statusOf l)
   unfolding statusOf
@@ -225,9 +261,9 @@ module _ {s : List ℕ} where
   unfolding request afterHead
   stops-request {at} t =
       stops-bind _ (stops-word (lineWithin headMost) (line-refuses request-wide headMost) λ w g i.
-      stops-judged (λ x. Unit {0}) (requestOf (piece at w)) _ (request-line s (piece at w) (omega arith)) λ q a.
+      stops-judged (λ x. Unit {0}) (requestOf (t .scheme) (piece at w)) _ (request-line s (piece at w) (omega arith) (t .scheme)) λ q a.
       stops-then _ (stops-section request-wide (less headMost (piece at w))) λ n h k.
-      stops-judged (λ x. Unit {0}) (authorityIn (h .end) (piece 0 []) (h .lines)) _ (authority-judged requestNumbers s request-wide (h .end) (k .end) refl (piece 0 []) (h .lines)) λ u b.
+      stops-judged (λ x. Unit {0}) (targetAuthority (h .end) (q .authority) (h .lines)) _ (target-judged requestNumbers s request-wide (h .end) (k .end) refl (q .authority) (h .lines)) λ u b.
       stops-judged (λ x. Unit {0}) (requestBody (h .end) (framingOf (h .lines))) _
       (request-judged requestNumbers s request-wide (h .end) (k .end) (framingOf (h .lines)) (framing-in (length s) (h .lines) (k .lines))) λ v c.
       stops-then _ (stops-content request-wide v) λ j d z.

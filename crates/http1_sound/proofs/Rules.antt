@@ -2,19 +2,19 @@
 use Prim.Native.Nat.{ℕ, _+_, _-_, _<_, _≤_}
 use mathlib.Core.Path.{_≡_, refl, sym, subst}
 use mathlib.Core.Bool.{Bool, true, false, cond}
-use mathlib.Core.List.{List, [], map}
+use mathlib.Core.List.{List, [], map, _∷_}
 use native.Mathlib.Omega.{arith}
-use borrow.Author.Tests.{eq-eqb, leb-true}
+use borrow.Author.Tests.{eq-eqb, leb-true, ne-eqb}
 use lib.Dec.{leb, eqb}
 use lib.ListN.{length}
 use Rattle.octets.specs.Limits.{linesMost, contentMost}
-use Rattle.octets.specs.Refusals.{tooLarge}
+use Rattle.octets.specs.Refusals.{tooLarge, badHost}
 use Rattle.octets.specs.Text.{isEmpty}
 use Rattle.script.specs.Do.{Piece, piece, good, wrong}
 use Rattle.messages.specs.Message.{FieldRead}
-use Rattle.messages.specs.Control.{endsAtHead}
-use Rattle.messages.specs.Names.{kept, keptTrailers}
-use Rattle.messages.specs.Rules.{authorityIn, requestBody, bodylessRule, unmeasuredBody, contentBody, responseBody, lengthIn, agrees}
+use Rattle.messages.specs.Control.{endsAtHead, isHost}
+use Rattle.messages.specs.Names.{kept, keptTrailers, linesOf}
+use Rattle.messages.specs.Rules.{authorityIn, requestBody, bodylessRule, unmeasuredBody, contentBody, responseBody, lengthIn, agrees, targetAuthority, hostOnce}
 use Rattle.messages.specs.Told.{isYes, endingOf}
 use Rattle.messages.specs.Notes.{isClashing}
 use Rattle.messages.specs.Meaning.{Informational, response, Meaning, fieldMeans, contentOf}
@@ -30,13 +30,37 @@ use Rattle.messages.specs.declared.Told.{Told}
 use Rattle.http1.specs.Read.{Content}
 use Rattle.sound.proofs.Rules.{HostIs, authority-is}
 use Rattle.sound.proofs.Stated.{bodyless, content-not-204}
+use mathlib.Core.Logic.{inr, _⊎_, inl}
 
 -- ---- host
 
--- in HTTP/1.1 control data have no authority
-pub host-is : (end : ℕ) (fs : List FieldRead) (a : Piece) → authorityIn end (piece 0 []) fs ≡ good a → HostIs fs a
+-- where the target has no authority
+host-is : (end : ℕ) (fs : List FieldRead) (a : Piece) → authorityIn end (piece 0 []) fs ≡ good a → HostIs fs a
 unfolding isEmpty
 host-is end fs a e = authority-is end (piece 0 []) fs a e
+
+-- the authority of a request: the value of the one host line, or the target's, which is q
+pub record HostOf (q : Piece) (fs : List FieldRead) (a : Piece) : Type 0 where
+  pub line : FieldRead
+  pub one : linesOf kind.Host fs ≡ line ∷ []
+  pub from : ((a ≡ line .value) × (isHost (a .text) ≡ true)) ⊎ ((a ≡ q) × (isEmpty (q .text) ≡ false))
+
+pub host-of : (end : ℕ) (q : Piece) (fs : List FieldRead) (a : Piece) → targetAuthority end q fs ≡ good a → HostOf q fs a
+unfolding targetAuthority hostOnce
+host-of end q fs a = go (isEmpty (q .text)) refl
+  where
+    once : (ls : List FieldRead) → linesOf kind.Host fs ≡ ls → isEmpty (q .text) ≡ false → cond (eqb (length ls) 1) (good q) (wrong badHost end) ≡ good a → HostOf q fs a
+    once [] l e g = let z : _≡_ {A = ℕ} 0 1 = cc in absurd (omega arith)
+    once (f ∷ []) l e g = let z : q ≡ a = cc in record { line = f; one = l; from = inr (sym z, e) }
+    once (f ∷ h ∷ ls) l e g =
+        let x : (length (f ∷ h ∷ ls) ≡ 1 → ⊥) = λ y. omega arith in
+        let w : wrong badHost end ≡ good a = rw (ne-eqb (length (f ∷ h ∷ ls)) 1 x) at g in
+        let z : _≡_ {A = ℕ} 0 1 = cc in absurd (omega arith)
+
+    go : (b : Bool) → isEmpty (q .text) ≡ b → cond b (authorityIn end (piece 0 []) fs) (cond (eqb (length (linesOf kind.Host fs)) 1) (good q) (wrong badHost end)) ≡ good a
+        → HostOf q fs a
+    go true e g = let o = host-is end fs a g in record { line = o .line; one = o .one; from = inl (o .same, o .good) }
+    go false e g = once (linesOf kind.Host fs) refl e g
 
 -- ---- lengths
 

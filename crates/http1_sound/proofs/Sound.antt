@@ -15,10 +15,10 @@ use Rattle.script.proofs.Do.{every-bind, every-tell, every-then}
 use Rattle.script.proofs.Sound.{says, sound-all}
 use Rattle.messages.specs.Told.{isYes, answering, closing}
 use Rattle.messages.specs.declared.Told.{Told}
-use Rattle.messages.specs.Message.{InformationalRead, requestStart, responseStart, Message, plainMessage, statingMessage}
-use Rattle.messages.specs.Control.{statusVerdict, isInformational, isBodyless, endsAtHead}
-use Rattle.messages.specs.Names.{kept, keptTrailers}
-use Rattle.messages.specs.Rules.{authorityIn, framingOf, requestBody, nothingStated, responseBody, lengthIn, statedIn}
+use Rattle.messages.specs.Message.{InformationalRead, requestStart, responseStart, Message, plainMessage, statingMessage, FieldRead, pathOctets}
+use Rattle.messages.specs.Control.{statusVerdict, isInformational, isBodyless, endsAtHead, isHost}
+use Rattle.messages.specs.Names.{kept, keptTrailers, linesOf}
+use Rattle.messages.specs.Rules.{authorityIn, framingOf, requestBody, nothingStated, responseBody, lengthIn, statedIn, targetAuthority}
 use Rattle.messages.specs.Meaning.{fieldMeans, contentOf, meaning}
 use Rattle.messages.specs.Valid.{isScheme, validBody, validStated, suits}
 use Rattle.messages.specs.declared.Body.{Body}
@@ -28,29 +28,54 @@ use Rattle.messages.specs.declared.Kind.the-variants as kind
 use Rattle.http1.specs.Lines.{RequestRead, requestOf, statusOf}
 use Rattle.http1.specs.Read.{lineWithin, less, Lines, section, Content, content, afterHead, request, readRequest, ResponseCall, responseCall, afterFinal, heads, headsThen, readResponse}
 use Rattle.sound.specs.Sound.{Sound, StatesLength}
-use Rattle.http1_sound.specs.Read.{IsRequest, IsResponse, Unmeasured, SoundRequest, RequestsSound, ResponsesSound, Http1Reads}
+use Rattle.http1_sound.specs.Read.{IsRequest, IsResponse, Unmeasured, SoundRequest, RequestsSound, ResponsesSound, Http1Reads, InTarget}
 use Rattle.sound.proofs.Parts.{SectionAt, request-valid, HeadsAt, head-at, heads-none, heads-snoc, heads-lie, heads-good, response-valid, PartsAt, parts-sound}
 use Rattle.sound.proofs.Rules.{HostIs, host-lies}
 use Rattle.sound.proofs.Stated.{stated-few, content-status, none-stated}
-use Rattle.http1_sound.proofs.Rules.{host-is, Fills, Reaches, ends-with-stream, request-framed, ResponseFramed, response-framed}
-use Rattle.http1_sound.proofs.Lines.{RequestAt, request-at, status-good}
+use Rattle.http1_sound.proofs.Rules.{HostOf, host-of, Fills, Reaches, ends-with-stream, request-framed, ResponseFramed, response-framed}
+use Rattle.http1_sound.proofs.Lines.{RequestAt, request-at, status-good, TargetHost}
 use Rattle.http1_sound.proofs.Sections.{SectionRead, every-section, ContentAt, every-content}
 use Rattle.http1_sound.proofs.Closing.{closed-later}
 use Rattle.http1_sound.proofs.Front.{request-within, response-within, request-front, response-front}
+use mathlib.Core.Logic.{_⊎_, inl, inr}
+use Rattle.octets.specs.Text.{isEmpty}
+use Rattle.sound.specs.Placed.{Lying}
 
 -- ---- requests
 
 abbrev requestMessage : Told → RequestRead → Piece → Lines → Content → Message
 requestMessage t q a h c = plainMessage (requestStart (q .method) (t .scheme) a (q .path)) (h .lines) (c .chunks) (c .trailers)
 
+-- the authority lies in the input and names a host; it is the one host line's value, or the target's
+record HostAt (s : List ℕ) (q : RequestRead) (fs : List FieldRead) (a : Piece) : Type 0 where
+  line : FieldRead
+  one : linesOf kind.Host fs ≡ line ∷ []
+  from : (a ≡ line .value) ⊎ InTarget a (q .path)
+  good : isHost (a .text) ≡ true
+  lies : Lying s a
+
+host-at : (s : List ℕ) (q : RequestRead) (fs : List FieldRead) (a : Piece) → RequestAt s q → SectionAt s fs → HostOf (q .authority) fs a → HostAt s q fs a
+host-at s q fs a r k o = go (o .from)
+  where
+    own : (b : Piece) → b ≡ q .authority → TargetHost (q .authority) (q .path) → isEmpty (q .authority .text) ≡ false → HostAt s q fs b
+    own b e (inl i) f = let z : _≡_ {A = ℕ} 0 1 = cc in absurd (omega arith)
+    own b e (inr i) f =
+        record { line = o .line; one = o .one; from = inr (rw e (i .1)); good = rw e (i .0); lies = rw e (r .authority) }
+
+    go : ((a ≡ o .line .value) × (isHost (a .text) ≡ true)) ⊎ ((a ≡ q .authority) × (isEmpty (q .authority .text) ≡ false)) → HostAt s q fs a
+    go (inl e) =
+        let h : HostIs fs a = record { line = o .line; one = o .one; same = e .0; good = e .1 } in
+        record { line = o .line; one = o .one; from = inl (e .0); good = e .1; lies = host-lies s fs a k h }
+    go (inr e) = own a (e .0) (r .target) (e .1)
+
 request-parts : (s : List ℕ) (t : Told) (q : RequestRead) (a : Piece) (h : Lines) (c : Content) → isScheme (t .scheme) ≡ true → RequestAt s q
-    → SectionAt s (h .lines) → HostIs (h .lines) a → ContentAt s c → PartsAt s (requestMessage t q a h c)
+    → SectionAt s (h .lines) → HostAt s q (h .lines) a → ContentAt s c → PartsAt s (requestMessage t q a h c)
 unfolding validBody
 request-parts s t q a h c e r k p x = record {
-  control = request-valid (q .method .text) (a .text) (q .path .text) (t .scheme) (r .methodGood) e (p .good) (r .pathGood);
+  control = request-valid (q .method .text) (a .text) (pathOctets (q .path)) (t .scheme) (r .methodGood) e (p .good) (r .pathGood);
   body = refl;
   stated = none-stated _;
-  start = (r .method, host-lies s (h .lines) a k p, r .path);
+  start = (r .method, p .lies, r .path);
   heads = tt;
   lines = k;
   chunks = x .chunks;
@@ -70,16 +95,17 @@ every-request : (s : List ℕ) (t : Told) (at : ℕ) → isScheme (t .scheme) �
 unfolding request afterHead suits meaning
 every-request s t at sc =
     every-bind s _ at (word (lineWithin headMost)) _ λ w g y.
-    every-bind s _ _ (tell (requestOf (piece at w))) _ (every-tell s _ _ (requestOf (piece at w)) λ q e.
+    every-bind s _ _ (tell (requestOf (t .scheme) (piece at w))) _ (every-tell s _ _ (requestOf (t .scheme) (piece at w)) λ q e.
     every-then s (λ n h. SectionRead s n h) _ _ (section (less headMost (piece at w))) _ (every-section s (less headMost (piece at w)) _) λ i h k.
-    every-bind s _ _ (tell (authorityIn (h .end) (piece 0 []) (h .lines))) _ (every-tell s _ _ (authorityIn (h .end) (piece 0 []) (h .lines)) λ a p.
+    every-bind s _ _ (tell (targetAuthority (h .end) (q .authority) (h .lines))) _ (every-tell s _ _ (targetAuthority (h .end) (q .authority) (h .lines)) λ a p.
     every-bind s _ _ (tell (requestBody (h .end) (framingOf (h .lines)))) _ (every-tell s _ _ (requestBody (h .end) (framingOf (h .lines))) λ b r.
     let f = request-framed (h .end) (framingOf (h .lines)) b r in
-    let o = host-is (h .end) (h .lines) a p in
+    let r′ = request-at s (t .scheme) (piece at w) q e y in
+    let o = host-at s q (h .lines) a r′ (k .lines) (host-of (h .end) (q .authority) (h .lines) a p) in
     every-then s (λ n c. ContentAt s c × Fills b c × Reaches (length s) b i n) _ _ (content b) _ (every-content s b _ (f .fits)) λ j c x.
     record {
-      sound = parts-sound s (requestMessage t q a h c) (request-parts s t q a h c sc (request-at s (piece at w) q e y) (k .lines) o (x .0));
-      request = (refl, o .line, o .one, o .same);
+      sound = parts-sound s (requestMessage t q a h c) (request-parts s t q a h c sc r′ (k .lines) o (x .0));
+      request = (refl, o .line, o .one, o .from);
       suits = refl;
       stated = (f .stated c (x .1), refl);
     })))

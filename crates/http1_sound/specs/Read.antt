@@ -1,14 +1,16 @@
 -- What holds of every message that is accepted from HTTP/1.1 (00, demand 2, and the case it begins with: two statements of a length;
--- 01, "HTTP/1.1 as we take it"; 02, items 5 and 10).
-use Prim.Native.Nat.{ℕ, _<_, _≤_}
+-- 01, "HTTP/1.1 as we take it"; 02, items 2, 5 and 10).
+use Prim.Native.Nat.{ℕ, _+_, _<_, _≤_}
 use mathlib.Core.Path.{_≡_}
 use mathlib.Core.Bool.{true, false}
+use mathlib.Core.Logic.{_⊎_}
 use mathlib.Core.List.{List, [], _∷_}
 use lib.ListN.{length}
 use Rattle.script.specs.Script.{accepted, refused, Settled}
+use Rattle.script.specs.Do.{Piece}
 use Rattle.messages.specs.Told.{isYes, answering, closing}
 use Rattle.messages.specs.declared.Told.{Told}
-use Rattle.messages.specs.Message.{FieldRead, Start, requestStart, responseStart, Message}
+use Rattle.messages.specs.Message.{FieldRead, PathRead, Start, requestStart, responseStart, Message}
 use Rattle.messages.specs.Control.{endsAtHead}
 use Rattle.messages.specs.Names.{linesOf}
 use Rattle.messages.specs.Rules.{framingOf}
@@ -21,9 +23,14 @@ use Rattle.http1_sound.specs.Front.{Front}
 use Rattle.sound.specs.Sound.{Sound, StatesLength}
 use Rattle.sound.specs.Refusal.{Refusal}
 
--- a request of the scheme that was told; host stands exactly once, and it is the authority
+-- the authority stands in the target, right before the path's own octets (02, item 2)
+abbrev pub InTarget : Piece → PathRead → Type 0
+InTarget authority path = authority .place + length (authority .text) ≡ path .own .place
+
+-- a request of the scheme that was told; host stands exactly once, and it is the authority where the target has none
 abbrev pub IsRequest : Told → List FieldRead → Start → Type 0
-IsRequest t lines (requestStart method s authority path) = (s ≡ t .scheme) × (f : FieldRead) × (linesOf kind.Host lines ≡ f ∷ []) × (authority ≡ f .value)
+IsRequest t lines (requestStart method s authority path) =
+    (s ≡ t .scheme) × (f : FieldRead) × (linesOf kind.Host lines ≡ f ∷ []) × ((authority ≡ f .value) ⊎ InTarget authority path)
 IsRequest t lines (responseStart hs s) = ⊥
 
 -- a response, of any status
@@ -66,9 +73,10 @@ RequestsSound = (t : Told) (s : List ℕ) (n : ℕ) (m : Message) → readReques
 abbrev pub ResponsesSound : Type 0
 ResponsesSound = (t : Told) (s : List ℕ) (n : ℕ) (m : Message) → readResponse t s ≡ accepted n m → SoundResponse t s n m
 
--- the numbers with which a request is refused: all of HTTP/1.1 but 5, which is a status's (01, "Numbers a call answers with")
+-- the numbers with which a request is refused: all of HTTP/1.1 but 5, which is a status's (01, "Numbers a call answers with"); 14 where its target has another
+-- scheme (02, item 2)
 abbrev pub requestNumbers : List ℕ
-requestNumbers = 2 ∷ 3 ∷ 4 ∷ 6 ∷ 7 ∷ 8 ∷ []
+requestNumbers = 2 ∷ 3 ∷ 4 ∷ 6 ∷ 7 ∷ 8 ∷ 14 ∷ []
 
 -- those with which a response is refused: all but 6, which is a host's
 abbrev pub responseNumbers : List ℕ

@@ -5,7 +5,7 @@ use mathlib.Core.Path.{_≡_}
 use mathlib.Core.Bool.{true, false}
 use mathlib.Core.List.{List, [], _++_}
 use Rattle.messages.specs.declared.Record.{Record}
-use Rattle.ranges.specs.Entries.{headsIn, partIn, fieldsBefore, fieldsNamed}
+use Rattle.ranges.specs.Entries.{headsIn, partIn, fieldsBefore, fieldsNamed, pathIn, pathSize}
 use Rattle.http1_writer.specs.Write.{fieldText, sectionText, requestLine, statusLine, informationalText, hostField}
 use Rattle.http1_writer.specs.declared.LengthLine.{LengthLine}
 use Rattle.http1_writer.specs.Numbered.{sectionSize, headsSize, statusSize, requestSize, hostSize, leadTextIn, leadSize}
@@ -19,8 +19,8 @@ module _ (s : List ℕ) (r : Record) (hs ns : List ℕ) where
   lead-response e = (rw e, rw e)
 
   pub lead-request : r .response ≡ false
-      → (leadTextIn s r hs ns ≡ requestLine (partIn s (r .method)) (partIn s (r .path)) ++ fieldText (hostField (partIn s (r .authority))))
-      × (leadSize r hs ns ≡ requestSize (r .method) (r .path) + hostSize (r .authority))
+      → (leadTextIn s r hs ns ≡ requestLine (partIn s (r .method)) (pathIn s (r .prefix) (r .path)) ++ fieldText (hostField (partIn s (r .authority))))
+      × (leadSize r hs ns ≡ requestSize (r .method) (pathSize (r .prefix) (r .path)) + hostSize (r .authority))
   unfolding leadTextIn leadSize
   lead-request e = (rw e, rw e)
 

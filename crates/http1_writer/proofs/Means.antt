@@ -18,7 +18,7 @@ use Rattle.messages.specs.declared.Record.{Record}
 use Rattle.messages.specs.Control.{endsAtHead}
 use Rattle.messages.specs.Meaning.{Field, contentOf}
 use Rattle.messages.specs.Valid.{noFields}
-use Rattle.ranges.specs.Entries.{fieldsIn, chunksIn, headsIn, partIn, controlIn, fieldsBefore, meaningIn, fieldsNamed}
+use Rattle.ranges.specs.Entries.{fieldsIn, chunksIn, headsIn, partIn, controlIn, fieldsBefore, meaningIn, fieldsNamed, pathIn, pathSize}
 use Rattle.messages.specs.declared.StatedLength.{StatedLength}
 use Rattle.messages.specs.declared.Told.{Told}
 use Rattle.http1_writer.specs.declared.LengthLine.{LengthLine}
@@ -59,7 +59,7 @@ module _ (s : List ℕ) (r : Record) (hs ns : List ℕ) where
       → startText (controlIn b s r hs ns) ++ sectionText (hostLine (controlIn b s r hs ns) ++ l ++ h)
       ≡ cond b
       (informationalText (headsIn s hs ns 0 (r .informational)) ++ statusLine (r .status))
-      (requestLine (partIn s (r .method)) (partIn s (r .path)) ++ fieldText (hostField (partIn s (r .authority))))
+      (requestLine (partIn s (r .method)) (pathIn s (r .prefix) (r .path)) ++ fieldText (hostField (partIn s (r .authority))))
       ++ linesText l
       ++ sectionText h
   unfolding sectionText
@@ -67,7 +67,7 @@ module _ (s : List ℕ) (r : Record) (hs ns : List ℕ) where
       let a = informationalText (headsIn s hs ns 0 (r .informational)) ++ statusLine (r .status) in
       ap (λ (x : List ℕ). a ++ x) (lines-section l h) ∙ sym (append-assoc a (linesText l) (sectionText h))
   head-with false l h =
-      let a = requestLine (partIn s (r .method)) (partIn s (r .path)) in
+      let a = requestLine (partIn s (r .method)) (pathIn s (r .prefix) (r .path)) in
       let f = fieldText (hostField (partIn s (r .authority))) in
       ap (λ (x : List ℕ). a ++ (f ++ x)) (lines-section l h)
       ∙ sym (append-assoc a f (linesText l ++ sectionText h))
@@ -80,8 +80,8 @@ module _ (s : List ℕ) (r : Record) (hs ns : List ℕ) where
   lead-with : (b : Bool)
       → length (cond b
       (informationalText (headsIn s hs ns 0 (r .informational)) ++ statusLine (r .status))
-      (requestLine (partIn s (r .method)) (partIn s (r .path)) ++ fieldText (hostField (partIn s (r .authority)))))
-      ≡ cond b (headsSize hs ns 0 (r .informational) + statusSize (r .status)) (requestSize (r .method) (r .path) + hostSize (r .authority))
+      (requestLine (partIn s (r .method)) (pathIn s (r .prefix) (r .path)) ++ fieldText (hostField (partIn s (r .authority)))))
+      ≡ cond b (headsSize hs ns 0 (r .informational) + statusSize (r .status)) (requestSize (r .method) (pathSize (r .prefix) (r .path)) + hostSize (r .authority))
   unfolding statusLine requestLine fieldText hostField
   lead-with true =
       length-append (informationalText (headsIn s hs ns 0 (r .informational))) (statusLine (r .status))

@@ -12,7 +12,7 @@ use Rattle.messages.specs.declared.Part.{Part}
 use Rattle.messages.specs.declared.Told.{Told}
 use Rattle.messages.specs.declared.Record.{Record}
 use Rattle.messages.specs.Meaning.{Field}
-use Rattle.ranges.specs.Entries.{fieldsNamed, fieldsBefore, headsIn, partIn, contentIn}
+use Rattle.ranges.specs.Entries.{fieldsNamed, fieldsBefore, headsIn, partIn, contentIn, pathIn, pathSize}
 use Rattle.http1_writer.specs.declared.LengthLine.{LengthLine}
 use Rattle.http1_writer.specs.Write.{fieldText, sectionText, requestLine, statusLine, informationalText, hostField, lineFor, lengthFields, bodyText, isSilent}
 
@@ -34,9 +34,9 @@ abbrev pub headsSize : List ℕ → List ℕ → ℕ → ℕ → ℕ
 headsSize hs ns i zero = 0
 headsSize hs ns i (suc n) = statusSize (getD ns (i * 2) 0) + sectionSize hs (fieldsBefore ns i) (getD ns (i * 2 + 1) 0) + headsSize hs ns (i + 1) n
 
--- a request line
-abbrev pub requestSize : Part → Part → ℕ
-requestSize method path = method .len + 1 + path .len + 9 + 2
+-- a request line, with a path of so many octets
+abbrev pub requestSize : Part → ℕ → ℕ
+requestSize method path = method .len + 1 + path + 9 + 2
 
 -- a host line
 abbrev pub hostSize : Part → ℕ
@@ -84,14 +84,14 @@ unfoldable pub leadTextIn : List ℕ → Record → List ℕ → List ℕ → Li
 leadTextIn s r hs ns =
     cond (r .response)
     (informationalText (headsIn s hs ns 0 (r .informational)) ++ statusLine (r .status))
-    (requestLine (partIn s (r .method)) (partIn s (r .path)) ++ fieldText (hostField (partIn s (r .authority))))
+    (requestLine (partIn s (r .method)) (pathIn s (r .prefix) (r .path)) ++ fieldText (hostField (partIn s (r .authority))))
 
 -- how long it is
 unfoldable pub leadSize : Record → List ℕ → List ℕ → ℕ
 leadSize r hs ns =
     cond (r .response)
     (headsSize hs ns 0 (r .informational) + statusSize (r .status))
-    (requestSize (r .method) (r .path) + hostSize (r .authority))
+    (requestSize (r .method) (pathSize (r .prefix) (r .path)) + hostSize (r .authority))
 
 -- all heads of a message, with this length line
 unfoldable pub headTextIn : List ℕ → Record → LengthLine → List ℕ → List ℕ → List ℕ
@@ -137,9 +137,9 @@ sectionBound = 549755814018
 abbrev pub headsBound : ℕ
 headsBound = 2199023256200
 
--- a request line and a host line: three lengths of 32 bits
+-- a request line and a host line: three lengths of 32 bits, and what is put before the path
 abbrev pub requestBound : ℕ
-requestBound = 12884901905
+requestBound = 12884901906
 
 -- what stands before the length line
 abbrev pub leadBound : ℕ

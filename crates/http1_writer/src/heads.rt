@@ -5,6 +5,7 @@ use crate::lengths::put_length;
 use crate::sections::put_section;
 use crate::sections::section_size;
 use messages::Part;
+use messages::PathPrefix;
 use messages::Record;
 use numbers::digit_count;
 use output::put_decimal;
@@ -13,12 +14,14 @@ use output::put_part;
 use output::put_text;
 use ranges::fields_before;
 use ranges::number_at;
+use ranges::path_size;
+use ranges::put_path;
 ghost use mathlib.Core.Path.{_≡_};
 ghost use mathlib.Core.List.{_++_};
 ghost use Prim.Native.Nat.{_+_, _≤_};
 ghost use lib.ListN.{length};
 ghost use Rattle.output.specs.Splice.{Put};
-ghost use Rattle.ranges.specs.Entries.{fieldsNamed, headsIn, partIn, PartWithin, FieldsWithin, HeadsWithin, HeadsCounted, HeadWithin, HeadCounted};
+ghost use Rattle.ranges.specs.Entries.{fieldsNamed, headsIn, partIn, pathIn, pathSize, PartWithin, FieldsWithin, HeadsWithin, HeadsCounted, HeadWithin, HeadCounted};
 ghost use Rattle.http1_writer.specs.Write.{fieldText, sectionText, requestLine, statusLine, informationalText, hostField};
 ghost use Rattle.http1_writer.specs.Numbered.{sectionSize, statusSize, headsSize, requestSize, hostSize, leadTextIn, leadSize, headTextIn, headSize};
 ghost use Rattle.http1_writer.specs.Numbered.{statusBound, headsBound, requestBound, leadBound, headBound};
@@ -96,14 +99,21 @@ fn heads_size(fields: &[u32], heads: &[u32], n: usize) -> usize
     size
 }
 
-fn put_request_line(out: &mut [u8], at: usize, s: &[u8], method: Part, path: Part) -> usize
-    requires { ⌜ PartWithin (length (now s)) method × PartWithin (length (now s)) path × (at + requestSize method path ≤ length (now out)) ⌝ }
+fn put_request_line(
+    out: &mut [u8],
+    at: usize,
+    s: &[u8],
+    method: Part,
+    prefix: PathPrefix,
+    path: Part,
+) -> usize
+    requires { ⌜ PartWithin (length (now s)) method × PartWithin (length (now s)) path × (at + requestSize method (pathSize prefix path) ≤ length (now out)) ⌝ }
     ensures { λ r. ⌜ Put (now (out .entry)) at
-        (requestLine (partIn (now (s .entry)) method) (partIn (now (s .entry)) path)) (requestSize method path) (now (out .exit)) r ⌝ }
+        (requestLine (partIn (now (s .entry)) method) (pathIn (now (s .entry)) prefix path)) (requestSize method (pathSize prefix path)) (now (out .exit)) r ⌝ }
 {
     let a = put_part(out, at, s, method.start as usize, method.len as usize);
     let b = put_octet(out, a, 32);
-    let d = put_part(out, b, s, path.start as usize, path.len as usize);
+    let d = put_path(out, b, s, prefix, path);
     let e = put_text(out, d, b" HTTP/1.1");
     put_text(out, e, b"\r\n")
 }
@@ -130,16 +140,17 @@ fn put_lead(out: &mut [u8], at: usize, s: &[u8], r: Record, fields: &[u32], head
         return put_status(out, a, r.status as usize);
     }
     let method = r.method;
+    let prefix = r.prefix;
     let path = r.path;
-    let a = put_request_line(out, at, s, method, path);
+    let a = put_request_line(out, at, s, method, prefix, path);
     let authority = r.authority;
     put_host(out, a, s, authority)
 }
 
-fn request_size(method: Part, authority: Part, path: Part) -> usize
-    ensures { λ r. ⌜ (r ≡ requestSize method path + hostSize authority) × (r ≤ requestBound) ⌝ }
+fn request_size(method: Part, authority: Part, prefix: PathPrefix, path: Part) -> usize
+    ensures { λ r. ⌜ (r ≡ requestSize method (pathSize prefix path) + hostSize authority) × (r ≤ requestBound) ⌝ }
 {
-    let line = method.len as usize + path.len as usize + 12;
+    let line = method.len as usize + path_size(prefix, path) + 12;
     line + authority.len as usize + 8
 }
 
@@ -153,8 +164,9 @@ fn lead_size(r: Record, fields: &[u32], heads: &[u32]) -> usize
     }
     let method = r.method;
     let authority = r.authority;
+    let prefix = r.prefix;
     let path = r.path;
-    request_size(method, authority, path)
+    request_size(method, authority, prefix, path)
 }
 
 // All heads of a message, with this length line.

@@ -13,11 +13,11 @@ use Rattle.octets.specs.Limits.{linesMost, chunksMost, informationalMost}
 use Rattle.script.specs.Script.{Lies}
 use Rattle.script.specs.Do.{Piece, piece}
 use Rattle.script.proofs.Places.{lies-part, lies-at, lies-in}
-use Rattle.output.specs.Splice.{part}
+use Rattle.output.specs.Splice.{part, Puts, Put}
 use Rattle.output.specs.Reply.{Reply, Served}
 use Rattle.output.specs.declared.Written.{Written}
 use Rattle.output.proofs.Laws.{elements-take}
-use Rattle.messages.specs.Message.{FieldRead, InformationalRead, Start, requestStart, responseStart, isResponse, Message}
+use Rattle.messages.specs.Message.{FieldRead, InformationalRead, Start, requestStart, responseStart, isResponse, Message, prefixOctets}
 use Rattle.messages.specs.Names.{lineKind, isEndToEnd, kept, keptTrailers}
 use Rattle.messages.specs.Meaning.{Informational, Control, Meaning, fieldMeans, informationalMeans, controlMeans, contentOf, meaning}
 use Rattle.messages.specs.Answers.{fieldNumbers, fieldsNumbers, chunksNumbers, informationalNumbers, informationalLines, informationalIn, recordFrom, recordOf}
@@ -29,6 +29,7 @@ use Rattle.sound.specs.Sound.{GoodSection, GoodHeads, Sound}
 use Rattle.ranges.specs.Ranges.{headNumbers, Begins, Held, HeldServed}
 use Rattle.ranges.specs.Entries.{fieldIn, entryOf, fieldsIn, chunksIn, fieldsBefore, headIn, headsIn, partIn, meaningIn, EntryWithin, FieldsWithin, HeadsWithin, ChunksWithin, MessageWithin}
 use Rattle.ranges.proofs.Stored.{numbers-append, numbers-length}
+use Rattle.messages.specs.declared.PathPrefix.{PathPrefix}
 
 -- ---- numbers that stand at a place
 
@@ -408,3 +409,10 @@ module _ {s : List ℕ} {n : ℕ} {m : Message} {r : Record} {hs ns cs ts : List
 pub served-held : {reply : Meaning → Reply} {s : List ℕ} {r : Record} {hs ns cs ts o o′ : List ℕ} {w : Written}
     → Served (reply (meaningIn s r hs ns cs ts)) o o′ w → HeldServed reply s r hs ns cs ts o o′ w
 served-held x = record { by = λ n m h. rw (held-means h) at x }
+
+-- ---- paths
+
+-- what is put before a path, put by what it is found to be
+pub prefix-put : {o o₁ : List ℕ} {at r : ℕ} {p : PathPrefix} (q : PathPrefix) → p ≡ q → at + length (prefixOctets p) ≤ length o
+    → Puts o at (prefixOctets q) (length (prefixOctets q)) o₁ r → Put o at (prefixOctets p) (length (prefixOctets p)) o₁ r
+prefix-put q e h f = rw e (f (rw e at h))

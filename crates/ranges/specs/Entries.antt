@@ -3,14 +3,15 @@
 use Prim.Native.Nat.{ℕ, zero, suc, _+_, _*_, _<_, _≤_}
 use mathlib.Core.Path.{_≡_}
 use mathlib.Core.Bool.{Bool, true, false}
-use mathlib.Core.List.{List, [], _∷_, map}
+use mathlib.Core.List.{List, [], _∷_, _++_, map}
 use lib.ListN.{length, getD}
 use Rattle.octets.specs.Limits.{linesMost, chunksMost, contentMost, informationalMost}
 use Rattle.script.specs.Do.{Piece, piece}
 use Rattle.output.specs.Splice.{part}
-use Rattle.messages.specs.Message.{FieldRead}
+use Rattle.messages.specs.Message.{FieldRead, prefixOctets}
 use Rattle.messages.specs.Meaning.{Field, Informational, Control, request, response, Meaning, fieldMeans, contentOf}
 use Rattle.messages.specs.declared.Part.{Part}
+use Rattle.messages.specs.declared.PathPrefix.{PathPrefix}
 use Rattle.messages.specs.declared.Record.{Record}
 
 -- ---- what the numbers name
@@ -71,10 +72,22 @@ headsIn s hs ns i (suc n) = headIn s hs ns i ∷ headsIn s hs ns (i + 1) n
 abbrev pub partIn : List ℕ → Part → List ℕ
 partIn s p = part s (p .start) (p .len)
 
+-- the octets of a path: what is put before it, and its own
+abbrev pub pathIn : List ℕ → PathPrefix → Part → List ℕ
+pathIn s prefix p = prefixOctets prefix ++ partIn s p
+
+-- how many they are
+abbrev pub pathSize : PathPrefix → Part → ℕ
+pathSize prefix p = length (prefixOctets prefix) + p .len
+
+-- never more than that, since a part has less than 2^32 octets
+abbrev pub pathBound : ℕ
+pathBound = 4294967296
+
 -- the control data: of a response, or of a request
 abbrev pub controlIn : Bool → List ℕ → Record → List ℕ → List ℕ → Control
 controlIn true s r hs ns = response (headsIn s hs ns 0 (r .informational)) (r .status)
-controlIn false s r hs ns = request (partIn s (r .method)) (r .scheme) (partIn s (r .authority)) (partIn s (r .path))
+controlIn false s r hs ns = request (partIn s (r .method)) (r .scheme) (partIn s (r .authority)) (pathIn s (r .prefix) (r .path))
 
 -- the meaning of the message that a record and ranges name in s
 unfoldable pub meaningIn : List ℕ → Record → List ℕ → List ℕ → List ℕ → List ℕ → Meaning

@@ -1,9 +1,13 @@
 // Ranges of messages in lent arrays of numbers: what every reader stores and every writer finds.
 use messages::Outcome;
+use messages::Part;
+use messages::PathPrefix;
 use messages::Ranges;
 use messages::Reading;
 use messages::answers::more;
 use messages::answers::refusal;
+use messages::parts::prefix_len;
+use output::put_octet;
 use output::put_part;
 ghost use mathlib.Core.Path.{_≡_};
 ghost use mathlib.Core.List.{[], _∷_};
@@ -12,7 +16,8 @@ ghost use lib.ListN.{length, getD};
 ghost use Rattle.octets.specs.Limits.{informationalMost};
 ghost use Rattle.output.specs.Splice.{splice, Put};
 ghost use Rattle.ranges.specs.Ranges.{placesEnd, StoredIf, readingFrom};
-ghost use Rattle.ranges.specs.Entries.{fieldsBefore, contentIn, ChunksWithin};
+ghost use Rattle.ranges.specs.Entries.{fieldsBefore, contentIn, ChunksWithin, PartWithin, pathIn, pathSize, pathBound};
+ghost use Rattle.messages.specs.Message.{prefixOctets};
 
 // Two numbers are stored as the entry k: start and length of a chunk, or status and number of kept fields of an informational head.
 pub fn store(out: &mut [u32], k: usize, a: u32, b: u32)
@@ -119,4 +124,32 @@ pub fn put_chunks(out: &mut [u8], at: usize, s: &[u8], chunks: &[u32], n: usize)
         i += 1;
     }
     a
+}
+
+// What is put before a path.
+fn put_prefix(out: &mut [u8], at: usize, prefix: PathPrefix) -> usize
+    requires { ⌜ at + length (prefixOctets prefix) ≤ length (now out) ⌝ }
+    ensures { λ r. ⌜ Put (now (out .entry)) at (prefixOctets prefix) (length (prefixOctets prefix)) (now (out .exit)) r ⌝ }
+{
+    match prefix {
+        PathPrefix::Nothing => return at,
+        PathPrefix::Slash => return put_octet(out, at, b'/'),
+        PathPrefix::Asterisk => return put_octet(out, at, b'*'),
+    }
+}
+
+// The path of a request: what is put before it, and its own octets.
+pub fn put_path(out: &mut [u8], at: usize, s: &[u8], prefix: PathPrefix, path: Part) -> usize
+    requires { ⌜ PartWithin (length (now s)) path × (at + pathSize prefix path ≤ length (now out)) ⌝ }
+    ensures { λ r. ⌜ Put (now (out .entry)) at (pathIn (now (s .entry)) prefix path) (pathSize prefix path) (now (out .exit)) r ⌝ }
+{
+    let a = put_prefix(out, at, prefix);
+    put_part(out, a, s, path.start as usize, path.len as usize)
+}
+
+// How long it is.
+pub fn path_size(prefix: PathPrefix, path: Part) -> usize
+    ensures { λ r. ⌜ (r ≡ pathSize prefix path) × (r ≤ pathBound) ⌝ }
+{
+    prefix_len(prefix) + path.len as usize
 }

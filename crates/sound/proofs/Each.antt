@@ -41,7 +41,7 @@ module _ (P Q : Piece → Type 0) (f : (p : Piece) → P p → Q p) where
   lines-map = each-map (OfLine P) (OfLine Q) line-map
 
   start-map : (x : Start) → OfStart P x → OfStart Q x
-  start-map (requestStart method s authority path) h = (f method (h .0), f authority (h .1), f path (h .2))
+  start-map (requestStart method s authority path) h = (f method (h .0), f authority (h .1), f (path .own) (h .2))
   start-map (responseStart hs s) h =
       each-map (λ (x : InformationalRead). Each (OfLine P) (x .lines)) (λ (x : InformationalRead). Each (OfLine Q) (x .lines)) (λ x. lines-map (x .lines)) hs h
 

@@ -11,7 +11,7 @@ use Rattle.octets.specs.Text.{isEmpty}
 use Rattle.octets.specs.Limits.{linesMost, chunksMost, contentMost, informationalMost, binaryMost}
 use Rattle.script.specs.Script.{Lies}
 use Rattle.script.specs.Do.{Piece, piece}
-use Rattle.messages.specs.Control.{methodVerdict, pathVerdict, isHost, statusVerdict, isInformational}
+use Rattle.messages.specs.Control.{methodVerdict, isOptions, pathVerdict, isHost, statusVerdict, isInformational}
 use Rattle.messages.specs.Message.{FieldRead, InformationalRead, Start, requestStart, responseStart, isResponse, Message}
 use Rattle.messages.specs.Names.{keptTrailers, areTrailers}
 use Rattle.messages.specs.Meaning.{fieldMeans, informationalMeans, request, response, controlMeans, contentOf, meaning}
@@ -86,7 +86,7 @@ chunks-one s at w y l = go (eqb (length w) 0) refl
 
 -- ---- control data
 
-pub request-valid : (m a p : List ℕ) (s : ℕ) → methodVerdict m ≡ 0 → isScheme s ≡ true → isHost a ≡ true → pathVerdict p ≡ 0 → validControl (request m s a p) ≡ true
+pub request-valid : (m a p : List ℕ) (s : ℕ) → methodVerdict m ≡ 0 → isScheme s ≡ true → isHost a ≡ true → pathVerdict (isOptions m) p ≡ 0 → validControl (request m s a p) ≡ true
 unfolding validControl
 request-valid m a p s e f g h = rw (e, f, g, h)
 

@@ -18,12 +18,12 @@ use Rattle.octets.proofs.Kit.{either}
 use Rattle.numbers.specs.Digits.{numOf}
 use Rattle.numbers.specs.declared.Number.{Number}
 use Rattle.numbers.specs.declared.Number.the-variants.{Is, Not}
-use Rattle.script.specs.Do.{Piece, Judged, good, wrong}
+use Rattle.script.specs.Do.{Piece, piece, Judged, good, wrong}
 use Rattle.script.proofs.Refusals.{Judges}
 use Rattle.messages.specs.Message.{FieldRead}
-use Rattle.messages.specs.Control.{isUnsupported, methodVerdict, pathVerdict, authorityVerdict, statusVerdict, endsAtHead}
+use Rattle.messages.specs.Control.{isUnsupported, methodVerdict, asteriskVerdict, pathVerdict, authorityVerdict, statusVerdict, endsAtHead}
 use Rattle.messages.specs.Names.{linesOf}
-use Rattle.messages.specs.Rules.{authorityFrom, orBadHost, authorityIn, lengthStated, framingFrom, framingOf, binaryFramingOf, requestBody, nothingStated, lengthAlone}
+use Rattle.messages.specs.Rules.{authorityFrom, orBadHost, authorityIn, hostOnce, targetAuthority, lengthStated, framingFrom, framingOf, binaryFramingOf, requestBody, nothingStated, lengthAlone}
 use Rattle.messages.specs.Rules.{bodylessRule, unmeasuredBody, contentBody, responseBody, mayState}
 use Rattle.messages.specs.Told.{isYes}
 use Rattle.messages.specs.declared.Told.{Told}
@@ -96,13 +96,13 @@ method-verdict m =
     (verdict-if commonNumbers (leb (length m) methodMost) (verdict-if commonNumbers (isUnsupported m) not-supported (inl refl)) too-large)
     bad-syntax)
 
-pub path-verdict : (p : List ℕ) → Verdict (pathVerdict p)
-unfolding pathVerdict
-path-verdict p =
+pub path-verdict : (options : Bool) (p : List ℕ) → Verdict (pathVerdict options p)
+unfolding pathVerdict asteriskVerdict
+path-verdict options p =
     verdict-if commonNumbers (isEmpty p) bad-syntax
     (verdict-if commonNumbers (eqb (getD p 0 0) 47)
     (verdict-if commonNumbers (all (hasClass path) p) (verdict-if commonNumbers (leb (length p) pathMost) (inl refl) too-large) bad-syntax)
-    not-supported)
+    (verdict-if commonNumbers options (verdict-if commonNumbers (sameText p (ascii "*")) (inl refl) not-supported) not-supported))
 
 pub authority-verdict : (a : List ℕ) → Verdict (authorityVerdict a)
 unfolding authorityVerdict
@@ -171,6 +171,12 @@ module _ (ns s : List ℕ) (wide : Among commonNumbers ns) (end : ℕ) (inside :
       on : (o : Option Piece) → Refuses ns s (orBadHost end o)
       on none = record { ofForm = host; inside = inside }
       on (some x) = tt
+
+  pub target-judged : isOneOf ns badHost ≡ true → (a : Piece) (fs : List FieldRead) → Refuses ns s (targetAuthority end a fs)
+  unfolding targetAuthority hostOnce
+  target-judged host a fs =
+      either (Refuses ns s) (isEmpty (a .text)) _ _ (λ e. authority-judged host (piece 0 []) fs)
+      (λ e. either (Refuses ns s) (eqb (length (linesOf kind.Host fs)) 1) (good a) (wrong badHost end) (λ f. tt) (λ f. record { ofForm = host; inside = inside }))
 
   pub nothing-judged : (f : Framing) → Refuses ns s (nothingStated end f)
   unfolding nothingStated

@@ -19,7 +19,7 @@ pub record OfLine (P : Piece → Type 0) (f : FieldRead) : Type 0 where
 
 -- P holds of each part of the control data; informational heads with their lines are among them
 abbrev pub OfStart : (Piece → Type 0) → Start → Type 0
-OfStart P (requestStart method s authority path) = P method × P authority × P path
+OfStart P (requestStart method s authority path) = P method × P authority × P (path .own)
 OfStart P (responseStart hs s) = Each (λ h. Each (OfLine P) (h .lines)) hs
 
 -- P holds of each part of a message

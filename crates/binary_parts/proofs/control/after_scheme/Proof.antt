@@ -19,26 +19,41 @@ returns c = authority-no (c .before .before .before .before .before .args .s .no
 enum-known-a-2 : tie.Need-enum-known-a-2
 enum-known-a-2 c = search needs
 
-add-t20 : tie.Need-add-t20
-add-t20 c = omega (arith, part-got (c .before .before .before .ruled-part .ensures) (c .before .a2 .given .1) .1)
+add-last : tie.Need-add-last
+add-last c = omega (arith, c .before .before .before .before .before .before .pre .1)
+
+sub-is-options : tie.Need-sub-is-options
+sub-is-options c = search needs
+
+part-is-options-start : tie.Need-part-is-options-start
+part-is-options-start c = omega arith
+
+part-is-options-end : tie.Need-part-is-options-end
+part-is-options-end c = omega (arith, c .before .before .before .before .before .before .pre .1)
+
+is-options-requires : tie.Need-is-options-requires
+is-options-requires c κs = search needs
+
+add-t24 : tie.Need-add-t24
+add-t24 c = omega (arith, part-got (c .before .before .before .before .before .before .ruled-part .ensures) (c .before .before .before .before .a2 .given .1) .1)
 
 ruled-part-requires-2 : tie.Need-ruled-part-requires-2
-ruled-part-requires-2 c κs = (c .before .before .before .before .before .pre .0, part-got (c .before .before .before .ruled-part .ensures) (c .before .a2 .given .1) .2)
+ruled-part-requires-2 c κs = (c .before .before .before .before .before .before .before .before .pre .0, part-got (c .before .before .before .before .before .before .ruled-part .ensures) (c .before .before .before .before .a2 .given .1) .2)
 
 enum-known-p : tie.Need-enum-known-p
 enum-known-p c = search needs
 
 returns-2 : tie.Need-returns-2
-returns-2 c = path-no (c .before .before .before .before .before .before .before .before .before .args .s .now) _ _ _ (c .before .before .before .before .before .before .before .before .before .pre .1) (c .before .before .before .before .before .before .before .before .before .pre .2) (c .before .before .before .before .before .before .before .ruled-part .ensures) (c .before .before .before .before .before .a2 .given .1) (c .before .before .before .ruled-part2 .ensures) (c .before .p .given .1)
+returns-2 c = path-no (c .before .before .before .before .before .before .before .before .before .before .before .before .args .s .now) _ _ _ (c .before .before .before .before .before .before .before .before .before .before .before .before .pre .1) (c .before .before .before .before .before .before .before .before .before .before .before .before .pre .2) (c .before .before .before .before .before .before .before .before .before .before .ruled-part .ensures) (c .before .before .before .before .before .before .before .before .a2 .given .1) (c .before .before .before .before .is-options .ensures) (c .before .before .before .ruled-part2 .ensures) (c .before .p .given .1)
 
 enum-known-p-2 : tie.Need-enum-known-p-2
 enum-known-p-2 c = search needs
 
-add-t24 : tie.Need-add-t24
-add-t24 c = omega (arith, part-got (c .before .before .before .ruled-part2 .ensures) (c .before .p2 .given .1) .1)
+add-t30 : tie.Need-add-t30
+add-t30 c = omega (arith, part-got (c .before .before .before .ruled-part2 .ensures) (c .before .p2 .given .1) .1)
 
 returns-3 : tie.Need-returns-3
-returns-3 c = rest-got (c .before .before .before .before .before .before .before .before .before .args .s .now) _ _ _ (c .before .before .before .before .before .before .before .before .before .pre .1) (c .before .before .before .before .before .before .before .before .before .pre .2) (c .before .before .before .before .before .before .before .ruled-part .ensures) (c .before .before .before .before .before .a2 .given .1) (c .before .before .before .ruled-part2 .ensures) (c .before .p2 .given .1)
+returns-3 c = rest-got (c .before .before .before .before .before .before .before .before .before .before .before .before .args .s .now) _ _ _ (c .before .before .before .before .before .before .before .before .before .before .before .before .pre .1) (c .before .before .before .before .before .before .before .before .before .before .before .before .pre .2) (c .before .before .before .before .before .before .before .before .before .before .ruled-part .ensures) (c .before .before .before .before .before .before .before .before .a2 .given .1) (c .before .before .before .before .is-options .ensures) (c .before .before .before .ruled-part2 .ensures) (c .before .p2 .given .1)
 
 pub after-scheme-spec : {M : Type 1} → statement M
 after-scheme-spec =
@@ -48,10 +63,15 @@ after-scheme-spec =
     enum-known-a
     returns
     enum-known-a-2
-    add-t20
+    add-last
+    sub-is-options
+    part-is-options-start
+    part-is-options-end
+    is-options-requires
+    add-t24
     ruled-part-requires-2
     enum-known-p
     returns-2
     enum-known-p-2
-    add-t24
+    add-t30
     returns-3)

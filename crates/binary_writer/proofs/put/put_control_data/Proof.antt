@@ -2,35 +2,26 @@ use mathlib.Core.Path.{_≡_, refl, sym, ap, _∙_}
 use native.Mathlib.Omega.{arith}
 use borrow.Author.Needs.{needs}
 use Rattle.binary_writer.proofs.Steps.{size-response, size-request, control-response, control-request}
-use borrow.Author.Needs.{needs}
 use Rattle.binary_writer.proofs.put.put_control_data.Statement.{statement}
 use Rattle.binary_writer.proofs.put.put_control_data.Tie as tie
 use Rattle.binary_writer.proofs.put.put_control_data.Reads as reads
 use Rattle.binary_writer.proofs.put.put_control_data.Lts as lts
-use Rattle.binary_writer.proofs.put.put_request.Reads as put-request-reads
-use Rattle.binary_writer.proofs.put.put_response.Reads as put-response-reads
 
--- src/put.rt:199:9
 put-response-requires : tie.Need-put-response-requires
 put-response-requires c κs = (c .before .before .before .before .before .before .pre .0 .2 .heads, omega (arith, c .before .before .before .before .before .before .pre .1, size-response (c .before .before .before .before .before .before .args .r) (c .before .before .before .before .before .before .args .fields .now) (c .before .before .before .before .before .before .args .heads .now) (c .before .if1 .taken)))
 
--- src/put.rt:199:9
 same-length : tie.Need-same-length
 same-length c = search needs
 
--- src/put.rt:199:9
 returns : tie.Need-returns
 returns c = control-response (c .before .before .before .before .before .before .before .before .before .args .s .now) (c .before .before .before .before .before .before .before .before .before .args .r) (c .before .before .before .before .before .before .before .before .before .args .fields .now) (c .before .before .before .before .before .before .before .before .before .args .heads .now) (c .before .before .before .before .if1 .taken) (c .before .before .put-response .ensures)
 
--- src/put.rt:201:5
 put-request-requires : tie.Need-put-request-requires
 put-request-requires c κs = (c .before .before .before .before .before .before .pre .0 .2 .method, c .before .before .before .before .before .before .pre .0 .2 .authority, c .before .before .before .before .before .before .pre .0 .2 .path, omega (arith, c .before .before .before .before .before .before .pre .1, size-request (c .before .before .before .before .before .before .args .r) (c .before .before .before .before .before .before .args .fields .now) (c .before .before .before .before .before .before .args .heads .now) (c .before .if1 .left)))
 
--- src/put.rt:194:1
 same-length-2 : tie.Need-same-length-2
 same-length-2 c = search needs
 
--- src/put.rt:194:1
 returns-2 : tie.Need-returns-2
 returns-2 c = control-request (c .before .before .before .before .before .before .before .before .before .args .s .now) (c .before .before .before .before .before .before .before .before .before .args .r) (c .before .before .before .before .before .before .before .before .before .args .fields .now) (c .before .before .before .before .before .before .before .before .before .args .heads .now) (c .before .before .before .before .if1 .left) (c .before .before .put-request .ensures)
 

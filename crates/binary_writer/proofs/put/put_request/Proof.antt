@@ -6,37 +6,27 @@ use Rattle.binary_writer.proofs.put.put_request.Statement.{statement}
 use Rattle.binary_writer.proofs.put.put_request.Tie as tie
 use Rattle.binary_writer.proofs.put.put_request.Reads as reads
 use Rattle.binary_writer.proofs.put.put_request.Lts as lts
-use Rattle.output.proofs.put_octet.Reads as put-octet-reads
-use Rattle.binary_writer.proofs.put.put_counted_part.Reads as put-counted-part-reads
-use Rattle.binary_writer.proofs.put.put_scheme.Reads as put-scheme-reads
 
--- src/put.rt:168:9
 put-octet-requires : tie.Need-put-octet-requires
 put-octet-requires c κs = search needs
 
--- src/put.rt:169:9
 put-counted-part-requires : tie.Need-put-counted-part-requires
 put-counted-part-requires c κs = let p = puts (c .before .before .before .put-octet .ensures) (omega (arith, c .before .before .before .before .before .before .before .pre .3)) in (c .before .before .before .before .before .before .before .pre .0, omega (arith, c .before .before .before .before .before .before .before .pre .3, c .before .before .before .put-octet .kept, p .next))
 
--- src/put.rt:170:9
 put-scheme-requires : tie.Need-put-scheme-requires
 put-scheme-requires c κs = let p = puts (c .before .before .before .before .before .before .before .put-octet .ensures) (omega (arith, c .before .before .before .before .before .before .before .before .before .before .before .pre .3)) in omega (arith, c .before .before .before .before .before .before .before .before .before .before .before .pre .3, c .before .before .before .before .before .before .before .put-octet .kept, p .next, c .before .before .before .put-counted-part .kept, c .before .before .before .put-counted-part .ensures .next)
 
--- src/put.rt:171:9
 put-counted-part-requires-2 : tie.Need-put-counted-part-requires-2
 put-counted-part-requires-2 c κs = let p = puts (c .before .before .before .before .before .before .before .before .before .before .before .put-octet .ensures) (omega (arith, c .before .before .before .before .before .before .before .before .before .before .before .before .before .before .before .pre .3)) in (c .before .before .before .before .before .before .before .before .before .before .before .before .before .before .before .pre .1, omega (arith, c .before .before .before .before .before .before .before .before .before .before .before .before .before .before .before .pre .3, c .before .before .before .before .before .before .before .before .before .before .before .put-octet .kept, p .next, c .before .before .before .before .before .before .before .put-counted-part .kept, c .before .before .before .before .before .before .before .put-counted-part .ensures .next, c .before .before .before .put-scheme .kept, c .before .before .before .put-scheme .ensures .next))
 
--- src/put.rt:172:5
-put-counted-part-requires-3 : tie.Need-put-counted-part-requires-3
-put-counted-part-requires-3 c κs = let p = puts (c .before .before .before .before .before .before .before .before .before .before .before .before .before .before .before .put-octet .ensures) (omega (arith, c .before .before .before .before .before .before .before .before .before .before .before .before .before .before .before .before .before .before .before .pre .3)) in (c .before .before .before .before .before .before .before .before .before .before .before .before .before .before .before .before .before .before .before .pre .2, omega (arith, c .before .before .before .before .before .before .before .before .before .before .before .before .before .before .before .before .before .before .before .pre .3, c .before .before .before .before .before .before .before .before .before .before .before .before .before .before .before .put-octet .kept, p .next, c .before .before .before .before .before .before .before .before .before .before .before .put-counted-part .kept, c .before .before .before .before .before .before .before .before .before .before .before .put-counted-part .ensures .next, c .before .before .before .before .before .before .before .put-scheme .kept, c .before .before .before .before .before .before .before .put-scheme .ensures .next, c .before .before .before .put-counted-part2 .kept, c .before .before .before .put-counted-part2 .ensures .next))
+put-counted-path-requires : tie.Need-put-counted-path-requires
+put-counted-path-requires c κs = let p = puts (c .before .before .before .before .before .before .before .before .before .before .before .before .before .before .before .put-octet .ensures) (omega (arith, c .before .before .before .before .before .before .before .before .before .before .before .before .before .before .before .before .before .before .before .pre .3)) in (c .before .before .before .before .before .before .before .before .before .before .before .before .before .before .before .before .before .before .before .pre .2, omega (arith, c .before .before .before .before .before .before .before .before .before .before .before .before .before .before .before .before .before .before .before .pre .3, c .before .before .before .before .before .before .before .before .before .before .before .before .before .before .before .put-octet .kept, p .next, c .before .before .before .before .before .before .before .before .before .before .before .put-counted-part .kept, c .before .before .before .before .before .before .before .before .before .before .before .put-counted-part .ensures .next, c .before .before .before .before .before .before .before .put-scheme .kept, c .before .before .before .before .before .before .before .put-scheme .ensures .next, c .before .before .before .put-counted-part2 .kept, c .before .before .before .put-counted-part2 .ensures .next))
 
--- src/put.rt:157:1
 same-length : tie.Need-same-length
 same-length c = search needs
 
--- src/put.rt:157:1
 returns : tie.Need-returns
-returns c = put-request _ _ _ _ (puts (c .before .before .before .before .before .before .before .before .before .before .before .before .before .before .before .before .before .before .put-octet .ensures) (omega (arith, c .before .before .before .before .before .before .before .before .before .before .before .before .before .before .before .before .before .before .before .before .before .before .pre .3))) (c .before .before .before .before .before .before .before .before .before .before .before .before .before .before .put-counted-part .ensures) (c .before .before .before .before .before .before .before .before .before .before .put-scheme .ensures) (c .before .before .before .before .before .before .put-counted-part2 .ensures) (c .before .before .put-counted-part3 .ensures)
+returns c = put-request _ _ _ _ (puts (c .before .before .before .before .before .before .before .before .before .before .before .before .before .before .before .before .before .before .put-octet .ensures) (omega (arith, c .before .before .before .before .before .before .before .before .before .before .before .before .before .before .before .before .before .before .before .before .before .before .pre .3))) (c .before .before .before .before .before .before .before .before .before .before .before .before .before .before .put-counted-part .ensures) (c .before .before .before .before .before .before .before .before .before .before .put-scheme .ensures) (c .before .before .before .before .before .before .put-counted-part2 .ensures) (c .before .before .put-counted-path .ensures)
 
 pub put-request-spec : {M : Type 1} → statement M
 put-request-spec =
@@ -46,6 +36,6 @@ put-request-spec =
     put-counted-part-requires
     put-scheme-requires
     put-counted-part-requires-2
-    put-counted-part-requires-3
+    put-counted-path-requires
     same-length
     returns)

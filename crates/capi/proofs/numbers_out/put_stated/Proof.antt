@@ -5,6 +5,9 @@ use Rattle.capi.proofs.numbers_out.put_stated.Tie as tie
 use Rattle.capi.proofs.numbers_out.put_stated.Reads as reads
 use Rattle.capi.proofs.numbers_out.put_stated.Lts as lts
 
+prefix-number-requires : tie.Need-prefix-number-requires
+prefix-number-requires c κs = search needs
+
 enum-told : tie.Need-enum-told
 enum-told c = search needs
 
@@ -15,7 +18,7 @@ same-length : tie.Need-same-length
 same-length c = search needs
 
 returns : tie.Need-returns
-returns c = rw (c .before .before .before .before .enum-told .given .1) (c .before .before .put-six .ensures)
+returns c = rw (c .before .before .before .before .enum-told .given .1) (rw (c .before .before .before .before .before .before .prefix-number .ensures) at (c .before .before .put-six .ensures))
 
 enum-known-stated : tie.Need-enum-known-stated
 enum-known-stated c = search needs
@@ -33,12 +36,13 @@ same-length-2 : tie.Need-same-length-2
 same-length-2 c = search needs
 
 returns-2 : tie.Need-returns-2
-returns-2 c = rw (c .before .before .before .before .before .stated .given .1) (c .before .before .put-six2 .ensures)
+returns-2 c = rw (c .before .before .before .before .before .stated .given .1) (rw (c .before .before .before .before .before .before .before .prefix-number .ensures) at (c .before .before .put-six2 .ensures))
 
 pub put-stated-spec : {M : Type 1} → statement M
 put-stated-spec =
     tie.close
     (tie.spec
+    prefix-number-requires
     enum-told
     put-six-requires
     same-length

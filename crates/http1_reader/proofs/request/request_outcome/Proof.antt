@@ -16,23 +16,26 @@ enum-known-read c = search needs
 enum-known-read-2 : tie.Need-enum-known-read-2
 enum-known-read-2 c = search needs
 
-cast-t21 : tie.Need-cast-t21
-cast-t21 c = search needs
-
-cast-t21-2 : tie.Need-cast-t21-2
-cast-t21-2 c = search needs
-
 cast-t22 : tie.Need-cast-t22
 cast-t22 c = search needs
 
-add-t23 : tie.Need-add-t23
-add-t23 c = search needs
-
-cast-t21-3 : tie.Need-cast-t21-3
-cast-t21-3 c = search needs
-
 cast-t22-2 : tie.Need-cast-t22-2
 cast-t22-2 c = search needs
+
+cast-t23 : tie.Need-cast-t23
+cast-t23 c = search needs
+
+add-t24 : tie.Need-add-t24
+add-t24 c = search needs
+
+add-t25 : tie.Need-add-t25
+add-t25 c = search needs
+
+cast-t22-3 : tie.Need-cast-t22-3
+cast-t22-3 c = search needs
+
+cast-t23-2 : tie.Need-cast-t23-2
+cast-t23-2 c = search needs
 
 request-record-requires : tie.Need-request-record-requires
 request-record-requires c κs = search needs
@@ -44,7 +47,7 @@ returns-2 : tie.Need-returns-2
 returns-2 c = rw (c .before .read .given .1) refl
 
 returns-3 : tie.Need-returns-3
-returns-3 c = rw (c .before .before .read2 .given .1) (ap outcome.Message (c .request-record .ensures))
+returns-3 c = rw (c .before .before .before .before .read2 .given .1) (ap outcome.Message (c .request-record .ensures))
 
 pub request-outcome-spec : {M : Type 1} → statement M
 request-outcome-spec =
@@ -53,12 +56,13 @@ request-outcome-spec =
     enum-told
     enum-known-read
     enum-known-read-2
-    cast-t21
-    cast-t21-2
     cast-t22
-    add-t23
-    cast-t21-3
     cast-t22-2
+    cast-t23
+    add-t24
+    add-t25
+    cast-t22-3
+    cast-t23-2
     request-record-requires
     returns
     returns-2

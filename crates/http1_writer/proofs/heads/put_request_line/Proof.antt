@@ -1,4 +1,5 @@
 use borrow.Author.Needs.{needs}
+use native.Mathlib.Omega.{arith}
 use borrow.Author.Tests.{le-leb}
 use Rattle.output.proofs.Room.{puts, puts-part, puts-then}
 use Rattle.http1_writer.specs.Write.{requestLine}
@@ -19,14 +20,8 @@ put-part-requires c κs = search needs
 put-octet-requires : tie.Need-put-octet-requires
 put-octet-requires c κs = search needs
 
-cast-put-part-3 : tie.Need-cast-put-part-3
-cast-put-part-3 c = search needs
-
-cast-put-part-4 : tie.Need-cast-put-part-4
-cast-put-part-4 c = search needs
-
-put-part-requires-2 : tie.Need-put-part-requires-2
-put-part-requires-2 c κs = search needs
+put-path-requires : tie.Need-put-path-requires
+put-path-requires c κs = let x = puts-then (puts-part (le-leb _ _ (c .before .before .before .before .before .before .before .before .before .before .before .before .before .pre .0)) (c .before .before .before .before .before .before .before .put-part .ensures)) (puts (c .before .before .before .put-octet .ensures)) (omega (arith, c .before .before .before .before .before .before .before .before .before .before .before .before .before .pre .2)) in (c .before .before .before .before .before .before .before .before .before .before .before .before .before .pre .1, omega (arith, x .next, c .before .before .before .before .before .before .before .before .before .before .before .before .before .pre .2, c .before .before .before .before .before .before .before .put-part .kept, c .before .before .before .put-octet .kept))
 
 slice-aggregate-put-text : tie.Need-slice-aggregate-put-text
 slice-aggregate-put-text c = search needs
@@ -45,7 +40,7 @@ same-length c = search needs
 
 returns : tie.Need-returns
 unfolding requestLine
-returns c = puts-then (puts-then (puts-then (puts-then (puts-part (le-leb _ _ (c .before .before .before .before .before .before .before .before .before .before .before .before .before .before .before .before .before .before .before .before .before .before .before .before .before .before .before .before .pre .0)) (c .before .before .before .before .before .before .before .before .before .before .before .before .before .before .before .before .before .before .before .before .before .before .put-part .ensures)) (puts (c .before .before .before .before .before .before .before .before .before .before .before .before .before .before .before .before .before .before .put-octet .ensures))) (puts-part (le-leb _ _ (c .before .before .before .before .before .before .before .before .before .before .before .before .before .before .before .before .before .before .before .before .before .before .before .before .before .before .before .before .pre .1)) (c .before .before .before .before .before .before .before .before .before .before .before .before .put-part2 .ensures))) (puts (c .before .before .before .before .before .before .before .put-text .ensures))) (puts (c .before .before .put-text2 .ensures)) (c .before .before .before .before .before .before .before .before .before .before .before .before .before .before .before .before .before .before .before .before .before .before .before .before .before .before .before .before .pre .2)
+returns c = puts-then (puts-then (puts-then (puts-then (puts-part (le-leb _ _ (c .before .before .before .before .before .before .before .before .before .before .before .before .before .before .before .before .before .before .before .before .before .before .before .before .before .before .pre .0)) (c .before .before .before .before .before .before .before .before .before .before .before .before .before .before .before .before .before .before .before .before .put-part .ensures)) (puts (c .before .before .before .before .before .before .before .before .before .before .before .before .before .before .before .before .put-octet .ensures))) (λ h. c .before .before .before .before .before .before .before .before .before .before .before .before .put-path .ensures)) (puts (c .before .before .before .before .before .before .before .put-text .ensures))) (puts (c .before .before .put-text2 .ensures)) (c .before .before .before .before .before .before .before .before .before .before .before .before .before .before .before .before .before .before .before .before .before .before .before .before .before .before .pre .2)
 
 pub put-request-line-spec : {M : Type 1} → statement M
 put-request-line-spec =
@@ -55,9 +50,7 @@ put-request-line-spec =
     cast-put-part-2
     put-part-requires
     put-octet-requires
-    cast-put-part-3
-    cast-put-part-4
-    put-part-requires-2
+    put-path-requires
     slice-aggregate-put-text
     put-text-requires
     slice-aggregate-put-text-2
