@@ -19,6 +19,7 @@ enum { COLUMNS = sizeof columns / sizeof columns[0] };
 static struct row rows[] = {
     {"scan post, 61 octets of JSON", &small, {ours_read_request, http_parser_read_request, pico_read_head}, {[1] = 0.7}, {0}},
     {"post with 30 fields", &fields30, {ours_read_request, http_parser_read_request, pico_read_head}, {[1] = 0.7}, {0}},
+    {"30 fields, one named by Connection", &connection30, {ours_read_request, http_parser_read_request, pico_read_head}, {[1] = 0.7}, {0}},
     {"32 KB by length", &by_length, {ours_read_request, http_parser_read_request, pico_read_head}, {[1] = 1.0}, {0}},
     {"32 KB in 64 chunks", &in_chunks, {ours_read_request, http_parser_read_request, pico_read_chunked}, {[1] = 1.0}, {0}},
     {"(copying the chunked body alone)", &in_chunks, {0, 0, copy_body}, {0}, {0}},

@@ -47,7 +47,7 @@ static bool take_off(const uint8_t *octets, size_t len, size_t count)
 
 int main(void)
 {
-    size_t len = fread(input, 1, sizeof input, stdin), at = 0, out = 0, count = 0, taken, binary_len, http1_len;
+    size_t len = fread(input, 1, sizeof input, stdin), at = 0, out = 0, count = 0, taken, binary_len, http1_len, place;
     if (ferror(stdin) || (len == sizeof input && getchar() != EOF)) {
         fprintf(stderr, "box: standard input cannot be read or passes %d octets\n", STREAM_MOST);
         return 2;
@@ -60,7 +60,11 @@ int main(void)
         number = ospirnar_binary_to_http1(binary, binary_len, 0, 0, 0, 0, written + out, sizeof written - out, &http1_len);
         if (number != 0)
             return stop("not turned back", number, http1_len, 0);
-        printf("%zu: %zu octets, as Binary %zu, turned back %zu\n", ++count, taken, binary_len, http1_len);
+        printf("%zu: %zu octets, as Binary %zu, turned back %zu", ++count, taken, binary_len, http1_len);
+        /* whether the sender means to close is no part of the meaning, so a turning does not say it: a box that holds the connection asks the record */
+        if (ospirnar_read_request(input + at, taken, 0, ranges, OSPIRNAR_RANGES_MOST, &place) == 0 && ranges[19] != 0)
+            printf("; the sender means to close");
+        putchar('\n');
         at += taken; /* the next message begins behind this one */
         out += http1_len;
     }

@@ -15,8 +15,6 @@ mod bundles;
 mod closed;
 #[path = "generate/commands.rs"]
 mod commands;
-#[path = "generate/connections.rs"]
-mod connections;
 #[path = "generate/draft.rs"]
 mod draft;
 #[path = "generate/fixed.rs"]
@@ -29,6 +27,8 @@ mod head;
 mod long;
 #[path = "generate/messages.rs"]
 mod messages;
+#[path = "generate/named.rs"]
+mod named;
 #[path = "generate/questions.rs"]
 mod questions;
 #[path = "reference/mod.rs"]
@@ -158,7 +158,7 @@ const ITEM_SETS: [ItemSet; 12] = [
     ("draft", Item::Draft, draft::case, draft::cases),
     ("long", Item::Long, long::case, long::cases),
     ("target", Item::Target, targets::case, targets::cases),
-    ("connection", Item::Connection, connections::case, connections::cases),
+    ("named", Item::Connection, named::case, named::cases),
     ("table", Item::Table, tables::case, tables::cases),
     ("sweep", Item::Sweep, sweeps::case, sweeps::cases),
     ("steps", Item::Steps, steps::case, steps::cases),

@@ -11,6 +11,7 @@
 //!                          with one element too few the call was not 13 at 0 that leaves all as it was
 //!   {"error":"room"}       with exactly enough space, or a refusal with none, the call answered something else
 //!   {"error":"range"}      a number that the header rules out: a part outside the input, a count above its size
+//!   {"error":"closes"}     whether the sender of an HTTP/1.1 message means to close, which the protocol can't show, is not what its lines say
 
 #[path = "probe/bundle.rs"]
 mod bundle;
@@ -246,6 +247,7 @@ struct Message {
     status: u32,
     stated: Option<u64>,
     long: u32,
+    closes: bool,
     info: Vec<(u32, Vec<Field>)>,
     headers: Vec<Field>,
     chunks: Vec<Part>,
@@ -306,7 +308,7 @@ fn message(ranges: &[u32], input_len: usize) -> Result<(Message, usize), &'stati
     }
     let stated = (is_stated == 1).then_some(length);
     let long = taker.number()?;
-    taker.number_up_to(0)?;
+    let closes = taker.number_up_to(1)? == 1;
     let mut info_heads = Vec::new();
     for i in 0..4 {
         // those that are not there: 0 and 0
@@ -324,7 +326,7 @@ fn message(ranges: &[u32], input_len: usize) -> Result<(Message, usize), &'stati
     if chunks.iter().map(|chunk| chunk.len).sum::<usize>() != content {
         return Err("range");
     }
-    Ok((Message { request, scheme, method, authority, path, before, status, stated, long, info, headers, chunks, trailers }, taker.next))
+    Ok((Message { request, scheme, method, authority, path, before, status, stated, long, closes, info, headers, chunks, trailers }, taker.next))
 }
 
 // ---------------------------------------------------------------------------------------- the answers
@@ -442,6 +444,20 @@ fn refused(answer: Answer) -> String {
     format!("{{\"at\":{},\"n\":{}}}", answer.place, answer.number)
 }
 
+/// Whether an accepted message is HTTP/1.1: Binary begins with its framing, in any width, which is no octet of a method or version.
+fn is_http1(input: &[u8]) -> bool {
+    input.first().is_some_and(|&octet| octet.is_ascii_graphic() && octet != b'@')
+}
+
+/// Whether the final head of an accepted HTTP/1.1 message, behind so many others, has a Connection line with the member `close`.
+fn says_close(input: &[u8], heads: usize) -> bool {
+    let text: String = input.iter().map(|&octet| octet as char).collect();
+    let head = text.splitn(heads + 2, "\r\n\r\n").nth(heads).unwrap_or("");
+    head.split("\r\n").skip(1).filter_map(|line| line.split_once(':')).any(|(name, value)| {
+        name.eq_ignore_ascii_case("connection") && value.split(',').any(|member| member.trim_matches([' ', '\t']).eq_ignore_ascii_case("close"))
+    })
+}
+
 /// A reader's answer to `input`.
 fn read(input: &[u8], call: impl Fn(&mut Lent<u32>) -> Answer) -> Result<String, &'static str> {
     let mut lent = ranges(RANGES_MOST);
@@ -460,6 +476,9 @@ fn read(input: &[u8], call: impl Fn(&mut Lent<u32>) -> Answer) -> Result<String,
     let (m, used) = message(&lent.all[..RANGES_MOST], input.len())?;
     if answer.place > input.len() {
         return Err("range");
+    }
+    if is_http1(input) && m.closes != says_close(input, m.info.len()) {
+        return Err("closes");
     }
     judge_room(&lent, used, answer, call)?;
     let mut out = format!("{{\"len\":{},", answer.place);

@@ -10,7 +10,8 @@
  *
  * Ranges. An accepted message is described by numbers in `ranges`; only those in use are written, all behind them stays as it was. Where they do not fit
  * the answer is 13 at 0. OSPIRNAR_RANGES_MOST elements are always enough. A part is its start in the input and its length; a field is the
- * part of its name and the part of its value. Only kept fields are named (document 01 names those that are dropped).
+ * part of its name and the part of its value. Only kept fields are named (document 01 names those that are dropped; so
+ * are, in either form, the fields of a header section that a Connection line of the same section names, before it or behind it; no trailer is).
  *
  *   ranges[0]        0 request, 1 response
  *   ranges[1]        scheme of a request: 0 http, 1 https; 0 in a response
@@ -28,7 +29,8 @@
  *   ranges[16]       that length, its low 32 bits: it has at most 15 digits, which 32 bits do not hold
  *   ranges[17]       its high 32 bits
  *   ranges[18]       how many integers of a Binary message are not in their shortest form, framing and terminators included, padding left out; 0 in HTTP/1.1
- *   ranges[19]       0 (kept for document 02, item 3)
+ *   ranges[19]       1 where the sender means to close the connection (a Connection line of the final head has the member `close`, in any case of letters), else 0;
+ *                    no part of the meaning: no writer writes it, and messages that mean the same may differ in it
  *   ranges[20..28]   status and number of fields of each informational head; 0 for those that are not there
  *   then             4 numbers for each field of the informational heads, in order,
  *                    4 numbers for each of the H header fields,

@@ -160,7 +160,7 @@ pub fn cases(out: &mut Cases) {
     }
 }
 
-fn reading(out: &mut Cases, bundle: &[u8]) {
+pub fn reading(out: &mut Cases, bundle: &[u8]) {
     out.push(format!("bundle {}", hex(bundle)));
 }
 
@@ -171,7 +171,7 @@ fn append(out: &mut Cases, flock: u64, bundle: &[u8], free: usize, message: &[u8
 }
 
 /// In exactly the room that is needed, one less, and more; none is needed where it is refused.
-fn append_rooms(out: &mut Cases, flock: u64, bundle: &[u8], message: &[u8]) {
+pub fn append_rooms(out: &mut Cases, flock: u64, bundle: &[u8], message: &[u8]) {
     let appended = bundle::append(&[bundle, &vec![0; 70_000]].concat(), bundle.len() as u64, flock, message, out.items);
     for free in appended.map_or(vec![0], |appended| [2, 3, 6].map(|free| appended.entry.len() + free - 3).to_vec()) {
         append(out, flock, bundle, free, message);

@@ -2,7 +2,7 @@
 //! place, statuses, integers.
 
 use crate::binary;
-use crate::messages::push_form;
+use crate::messages::{push_form, Pair};
 use crate::questions;
 use crate::reference::figures::*;
 use crate::reference::items::Items;
@@ -137,6 +137,8 @@ pub struct Plan {
     pub statuses: Option<Vec<u64>>,
     /// Of the informational heads.
     pub early: Vec<(Vec<u8>, Vec<u8>)>,
+    /// Of the first informational heads, in place of `early`: one section for each.
+    pub heads: Vec<Vec<Pair>>,
     pub headers: Vec<(Vec<u8>, Vec<u8>)>,
     pub chunks: Vec<Vec<u8>>,
     pub trailers: Vec<(Vec<u8>, Vec<u8>)>,
@@ -150,6 +152,7 @@ pub fn request_plan() -> Plan {
         path: b"/".to_vec(),
         statuses: None,
         early: Vec::new(),
+        heads: Vec::new(),
         headers: Vec::new(),
         chunks: Vec::new(),
         trailers: Vec::new(),
@@ -172,6 +175,10 @@ pub fn pair(name: &str, value: &str) -> (Vec<u8>, Vec<u8>) {
     (name.as_bytes().to_vec(), value.as_bytes().to_vec())
 }
 
+pub fn pairs(fields: &[(&str, &str)]) -> Vec<Pair> {
+    fields.iter().map(|(name, value)| pair(name, value)).collect()
+}
+
 impl Plan {
     pub fn known(&self) -> Vec<u8> {
         self.encode(true)
@@ -179,6 +186,11 @@ impl Plan {
     pub fn indeterminate(&self) -> Vec<u8> {
         self.encode(false)
     }
+    /// The fields of an informational head, counted from 0.
+    fn early_of(&self, head: usize) -> &[Pair] {
+        self.heads.get(head).unwrap_or(&self.early)
+    }
+
     fn encode(&self, known: bool) -> Vec<u8> {
         let mut out = Vec::new();
         let section = |out: &mut Vec<u8>, fields: &[(Vec<u8>, Vec<u8>)]| {
@@ -202,7 +214,7 @@ impl Plan {
                 for (i, status) in statuses.iter().enumerate() {
                     push_form(&mut out, *status, 1);
                     if i + 1 < statuses.len() {
-                        section(&mut out, &self.early);
+                        section(&mut out, self.early_of(i));
                     }
                 }
             }
@@ -216,6 +228,49 @@ impl Plan {
             }
             out.push(0);
         }
+        section(&mut out, &self.trailers);
+        out
+    }
+
+    /// The line of HTTP/1.1 that frames its content, if it needs one.
+    fn framing(&self) -> Option<Pair> {
+        if !self.trailers.is_empty() {
+            return Some(pair("transfer-encoding", "chunked"));
+        }
+        let size = self.chunks.concat().len();
+        let needs_none = self.statuses.as_ref().map_or(true, |statuses| matches!(statuses.last(), Some(204 | 304)));
+        (size > 0 || !needs_none).then(|| pair("content-length", &size.to_string()))
+    }
+
+    /// The same message in HTTP/1.1, each section with its empty line as `section` writes it: Host is a request's first line,
+    /// what frames the content is the last of the head.
+    pub fn http1(&self, mut section: impl FnMut(&mut Vec<u8>, &[Pair])) -> Vec<u8> {
+        let mut out = Vec::new();
+        let mut headers = self.headers.clone();
+        match &self.statuses {
+            None => {
+                out.extend([&self.method[..], b" ", &self.path, b" HTTP/1.1\r\n"].concat());
+                headers.insert(0, (b"host".to_vec(), self.authority.clone()));
+            }
+            Some(statuses) => {
+                for (i, status) in statuses.iter().enumerate() {
+                    out.extend(format!("HTTP/1.1 {status} \r\n").bytes());
+                    if i + 1 < statuses.len() {
+                        section(&mut out, self.early_of(i));
+                    }
+                }
+            }
+        }
+        headers.extend(self.framing());
+        section(&mut out, &headers);
+        if self.trailers.is_empty() {
+            out.extend(self.chunks.concat());
+            return out;
+        }
+        for chunk in &self.chunks {
+            out.extend([format!("{:x}\r\n", chunk.len()).as_bytes(), chunk, b"\r\n"].concat());
+        }
+        out.extend(b"0\r\n");
         section(&mut out, &self.trailers);
         out
     }

@@ -33,7 +33,7 @@ pub struct Maker {
     pub sharp_faults: usize,
 }
 
-type Pair = (Vec<u8>, Vec<u8>);
+pub type Pair = (Vec<u8>, Vec<u8>);
 
 const COMMON_NAMES: [&str; 12] = [
     "accept", "x-a", "a", "cookie", "user-agent", "date", "x-flock", "b", "etag", "trailer", "x-b", "accept-language",
@@ -227,22 +227,23 @@ impl Maker {
         }
     }
 
-    /// A list of names, most of them of fields that messages have.
-    fn connection_value(&mut self) -> Vec<u8> {
-        let mut out = Vec::new();
+    /// A value of Connection: a list whose members are mostly of these names, with commas and blanks between them as they come.
+    pub fn member_list(&mut self, names: &[&str]) -> Vec<u8> {
+        let mut out = self.random.pick(&["", "", "", "", ",", ",\t,"]).as_bytes().to_vec();
         let count = 1 + self.random.below(4);
         for i in 0..count {
             if i > 0 {
-                out.extend_from_slice(self.random.pick(&[",", ", ", " ,", "\t,  ", ",,"]).as_bytes());
+                out.extend_from_slice(self.random.pick(&[",", ",", ", ", " ,", "\t,  ", ",,", ", ,", " ", "\t"]).as_bytes());
             }
             let member = match self.random.below(12) {
                 0 => self.random.pick(&["close", "keep-alive", "host", "content-length", "transfer-encoding", "connection"]).as_bytes().to_vec(),
-                1 => self.random.pick(&["\"a\"", "a b", "x-a;q", "(b)", "\u{e9}", "a=b"]).as_bytes().to_vec(),
+                1 => self.random.pick(&["\"a\"", "\"a,b,x\"", "\"b", "a b", "x-a;q", "(b)", "\u{e9}", "a=b"]).as_bytes().to_vec(),
                 2 => self.token(6),
-                _ => self.common_name().as_bytes().to_vec(),
+                _ => self.random.pick(names).as_bytes().to_vec(),
             };
             out.extend(self.mixed_case(&member));
         }
+        out.extend_from_slice(self.random.pick(&["", "", "", "", ",", " ,"]).as_bytes());
         out
     }
 
@@ -251,7 +252,7 @@ impl Maker {
         (0..count)
             .map(|_| {
                 if self.items.has(Item::Connection) && self.random.chance(4) {
-                    return (b"connection".to_vec(), self.connection_value());
+                    return (b"connection".to_vec(), self.member_list(&COMMON_NAMES));
                 }
                 if self.manner.small && self.random.chance(5) {
                     return self.framing_look();
@@ -364,7 +365,7 @@ impl Maker {
         }
     }
 
-    fn damage(&mut self, bytes: &mut Vec<u8>) {
+    pub fn damage(&mut self, bytes: &mut Vec<u8>) {
         let rare = if self.manner.calm { 5 } else { 1 };
         if self.random.below(100) < 15 / rare {
             self.mutate(bytes);
@@ -413,7 +414,7 @@ impl Maker {
         out
     }
 
-    fn push_section(&mut self, out: &mut Vec<u8>, fields: &[Pair]) {
+    pub fn push_section(&mut self, out: &mut Vec<u8>, fields: &[Pair]) {
         for (name, value) in fields {
             let text = self.field_text(name, value);
             out.extend_from_slice(&text);

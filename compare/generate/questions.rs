@@ -1,7 +1,7 @@
 //! Random and fixed cases of the field question.
 
 use crate::commands::{field_line, Form};
-use crate::fixed::{request_plan, response_plan, Cases, Plan};
+use crate::fixed::{pairs, request_plan, response_plan, Cases, Plan};
 use crate::messages::{Maker, Manner};
 use crate::{scheme, Random};
 
@@ -87,10 +87,6 @@ const FIELDS: [(&str, &str); 14] = [
 
 fn lines(fields: &[(&str, &str)], change: fn(&str) -> String) -> String {
     fields.iter().map(|(name, value)| format!("{}: \t{} \r\n", change(name), value)).collect()
-}
-
-fn pairs(fields: &[(&str, &str)]) -> Vec<(Vec<u8>, Vec<u8>)> {
-    fields.iter().map(|(name, value)| (name.as_bytes().to_vec(), value.as_bytes().to_vec())).collect()
 }
 
 fn capitals(name: &str) -> String {

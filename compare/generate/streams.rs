@@ -6,7 +6,7 @@ use crate::reference::figures::*;
 use crate::reference::told::Told;
 use crate::{hex, needed, scheme, Turn};
 
-fn line(scheme: u64, room: usize, tail: &[u8], inputs: &[Vec<u8>]) -> String {
+pub fn line(scheme: u64, room: usize, tail: &[u8], inputs: &[Vec<u8>]) -> String {
     let mut out = format!("stream {} {} {}", scheme, room, hex(tail));
     for input in inputs {
         out.push(' ');
@@ -16,7 +16,7 @@ fn line(scheme: u64, room: usize, tail: &[u8], inputs: &[Vec<u8>]) -> String {
 }
 
 /// What the calls write that are not refused in any room, one size for each.
-fn sizes(told: &Told, scheme: u64, inputs: &[Vec<u8>]) -> Vec<usize> {
+pub fn sizes(told: &Told, scheme: u64, inputs: &[Vec<u8>]) -> Vec<usize> {
     inputs.iter().filter_map(|input| needed(told, Turn::BinaryToHttp1, scheme, input)).collect()
 }
 

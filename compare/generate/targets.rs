@@ -45,6 +45,7 @@ const METHODS: [&str; 5] = ["GET", "OPTIONS", "options", "CONNECT", "HEAD"];
 
 pub fn cases(out: &mut Cases) {
     forms(out);
+    spellings(out);
     hosts(out);
     sizes(out);
     octets(out);
@@ -75,6 +76,7 @@ fn forms(out: &mut Cases) {
             let input = format!("{line}Host: b\r\n\r\n");
             out.push(commands::read_line(&[], Form::Request(1), input.as_bytes()));
             out.message(&[], Form::Request(0), &input);
+            in_streams(out, &input);
         }
     }
     for method in METHODS {
@@ -83,6 +85,28 @@ fn forms(out: &mut Cases) {
             both_schemes(out, &format!("{method} {target} HTTP/1.0\r\nHost: b\r\n\r\n"));
         }
     }
+}
+
+/// Both schemes in every case of letters.
+fn spellings(out: &mut Cases) {
+    for name in ["http", "https"] {
+        for letters in 0..1u32 << name.len() {
+            let scheme: String = name.chars().enumerate().map(|(i, c)| if letters >> i & 1 == 1 { c.to_ascii_uppercase() } else { c }).collect();
+            let input = format!("GET {scheme}://a HTTP/1.1\r\nHost: b\r\n\r\n");
+            both_schemes(out, &input);
+            in_streams(out, &input);
+        }
+    }
+}
+
+/// Behind what a list of calls writes, under either scheme, and between two requests of a stream.
+fn in_streams(out: &mut Cases, input: &str) {
+    let call = hex(&request_plan().known());
+    for scheme in [0, 1] {
+        out.push(format!("stream {scheme} 500 {} {call}", hex(input.as_bytes())));
+    }
+    let other = "GET / HTTP/1.1\r\nHost: b\r\n\r\n";
+    out.push(format!("listing {}", hex(format!("{other}{input}{other}").as_bytes())));
 }
 
 /// Host stands once; in absolute-form it is otherwise ignored.

@@ -479,8 +479,104 @@ fn connection(t: &mut Tests) {
     t.says("a stated length that is named", &format!("h1resp2bin 99 {}", hex(named.as_bytes())), &wrote_hex(&format!("01413011{CL}01350000")));
     let listed = "{\"text\":\"message start length fields content trailers\\n1 0 54 1 0 0\\nend 54 0\\n\"}";
     t.says("listing", &line("Connection: x\r\nx: 1\r\nb: c\r\n").replace("h1req 0", "listing"), listed);
-    // named fields count toward 64
+    let two = format!("{}{}", line("Connection: x\r\nx: 1\r\n"), &line("x: 1\r\n")["h1req 0 ".len()..]);
+    let listed = "{\"text\":\"message start length fields content trailers\\n1 0 48 0 0 0\\n2 48 33 1 0 0\\nend 81 0\\n\"}";
+    t.says("a stream of two", &two.replace("h1req 0", "listing"), listed);
+    named_ranges(t);
+    named_rules(t);
+    named_counts(t);
+}
+
+/// `connection` behind its length: 11 bytes.
+const CONNECTION: &str = "0a636f6e6e656374696f6e";
+
+/// Item 3: what is kept keeps its ranges; each head by itself; the question; what is appended.
+fn named_ranges(t: &mut Tests) {
+    // Host is at 16, X at 25, Connection at 31, Y at 46
+    let request = hex(b"GET / HTTP/1.1\r\nHost: a\r\nX: 1\r\nConnection: x\r\nY:2\r\n\r\n");
+    t.says(
+        "ranges of a request",
+        &format!("h1req 0 {request}"),
+        "{\"len\":53,\"m\":{\"authority\":\"61\",\"content\":\"\",\"headers\":[[\"79\",\"32\"]],\"k\":\"req\",\"method\":\"474554\",\"path\":\"2f\",\
+         \"scheme\":\"http\",\"trailers\":[]},\"n\":0,\"r\":{\"authority\":[22,1],\"chunks\":[],\"headers\":[[46,1,48,1]],\"method\":[0,3],\
+         \"path\":[4,1],\"trailers\":[]}}",
+    );
+    // x is at 3, Connection (naming X) at 7, y at 20, the terminator at 24
+    t.says(
+        "ranges of an indeterminate response",
+        &format!("bin 0340c801780131{CONNECTION}01580179013200"),
+        "{\"len\":25,\"m\":{\"content\":\"\",\"headers\":[[\"79\",\"32\"]],\"info\":[],\"k\":\"resp\",\"status\":200,\"trailers\":[]},\"n\":0,\
+         \"r\":{\"chunks\":[],\"headers\":[[21,1,23,1]],\"info\":[],\"trailers\":[]}}",
+    );
+    let response = "HTTP/1.1 102 \r\nconnection: x\r\nx: 1\r\ny: 2\r\n\r\nHTTP/1.1 103 \r\nx: 3\r\ny: 4\r\n\r\nHTTP/1.1 204 \r\nx: 5\r\ny: 6\r\nConnection: Y\r\n\r\n";
+    let written = "01 4066 04 01790132 4067 08 0178013301790134 40cc 04 01780135 00 00".replace(' ', "");
+    t.says("three heads", &format!("h1resp2bin 99 {}", hex(response.as_bytes())), &wrote_hex(&written));
+    let binary = format!("01 4066 15 {CONNECTION}0178 01780131 01790132 4067 08 0178013301790134 40cc 15 01780135 01790136 {CONNECTION}0159").replace(' ', "");
+    t.says("three heads in Binary", &format!("bin2bin 99 {binary}"), &wrote_hex(&written));
+    let anew = "HTTP/1.1 102 \r\ny: 2\r\n\r\nHTTP/1.1 103 \r\nx: 3\r\ny: 4\r\n\r\nHTTP/1.1 204 \r\nx: 5\r\n\r\n";
+    t.says("three heads to HTTP/1.1", &format!("bin2h1 0 999 {binary}"), &wrote(anew));
+
+    let default = "{\"at\":0,\"from\":\"default\",\"len\":2,\"n\":0,\"start\":0}";
+    t.says("the question for a named field", &format!("field_h1req 0 78 ffff {request}"), default);
+    t.says("for one that is not", &format!("field_h1req 0 79 ffff {request}"), "{\"at\":0,\"from\":\"message\",\"len\":1,\"n\":0,\"start\":48}");
+    // x before Connection and behind it, the trailer x
+    let twice = "POST / HTTP/1.1\r\nHost: a\r\nx: 1\r\nConnection: X\r\nx: 2\r\nTransfer-Encoding: chunked\r\n\r\n0\r\nx: 3\r\n\r\n";
+    t.says("no other of its name", &format!("field_h1req 0 78 ffff {}", hex(twice.as_bytes())), default);
+
+    // 204 with Connection naming x: 21 bytes, written in 6
+    let reply = format!("0140cc11{CONNECTION}017801780131");
+    t.says("append", &format!("append 5 0 ffffffffffffffffffff {reply}"), "{\"n\":0,\"out\":\"0a4000060140cc000000\",\"used\":10}");
+    t.says("no entry as it stands", &format!("bundle 0a400015{reply}"), &refused(15, 0));
+    t.outcome("an empty Connection in the draft", &format!("bin edition=1 0140c80c{CONNECTION}00"), 2, 4);
+    t.outcome("an empty Connection", &format!("bin 0140c80c{CONNECTION}00"), 0, 16);
+}
+
+/// Item 3: "Host and length rules are judged on the whole section first"; "trailers are untouched".
+fn named_rules(t: &mut Tests) {
+    let request = |lines: &str| format!("GET / HTTP/1.1\r\nHost: a\r\n{lines}\r\n"); // 16 + 9 + lines + 2
+    let (host, length, coding) = ("Connection: host\r\n", "Connection: content-length\r\n", "Connection: transfer-encoding\r\n"); // 18, 28, 31
+    let (zero, chunked) = ("Content-Length: 0\r\n", "Transfer-Encoding: chunked\r\n"); // 19, 28
+    t.req("Host that is named", &request(host), 0, 45);
+    t.req("two Hosts that are named", &request(&format!("{host}Host: a\r\n")), 6, 54);
+    t.req("both lengths, one named", &request(&format!("{length}{zero}{chunked}")), 7, 102);
+    t.req("both lengths, the other named", &request(&format!("{coding}{zero}{chunked}")), 7, 105);
+    t.req("a coding that is named frames", &format!("{}0\r\n\r\n", request(&format!("{coding}{chunked}"))), 0, 91);
+    t.req("a length too large that is named", &request(&format!("{length}Content-Length: 32769\r\n")), 8, 53);
+    t.req("a trailer that the head names is refused", &format!("{}0\r\nhost: a\r\n\r\n", request(&format!("{host}{chunked}"))), 7, 87);
+    t.reply("204 with a length that is named", "head=0", &format!("HTTP/1.1 204 \r\n{length}{zero}\r\n"), 7, 64);
+    t.reply("103 with a coding that is named", "head=0", &format!("HTTP/1.1 103 \r\n{coding}{chunked}\r\n"), 7, 76);
+    t.reply("closed, a length that is named", "closed=1", &format!("HTTP/1.1 200 \r\n{length}{zero}\r\nabc"), 0, 64);
+
+    // Binary: GET http a / is 14 bytes; Connection: host is 16, host: a is 7
+    let hosts = |value: &str| format!("000347455404687474700161012f17{CONNECTION}04686f737404686f7374{value}");
+    t.bin("host that is named, equal", &hosts("0161"), 0, 38);
+    t.bin("host that is named, unequal", &hosts("0162"), 6, 38);
+    // Connection: content-length is 26, content-length: n is 17; then one byte of content
+    let lengths = |value: &str| format!("0140c82b{CONNECTION}{CL}{CL}{value}0161");
+    t.bin("a length that is named, right", &lengths("0131"), 0, 49);
+    t.bin("a length that is named, wrong", &lengths("0132"), 7, 49);
+}
+
+/// Item 3: "Named fields count toward 64 and 8,192" (S22) of what is read, not of what is written.
+fn named_counts(t: &mut Tests) {
     t.req("65th line", &format!("GET / HTTP/1.1\r\nHost: a\r\nconnection: x\r\n{}", "x:\r\n".repeat(63)), 8, 16 + 9 + 15 + 62 * 4);
+    let reply = |lines: String| format!("h1resp2bin 99 {}", hex(format!("HTTP/1.1 204 \r\n{lines}\r\n").as_bytes()));
+    t.says("63 named lines", &reply(format!("connection: x\r\n{}", "x:\r\n".repeat(63))), &wrote_hex("0140cc000000"));
+    t.says("64 Connection lines", &reply("connection: x\r\n".repeat(64)), &wrote_hex("0140cc000000"));
+    t.says("65 Connection lines", &reply("connection: x\r\n".repeat(65)), &refused(8, 15 + 64 * 15));
+    // Connection: x is 13 bytes, an empty x is 3; 64 lines are 202, 65 are 205
+    let lines = |named: usize| format!("{CONNECTION}0178{}", "017800".repeat(named));
+    t.bin("64 lines in Binary", &format!("0140cc40ca{}", lines(63)), 0, 207);
+    t.bin("65th line in Binary", &format!("0140cc40cd{}", lines(64)), 8, 207);
+    t.bin("65th line, indeterminate", &format!("0340cc{}00", lines(64)), 8, 205);
+    let head = |size: usize| format!("GET / HTTP/1.1\r\nHost: a\r\nconnection: x\r\nx:{}\r\n\r\n", "v".repeat(size)); // 46 + size
+    t.req("a head of 8,192", &head(8_146), 0, 8_192);
+    t.req("a head of 8,193", &head(8_147), 8, 8_191);
+    t.says(
+        "64 lines, two written",
+        &format!("bin2h1 0 99 000347455404687474700161012f40cb{}01620163", lines(62)),
+        &wrote("GET / HTTP/1.1\r\nhost: a\r\nb: c\r\n\r\n"),
+    );
 }
 
 /// Item 13: a reader for the tag itself.

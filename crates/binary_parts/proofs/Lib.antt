@@ -3,8 +3,9 @@ pub mod Line
 pub mod Steps
 pub mod Rest
 pub mod Turns
+pub mod SectionLines
 pub mod Sections
-pub mod Gathered
+pub mod SoFar
 pub mod Judged
 pub mod Controls
 pub mod PaddingLaws

@@ -1,18 +1,15 @@
 -- A field line whose halves are in, as the code judges and stores it.
-use Prim.Native.Nat.{ℕ, _+_, _*_}
+use Prim.Native.Nat.{ℕ}
 use mathlib.Core.Path.{_≡_, refl, sym, _∙_, subst}
 use mathlib.Core.List.{List, [], _∷_, map}
 use mathlib.Core.Bool.{Bool, true, false, cond}
-use native.Mathlib.Omega.{arith}
 use lib.ListN.{length}
 use Rattle.octets.specs.Text.{lowerOf}
 use Rattle.octets.specs.Refusals.{badSyntax}
-use Rattle.output.specs.Splice.{splice}
 use Rattle.script.specs.Do.{Piece, piece, Judged, good, wrong}
 use Rattle.messages.specs.Message.{FieldRead}
-use Rattle.messages.specs.Names.{kindOf, lineKind, kept, isEndToEnd}
+use Rattle.messages.specs.Names.{kindOf, lineKind, isEndToEnd}
 use Rattle.messages.specs.Control.{isLowerName}
-use Rattle.messages.specs.Answers.{fieldsNumbers}
 use Rattle.messages.specs.declared.Kind.{Kind}
 use Rattle.ranges.specs.Ranges.{StoredIf}
 use Rattle.binary.specs.declared.Form.{Form}
@@ -38,9 +35,9 @@ judged-as {end = end} {host = host} {k = k} {long = long} {o = o} {o′ = o′} 
 
 module _ (form : Form) (p n v : ℕ) (name value : List ℕ) {y : Bool} (e : y ≡ cond (isLowerName name) (isLineValue form value) false) where
   -- a line that is none
-  pub line-wrong : {end : ℕ} {host : Bool} {k long : ℕ} {o o′ : List ℕ} → y ≡ false
-      → JudgedLine (judgedLine form p (piece n name) (piece v value)) end host k long o o′ (read.Refused badSyntax p)
-  line-wrong h = judged-as {j = wrong badSyntax p} (line-as form p (piece n name) (piece v value) y e ∙ rw h refl) refl
+  pub line-wrong : {end : ℕ} {host : Bool} {k long : ℕ} {o : List ℕ} → y ≡ false
+      → JudgedLine (judgedLine form p (piece n name) (piece v value)) end host k long o o (read.Refused badSyntax p)
+  line-wrong h = judged-as {j = wrong badSyntax p} (line-as form p (piece n name) (piece v value) y e ∙ rw h refl) (refl, refl)
 
   line : FieldRead
   line = record { name = piece n name; value = piece v value; place = p }
@@ -48,14 +45,6 @@ module _ (form : Form) (p n v : ℕ) (name value : List ℕ) {y : Bool} (e : y �
   pub line-good : {end : ℕ} {host : Bool} {k long : ℕ} {o o′ : List ℕ} {kind : Kind} {t : Bool} {r : ℕ} → y ≡ true
       → kind ≡ kindOf (map lowerOf name) → t ≡ isEndToEnd host kind → StoredIf t k (n ∷ length name ∷ v ∷ length value ∷ []) o o′ r
       → JudgedLine (judgedLine form p (piece n name) (piece v value)) end host k long o o′ (read.Next end r kind p (length value) long)
-  unfolding kept fieldsNumbers lineKind line
-  line-good {end} {host} {k} {long} {o} {o′} {kind} {t} {r} h ek et u =
-      judged-as {j = good line} (line-as form p (piece n name) (piece v value) y e ∙ rw h refl) (rw (← ek, ← et) (pick t u))
-    where
-      pick : (x : Bool) → StoredIf x k (n ∷ length name ∷ v ∷ length value ∷ []) o o′ r
-          → (read.Next end r kind p (length value) long ≡ read.Next end (k + length (cond x (line ∷ []) [])) kind p (length value) long)
-          × (o′ ≡ splice o (k * 4) (fieldsNumbers (cond x (line ∷ []) [])))
-      pick true g = (rw (g .count), g .stored)
-      pick false g =
-          let z : k + 0 ≡ k = omega arith in
-          (rw (g .count, z), g .stored)
+  unfolding lineKind line
+  line-good {r = r} h ek et u =
+      judged-as {j = good line} (line-as form p (piece n name) (piece v value) y e ∙ rw h refl) (r, rw (← ek) refl, rw (← ek, ← et) u)

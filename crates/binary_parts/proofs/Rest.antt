@@ -50,18 +50,19 @@ module _ {s : List ℕ} {a : ℕ} {host : Bool} {k : ℕ} {o o′ : List ℕ} {r
   pub lined-as : {x y : Got FieldRead} → x ≡ y → Lined s a y host k o o′ r → Lined s a x host k o o′ r
   lined-as {x} {y} e h = record { says = subst (λ (z : Got FieldRead). LineSays s a z host k o o′ r) (sym e) (h .says) }
 
-  -- a refusal
-  pub lined-no : {x : Got FieldRead} {number place : ℕ} → x ≡ no number place → r ≡ read.Refused number place → Lined s a x host k o o′ r
-  lined-no {x} {number} {place} e h = lined-as {y = no number place} e (record { says = h })
-
   -- a line that was judged, read up to `end`
   lined-judged : (form : Form) (p : ℕ) (w v : Piece) {end : ℕ} → end ≤ length s → EndsAt s a end v → {long : ℕ} → long ≤ a + end → JudgedLine (judgedLine form p w v) end host k long o o′ r
       → Lined s a (tell (judgedLine form p w v) (cursor (a + end) long) (drop end s)) host k o o′ r
   lined-judged form p w v {end} b u {long} few h = record { says = go (judgedLine form p w v) (line-value form p w v) (h .says) }
     where
       go : (j : Judged FieldRead) → OfValue v j → JudgedSays j end host k long o o′ r → LineSays s a (tell j (cursor (a + end) long) (drop end s)) host k o o′ r
-      go (good f) e q = (end, q .0, q .1, subst (EndsAt s a end) (sym e) u, refl, b, refl, few)
+      go (good f) e q = (end, q .0, q .1, q .2, subst (EndsAt s a end) (sym e) u, refl, b, refl, few)
       go (wrong x p) e q = q
+
+-- a refusal, with nothing stored
+pub lined-no : {s : List ℕ} {a : ℕ} {host : Bool} {k : ℕ} {o : List ℕ} {r : LineRead} {x : Got FieldRead} {number place : ℕ} → x ≡ no number place → r ≡ read.Refused number place
+    → Lined s a x host k o o r
+lined-no {number = number} {place = place} e h = lined-as {y = no number place} e (record { says = (h, refl) })
 
 -- the part from i to e is no longer than that
 pub part-short : (s : List ℕ) (i e : ℕ) → length (take (e - i) (drop i s)) ≤ e - i

@@ -1,8 +1,8 @@
 -- One line of a section, and one turn of each section loop, by what comes next.
-use Prim.Native.Nat.{ℕ, suc, _+_, _-_, _*_, _<_, _≤_}
+use Prim.Native.Nat.{ℕ, suc, _+_, _-_, _<_, _≤_}
 use mathlib.Core.Path.{_≡_, sym, ap, ap₂, _∙_}
 use mathlib.Core.List.{List, [], _∷_, _++_}
-use mathlib.Core.Bool.{Bool, true, false}
+use mathlib.Core.Bool.{Bool, false}
 use native.Mathlib.Omega.{arith}
 use borrow.Author.Tests.{eq-eqb, ne-eqb, le-leb, lt-leb}
 use lib.ListN.{length, take, drop, length-drop}
@@ -11,15 +11,14 @@ use Rattle.octets.specs.Limits.{linesMost}
 use Rattle.octets.specs.Refusals.{badSection, cutOff, tooLarge}
 use Rattle.numbers.specs.Integer.{readInt}
 use Rattle.numbers.specs.declared.Integer.the-variants.{Value, Cut}
-use Rattle.output.specs.Splice.{splice}
-use Rattle.output.proofs.Laws.{splice-length}
 use Rattle.messages.specs.Message.{FieldRead}
-use Rattle.messages.specs.Names.{lineKind, kept}
+use Rattle.messages.specs.Names.{lineKind, isEndToEnd}
 use Rattle.messages.specs.Notes.{isNoted, noteOf, noteLine}
-use Rattle.messages.specs.Answers.{fieldsNumbers}
+use Rattle.messages.specs.Answers.{fieldNumbers}
 use Rattle.messages.specs.declared.Kind.{Kind}
 use Rattle.messages.specs.declared.Notes.{Notes}
 use Rattle.messages.proofs.Noting.{noted-nothing}
+use Rattle.ranges.specs.Ranges.{StoredIf}
 use Rattle.binary.specs.declared.Cursor.{Cursor}
 use Rattle.binary.specs.Reader.{Got, got, no, cursor, _>>=_}
 use Rattle.binary.specs.declared.Form.{Form}
@@ -53,14 +52,13 @@ pub record NextLine (s : List ℕ) (a : ℕ) (x : Got FieldRead) (host : Bool) (
   pub line : FieldRead
   pub is : x ≡ got line (cursor (a + end) long) (drop end s)
   pub within : end ≤ length s
-  pub count : c ≡ k + length (kept host (line ∷ []))
   pub kind-is : kind ≡ lineKind line
   pub place-is : place ≡ line .place
+  pub size : length (line .value .text) ≡ len
   pub wide : len ≤ end
   pub value-at : line .value .place ≡ a + (end - len)
   pub value-is : line .value .text ≡ take len (drop (end - len) s)
-  pub stored : o′ ≡ splice o (k * 4) (fieldsNumbers (kept host (line ∷ [])))
-  pub same : length o′ ≡ length o
+  pub stored : StoredIf (isEndToEnd host (lineKind line)) k (fieldNumbers line) o o′ c
   pub few : long ≤ a + end
 
 module _ {s : List ℕ} {a : ℕ} {x : Got FieldRead} {host : Bool} {k : ℕ} {o o′ : List ℕ} {end c : ℕ} {kind : Kind} {place len long : ℕ}
@@ -83,33 +81,32 @@ module _ {s : List ℕ} {a : ℕ} {x : Got FieldRead} {host : Bool} {k : ℕ} {o
       go : (y : Got FieldRead) → LineSays s a y host k o o′ r → NextLine s a y host k o o′ end c kind place len long
       go (got f i l) q =
           let z : q .0 ≡ end = cc in
-          let u : c ≡ k + length (kept host (f ∷ [])) = cc in
+          let u : q .1 ≡ c = cc in
           let v : kind ≡ lineKind f = cc in
           let w : place ≡ f .place = cc in
           let y : length (f .value .text) ≡ len = cc in
           let u8 : i .long ≡ long = cc in
           record {
             line = f;
-            is = ap₂ (λ (m : Cursor) (t : List ℕ). got f m t) (ap₂ cursor (q .4 ∙ rw z) u8) (q .6 ∙ rw z);
-            within = rw z at (q .5);
-            count = u;
+            is = ap₂ (λ (m : Cursor) (t : List ℕ). got f m t) (ap₂ cursor (q .5 ∙ rw z) u8) (q .7 ∙ rw z);
+            within = rw z at (q .6);
             kind-is = v;
             place-is = w;
-            wide = rw (y, z) at (q .3 .long);
-            value-at = q .3 .place ∙ rw (y, z);
-            value-is = q .3 .text ∙ rw (y, z);
-            stored = q .2;
-            same = ap length (q .2) ∙ splice-length o (k * 4) (fieldsNumbers (kept host (f ∷ [])));
-            few = omega (arith, q .7, u8, z);
+            size = y;
+            wide = rw (y, z) at (q .4 .long);
+            value-at = q .4 .place ∙ rw (y, z);
+            value-is = q .4 .text ∙ rw (y, z);
+            stored = rw u at (q .3);
+            few = omega (arith, q .8, u8, z);
           }
-      go (no y p) q = let z : _≡_ {A = ℕ} 0 1 = cc in absurd (omega arith)
+      go (no y p) q = let d = q .0 in let z : _≡_ {A = ℕ} 0 1 = cc in absurd (omega arith)
 
-  pub lined-refused : {y p : ℕ} → r ≡ read.Refused y p → x ≡ no y p
+  pub lined-refused : {y p : ℕ} → r ≡ read.Refused y p → (x ≡ no y p) × (o′ ≡ o)
   lined-refused {y} {p} e = go x (h .says)
     where
-      go : (z : Got FieldRead) → LineSays s a z host k o o′ r → z ≡ no y p
-      go (got f i l) q = let z : _≡_ {A = ℕ} 0 1 = cc in absurd (omega arith)
-      go (no u v) q = cc
+      go : (z : Got FieldRead) → LineSays s a z host k o o′ r → (z ≡ no y p) × (o′ ≡ o)
+      go (got f i l) q = let d = q .2 in let z : _≡_ {A = ℕ} 0 1 = cc in absurd (omega arith)
+      go (no u v) q = let d = q .0 in let y′ : u ≡ y = cc in let p′ : v ≡ p = cc in (rw (y′, p′), q .1)
 
 -- ---- the lines of a known-length section
 

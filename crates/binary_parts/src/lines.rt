@@ -15,6 +15,8 @@ use numbers::read_int;
 use octets::Limits;
 use octets::Refusals;
 use ranges::keep;
+use ranges::named::drop_named;
+use ranges::store_connection;
 ghost use mathlib.Core.Path.{_≡_};
 ghost use mathlib.Core.Bool.{cond, true, false};
 ghost use mathlib.Core.List.{[]};
@@ -29,7 +31,7 @@ ghost use Rattle.ranges.specs.Ranges.{placesEnd};
 ghost use Rattle.binary.specs.Reader.{cursor};
 ghost use Rattle.binary.specs.Read.{isLineValue, judgedLine, cutNumber, cutPlace, afterNameLength, knownLine, knownLines, section, headerSection};
 ghost use Rattle.messages.specs.Room.{sectionRoom};
-ghost use Rattle.binary_parts.specs.Section.{JudgedLine, Lined, Bodied, Sectioned};
+ghost use Rattle.binary_parts.specs.Section.{JudgedLine, Lined, Bodied, SectionGathered, Sectioned};
 
 // The number of a line that is cut off.
 fn cut_number(form: Form) -> u32
@@ -75,7 +77,7 @@ fn is_line(t: &[u8; 256], form: Form, name: &[u8], value: &[u8]) -> bool
     false
 }
 
-// The line at the place p whose halves are in, the name at the place n and the value at the place v: judged and, where it is kept, stored.
+// The line at the place p whose halves are in, the name at the place n and the value at the place v: judged and, where it is end-to-end, stored.
 fn store_line(
     t: &[u8; 256],
     p: usize,
@@ -210,7 +212,7 @@ fn known_line(
 }
 
 // The lines that fill the body s of a known-length section, whose first octet is at the place a: at most 64 of them. Kept fields are stored behind
-// the `base` fields that stand in `out`.
+// the `base` fields that stand in `out`, and start and length of Connection values at the end of the section's room.
 fn known_lines(
     t: &[u8; 256],
     s: &[u8],
@@ -259,6 +261,14 @@ fn known_lines(
                     i = end;
                     if is_noted(kind) {
                         let v = end - len;
+                        store_connection(
+                            out,
+                            base,
+                            notes.connections,
+                            kind,
+                            (a + v) as u32,
+                            len as u32,
+                        );
                         notes = note(notes, kind, place, a + v, &s[v..end], false);
                     }
                 }
@@ -284,7 +294,7 @@ fn known_section(
 ) -> Section
     requires { ⌜ (now t ≡ classes) × (from .at ≤ length (now s)) × (length (now s) < placesEnd) × (base * 4 + sectionRoom ≤ length (now out))
         × (form .known ≡ true) × (from .long ≤ from .at) ⌝ }
-    ensures { λ r. ⌜ Sectioned (now (s .entry)) (section form from (drop (from .at) (now (s .entry)))) host base (now (out .entry)) (now (out .exit)) r ⌝ }
+    ensures { λ r. ⌜ SectionGathered (now (s .entry)) (section form from (drop (from .at) (now (s .entry)))) host base (now (out .entry)) (now (out .exit)) r ⌝ }
 {
     let at = from.at;
     let Integer::Value {
@@ -328,7 +338,7 @@ fn open_section(
 ) -> Section
     requires { ⌜ (now t ≡ classes) × (from .at ≤ length (now s)) × (length (now s) < placesEnd) × (base * 4 + sectionRoom ≤ length (now out))
         × (form .known ≡ false) × (from .long ≤ from .at) ⌝ }
-    ensures { λ r. ⌜ Sectioned (now (s .entry)) (section form from (drop (from .at) (now (s .entry)))) host base (now (out .entry)) (now (out .exit)) r ⌝ }
+    ensures { λ r. ⌜ SectionGathered (now (s .entry)) (section form from (drop (from .at) (now (s .entry)))) host base (now (out .entry)) (now (out .exit)) r ⌝ }
 {
     let mut i = from.at;
     let mut lines: usize = 0;
@@ -376,6 +386,7 @@ fn open_section(
                     i = end;
                     if is_noted(kind) {
                         let v = end - len;
+                        store_connection(out, base, notes.connections, kind, v as u32, len as u32);
                         notes = note(notes, kind, place, v, &s[v..end], false);
                     }
                 }
@@ -389,8 +400,8 @@ fn open_section(
     }
 }
 
-// The field section from `from` on, of known or of indeterminate length. Kept fields are stored behind the `base` fields that stand in `out`.
-pub fn read_section(
+// The field section from `from` on, of known or of indeterminate length, with the fields that its Connection lines may name.
+fn gather_section(
     t: &[u8; 256],
     s: &[u8],
     from: Cursor,
@@ -401,12 +412,42 @@ pub fn read_section(
 ) -> Section
     requires { ⌜ (now t ≡ classes) × (from .at ≤ length (now s)) × (length (now s) < placesEnd) × (base * 4 + sectionRoom ≤ length (now out))
         × (from .long ≤ from .at) ⌝ }
-    ensures { λ r. ⌜ Sectioned (now (s .entry)) (section form from (drop (from .at) (now (s .entry)))) host base (now (out .entry)) (now (out .exit)) r ⌝ }
+    ensures { λ r. ⌜ SectionGathered (now (s .entry)) (section form from (drop (from .at) (now (s .entry)))) host base (now (out .entry)) (now (out .exit)) r ⌝ }
 {
     if form.known {
         return known_section(t, s, from, form, host, base, out);
     } else {
         return open_section(t, s, from, form, host, base, out);
+    }
+}
+
+// The field section from `from` on. Kept fields are stored behind the `base` fields that stand in `out`; `headers` says whether it is a header section, of which
+// the fields that its Connection lines name are not kept.
+pub fn read_section(
+    t: &[u8; 256],
+    s: &[u8],
+    from: Cursor,
+    form: Form,
+    headers: bool,
+    host: bool,
+    base: usize,
+    out: &mut [u32],
+) -> Section
+    requires { ⌜ (now t ≡ classes) × (from .at ≤ length (now s)) × (length (now s) < placesEnd) × (base * 4 + sectionRoom ≤ length (now out))
+        × (from .long ≤ from .at) ⌝ }
+    ensures { λ r. ⌜ Sectioned (now (s .entry)) (section form from (drop (from .at) (now (s .entry)))) headers host base (now (out .entry)) (now (out .exit)) r ⌝ }
+{
+    let g = gather_section(t, s, from, form, host, base, out);
+    match g {
+        Section::Refused { number, place } => return Section::Refused { number, place },
+        Section::Done { end, kept, notes } => {
+            let k = drop_named(s, out, headers, base, kept, notes.connections);
+            return Section::Done {
+                end,
+                kept: k,
+                notes,
+            };
+        }
     }
 }
 
@@ -432,7 +473,7 @@ pub fn header_section(
 ) -> Section
     requires { ⌜ (now t ≡ classes) × (from .at ≤ length (now s)) × (length (now s) < placesEnd) × (base * 4 + sectionRoom ≤ length (now out))
         × (from .long ≤ from .at) ⌝ }
-    ensures { λ r. ⌜ Sectioned (now (s .entry)) (headerSection form from (drop (from .at) (now (s .entry)))) host base (now (out .entry)) (now (out .exit)) r ⌝ }
+    ensures { λ r. ⌜ Sectioned (now (s .entry)) (headerSection form from (drop (from .at) (now (s .entry)))) true host base (now (out .entry)) (now (out .exit)) r ⌝ }
 {
     if is_headless(s, from.at, form) {
         return Section::Done {
@@ -441,6 +482,6 @@ pub fn header_section(
             notes: no_notes(),
         };
     } else {
-        return read_section(t, s, from, form, host, base, out);
+        return read_section(t, s, from, form, true, host, base, out);
     }
 }

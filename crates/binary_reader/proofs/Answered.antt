@@ -11,7 +11,7 @@ use Rattle.messages.specs.declared.Outcome.{Outcome}
 use Rattle.messages.specs.declared.Outcome.the-variants as outcome
 use Rattle.binary.specs.Reader.{Got, got, no}
 use Rattle.binary.specs.Read.{messageAnswer}
-use Rattle.ranges.specs.Ranges.{Responded}
+use Rattle.ranges.specs.Ranges.{Stores, Responded}
 use Rattle.binary_reader.specs.Whole.{MessageSays, MessageIs}
 
 -- an answer that equals another promises the same
@@ -32,10 +32,10 @@ module _ {hs hs′ ns ns′ cs cs′ ts ts′ : List ℕ} where
 
   -- with the ranges of the heads that stand already
   pub with-headers : {response : Bool} {is : List InformationalRead} {lines : List FieldRead} {r : Outcome} (x : Got Message)
-      → hs′ ≡ splice hs 0 (fieldsNumbers (informationalLines is ++ kept response lines)) → ns′ ≡ splice ns 0 (informationalNumbers is)
+      → Stores hs 0 (fieldsNumbers (informationalLines is ++ kept response lines)) hs′ → ns′ ≡ splice ns 0 (informationalNumbers is)
       → MessageIs response is lines x cs cs′ ts ts′ r → Responded (messageAnswer x) hs hs′ ns ns′ cs cs′ ts ts′ r
   with-headers {response} {is} {lines} {r} x a b h = go x (h .says)
     where
       go : (y : Got Message) → MessageSays response is lines y cs cs′ ts ts′ r → Responded (messageAnswer y) hs hs′ ns ns′ cs cs′ ts ts′ r
-      go (got m e l) u = record { says = (u .0, a ∙ rw (u .5, u .4, u .3) refl, u .1, u .2); informational = b ∙ rw (u .5) refl }
+      go (got m e l) u = record { says = (u .0, rw (u .5, u .4, u .3) a, u .1, u .2); informational = b ∙ rw (u .5) refl }
       go (no n p) u = record { says = u; informational = tt }

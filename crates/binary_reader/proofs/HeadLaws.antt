@@ -15,13 +15,14 @@ use Rattle.numbers.specs.declared.Integer.the-variants.{Value, Cut}
 use Rattle.script.specs.Do.{good, wrong}
 use Rattle.messages.specs.Message.{InformationalRead, Section, Message}
 use Rattle.messages.specs.Control.{statusVerdict, isInformational}
+use Rattle.messages.specs.Names.{closes}
 use Rattle.messages.specs.Notes.{notesOf, bodyAnswer}
 use Rattle.messages.specs.Rules.{binaryFramingOf, nothingStated}
 use Rattle.messages.specs.declared.Body.{Body}
 use Rattle.messages.specs.declared.BodyAnswer.the-variants as body
 use Rattle.messages.specs.declared.Notes.{Notes}
 use Rattle.messages.specs.declared.Told.{Told}
-use Rattle.messages.proofs.Noting.{notes-binary}
+use Rattle.messages.proofs.Noting.{notes-binary, notes-closes}
 use Rattle.messages.proofs.Lengths.{body-read, body-refused}
 use Rattle.binary.specs.declared.Cursor.{Cursor}
 use Rattle.binary.specs.Reader.{Got, no, cursor, _>>=_}
@@ -31,13 +32,17 @@ use Rattle.binary_parts.specs.Section.{Sectioned}
 use Rattle.binary_parts.specs.declared.Section as answer
 use Rattle.binary_parts.specs.declared.Section.the-variants as section-read
 use Rattle.binary_parts.proofs.Places.{integer-cut, integer-got}
+use Rattle.binary_parts.proofs.SectionLines.{section-lines, header-lines}
 use Rattle.binary_reader.specs.Heads.{FinalStatus, HeadStored, HeadSays, Headed}
 use Rattle.binary_reader.specs.declared.HeadRead.{HeadRead}
 use Rattle.binary_reader.specs.declared.HeadRead.the-variants as head
-use Rattle.binary_reader.proofs.SectionOutcomes.{SectionDone, section-lines, header-lines, section-no, section-done, behind-no, behind-got}
+use Rattle.binary_reader.proofs.SectionOutcomes.{SectionDone, section-no, section-done, behind-no, behind-got}
 
 pub framing-noted : (n : Notes) (h : Section) → n ≡ notesOf false (h .lines) → n .framing ≡ binaryFramingOf (h .lines)
 framing-noted n h e = ap (λ (n : Notes). n .framing) e ∙ notes-binary (h .lines)
+
+pub closing-noted : (n : Notes) (h : Section) → n ≡ notesOf false (h .lines) → n .closes ≡ closes (h .lines)
+closing-noted n h e = ap (λ (n : Notes). n .closes) e ∙ notes-closes false (h .lines)
 
 -- an answer that equals another, whatever is told, says the same
 pub says-as : (form : Form) (f : ℕ) (is : List InformationalRead) (s : List ℕ) (base : ℕ) (hs hs′ : List ℕ) (r : HeadRead) {x y : Told → Got Message}
@@ -49,20 +54,20 @@ says-as form f is s base hs hs′ (head.Refused i p) q u = λ t. q t ∙ u t
 -- ---- the section behind a status
 
 module _ (s : List ℕ) {base : ℕ} {hs hs′ : List ℕ} where
-  head-stored : {x : Got Section} {e : Cursor} {c : ℕ} {n : Notes} (d : SectionDone s x true base hs hs′ e c n) → HeadStored s base hs hs′ e c (d .read)
+  head-stored : {x : Got Section} {e : Cursor} {c : ℕ} {n : Notes} (d : SectionDone s x true true base hs hs′ e c n) → HeadStored s base hs hs′ e c (d .read)
   head-stored d = record { end = d .end; within = d .within; few = d .lines .section .few; count = d .count; stored = d .stored; counted = d .counted }
 
-module _ (s : List ℕ) (form : Form) (next : Cursor) (status : ℕ) {base : ℕ} {hs hs′ : List ℕ} {r : answer.Section} (w : Sectioned s (section form next (drop (next .at) s)) true base hs hs′ r) where
+module _ (s : List ℕ) (form : Form) (next : Cursor) (status : ℕ) {base : ℕ} {hs hs′ : List ℕ} {r : answer.Section} (w : Sectioned s (section form next (drop (next .at) s)) true true base hs hs′ r) where
   pub informational-no : {i p : ℕ} → r ≡ section-read.Refused i p
       → Headed FewHeads (λ f is t. afterInformationalStatus form (heads t form f) is status next (drop (next .at) s)) form s base hs hs′ (head.Refused i p)
   unfolding afterInformationalStatus
   informational-no e = record { by = λ f is z t. behind-no (section form) (afterInformational (heads t form f) is status) s next (section-no w e) }
 
   module _ (within : next .at ≤ length s) (few : next .long ≤ next .at) {e : Cursor} {c : ℕ} {n : Notes} (q : r ≡ section-read.Done e c n) where
-    done : SectionDone s (section form next (drop (next .at) s)) true base hs hs′ e c n
+    done : SectionDone s (section form next (drop (next .at) s)) true true base hs hs′ e c n
     done = section-done w (section-lines form s next within few) q
 
-    judged : (d : SectionDone s (section form next (drop (next .at) s)) true base hs hs′ e c n)
+    judged : (d : SectionDone s (section form next (drop (next .at) s)) true true base hs hs′ e c n)
         → nothingStated (e .at) (n .framing) ≡ nothingStated (d .read .end) (binaryFramingOf (d .read .lines))
     judged d = rw (d .end, framing-noted n (d .read) (d .noted)) refl
 
@@ -81,7 +86,7 @@ module _ (s : List ℕ) (form : Form) (next : Cursor) (status : ℕ) {base : ℕ
         record { by = λ f is few. (done .read, head-stored s done, few, λ t. behind-got (section form) (afterInformational (heads t form f) is status) s next (done .gives) ∙ rw z) }
 
 module _ (s : List ℕ) (form : Form) (next : Cursor) (status : ℕ) {base : ℕ} {hs hs′ : List ℕ} {r : answer.Section}
-    (w : Sectioned s (headerSection form next (drop (next .at) s)) true base hs hs′ r) where
+    (w : Sectioned s (headerSection form next (drop (next .at) s)) true true base hs hs′ r) where
   pub final-no : {i p : ℕ} → r ≡ section-read.Refused i p
       → Headed AnyHeads (λ f is t. afterFinalStatus t form is status next (drop (next .at) s)) form s base hs hs′ (head.Refused i p)
   unfolding afterFinalStatus

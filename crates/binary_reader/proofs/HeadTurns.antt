@@ -2,10 +2,10 @@
 use Prim.Native.Nat.{ℕ, suc, _+_, _-_, _*_, _<_, _≤_}
 use mathlib.Core.Path.{_≡_, refl, ap, _∙_, subst}
 use mathlib.Core.List.{List, [], _∷_, _++_}
-use mathlib.Core.Bool.{Bool, true}
+use mathlib.Core.Bool.{true}
 use native.Mathlib.Omega.{arith}
 use lib.ListN.{length, drop, length-append}
-use Rattle.ranges.specs.Ranges.{SoManyHeads}
+use Rattle.ranges.specs.Ranges.{Stores, SoManyHeads}
 use Rattle.octets.specs.Limits.{linesMost, informationalMost}
 use Rattle.output.specs.Splice.{splice}
 use Rattle.messages.specs.Message.{InformationalRead, Section, Message}
@@ -14,6 +14,7 @@ use Rattle.messages.specs.Answers.{fieldsNumbers, informationalNumbers, informa
 use Rattle.messages.specs.declared.Notes.{Notes}
 use Rattle.messages.specs.declared.Told.{Told}
 use Rattle.messages.proofs.Noting.{kept-few}
+use Rattle.ranges.proofs.Storing.{altered-none, stores-none}
 use Rattle.ranges.proofs.HeadsStored.{lines-snoc, fields-more, numbers-more}
 use Rattle.binary.specs.declared.Cursor.{Cursor}
 use Rattle.binary.specs.Reader.{Got, cursor}
@@ -33,7 +34,7 @@ pub record HeadsTo (x : Told → Got Message) (form : Form) (s hs₀ hs ns₀ ns
   pub most : count ≤ informationalMost
   pub fields : length (informationalLines read) ≡ base
   pub few : base ≤ count * linesMost
-  pub stored : hs ≡ splice hs₀ 0 (fieldsNumbers (informationalLines read))
+  pub stored : Stores hs₀ 0 (fieldsNumbers (informationalLines read)) hs
   pub numbers : ns ≡ splice ns₀ 0 (informationalNumbers read)
   pub turn : (t : Told) → x t ≡ heads t form (suc (informationalMost - count)) read (cursor i longs) (drop i s)
   pub long : longs ≤ i
@@ -48,7 +49,7 @@ heads-start form s hs ns from few =
       most = omega arith;
       fields = refl;
       few = omega arith;
-      stored = refl;
+      stored = stores-none (altered-none 0 hs) (omega arith);
       numbers = refl;
       turn = λ t. refl;
       long = few;
@@ -68,8 +69,8 @@ module _ {x : Told → Got Message} {form : Form} {s hs₀ hs hs′ ns₀ ns : L
   heads-refused ns′ e = record { says = says e }
 
   -- the fields of one head more
-  stored-more : {e : Cursor} {k : ℕ} {h : Section} → HeadStored s base hs hs′ e k h → hs′ ≡ splice hs₀ 0 (fieldsNumbers (informationalLines (to .read) ++ kept true (h .lines)))
-  stored-more {h = h} q = fields-more hs₀ (informationalLines (to .read)) (kept true (h .lines)) (to .fields) (to .stored) (q .stored)
+  stored-more : {e : Cursor} {k : ℕ} {h : Section} → HeadStored s base hs hs′ e k h → Stores hs₀ 0 (fieldsNumbers (informationalLines (to .read) ++ kept true (h .lines))) hs′
+  stored-more {h = h} q = fields-more (informationalLines (to .read)) (kept true (h .lines)) (to .fields) (to .stored) (q .stored)
 
   module _ {n : ℕ} {e : Cursor} {k : ℕ} where
     module _ {notes : Notes} (q : r ≡ head.Final n e k notes) where
@@ -110,7 +111,7 @@ module _ {x : Told → Got Message} {form : Form} {s hs₀ hs hs′ ns₀ ns : L
             most = omega (arith, few);
             fields = rw (lines-snoc (to .read) y) (length-append (informationalLines (to .read)) (kept true (h .lines)) ∙ omega (arith, to .fields, d .1 .count));
             few = omega (arith, few, to .few);
-            stored = stored-more (d .1) ∙ rw (lines-snoc (to .read) y) refl;
+            stored = rw (lines-snoc (to .read) y) (stored-more (d .1));
             numbers = numbers-more ns₀ (to .read) y (to .counted) (to .numbers) f stores;
             turn = λ t. d .3 t ∙ ap (λ (m : ℕ). heads t form m (to .read ++ y ∷ []) e (drop (e .at) s)) g;
             long = d .1 .counted;

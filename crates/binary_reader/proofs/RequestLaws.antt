@@ -7,7 +7,7 @@ use native.Mathlib.Omega.{arith}
 use lib.ListN.{length, drop}
 use Rattle.script.specs.Do.{Piece, piece, Judged, good, wrong}
 use Rattle.messages.specs.Message.{FieldRead, Section, requestStart, isResponse, Message, wholePath}
-use Rattle.messages.specs.Names.{kept}
+use Rattle.messages.specs.Names.{kept, closes}
 use Rattle.messages.specs.Notes.{AllLie}
 use Rattle.messages.specs.Rules.{authorityIn, binaryFramingOf, mayState}
 use Rattle.messages.specs.Answers.{informationalNumbers, informationalLines, informationalIn, partAt, partOf, recordOf}
@@ -31,6 +31,7 @@ use Rattle.binary_reader.specs.declared.HeadAnswer.{HeadAnswer}
 use Rattle.binary_reader.specs.declared.HeadAnswer.the-variants as head
 use Rattle.binary_reader.specs.declared.RestRead.{RestRead}
 use Rattle.binary_reader.specs.Whole.{MessageSays}
+use Rattle.binary_reader.proofs.HeadLaws.{closing-noted}
 use Rattle.binary_reader.proofs.Answered.{message-as, message-no, answered-no, with-headers}
 use Rattle.binary_reader.proofs.SectionOutcomes.{SectionDone, behind-no, behind-got}
 
@@ -59,14 +60,14 @@ part-back : (s : List ℕ) (a : Span) → a .start + a .len ≤ length s → par
 part-back s a h = ap (partAt (a .start)) (part-length s (a .start) (a .len) h)
 
 -- where the rest was read
-rest-says : (s : List ℕ) (m p : Span) (v : ℕ) (w : List ℕ) (a n k : ℕ) (lines : List FieldRead) (x : Got Message) (cs cs′ ts ts′ : List ℕ) (c : RestRead) (r : Outcome)
-    → m .start + m .len ≤ length s → p .start + p .len ≤ length s → length w ≡ n → length (kept false lines) ≡ k
-    → r ≡ requestOutcome (length s) v m (record { start = a; len = n }) p k c
+rest-says : (s : List ℕ) (m p : Span) (v : ℕ) (w : List ℕ) (a n k : ℕ) (closing : Bool) (lines : List FieldRead) (x : Got Message) (cs cs′ ts ts′ : List ℕ) (c : RestRead) (r : Outcome)
+    → m .start + m .len ≤ length s → p .start + p .len ≤ length s → length w ≡ n → length (kept false lines) ≡ k → closing ≡ closes lines
+    → r ≡ requestOutcome (length s) v m (record { start = a; len = n }) p k closing c
     → RestSays s Missing (requestStart (pieceOf s m) v (piece a w) (wholePath (pieceOf s p))) lines x cs cs′ ts ts′ c → MessageSays false [] lines x cs cs′ ts ts′ r
 unfolding recordOf
-rest-says s m p v w a n k lines (got x e l) cs cs′ ts ts′ c r f g h i o u =
-    (o ∙ rw (u .0, u .3, u .4, u .5, u .6, i, part-back s m f, part-back s p g, h) refl, u .1, u .2, u .4, ap isResponse (u .3), ap informationalIn (u .3))
-rest-says s m p v w a n k lines (no i j) cs cs′ ts ts′ c r f g h z o u = o ∙ rw u refl
+rest-says s m p v w a n k closing lines (got x e l) cs cs′ ts ts′ c r f g h i y o u =
+    (o ∙ rw (u .0, u .3, u .4, u .5, u .6, i, y, part-back s m f, part-back s p g, h) refl, u .1, u .2, u .4, ap isResponse (u .3), ap informationalIn (u .3))
+rest-says s m p v w a n k closing lines (no i j) cs cs′ ts ts′ c r f g h z y o u = o ∙ rw u refl
 
 module _ (s : List ℕ) (form : Form) (m a p : Span) (v : ℕ) (end : Cursor) (fields : ℕ) (notes : Notes) {r : HeadAnswer} (j : HeadJudged s a (end .at) notes r) where
   said : {o : HeadAnswer} → r ≡ o → (h : Section) → HeadFacts s h (end .at) fields notes
@@ -84,7 +85,7 @@ module _ (s : List ℕ) (form : Form) (m a p : Span) (v : ℕ) (end : Cursor) (f
   head-lies e = subst (λ (x : HeadAnswer). HeadLies s x) e (j .lies)
 
   pub rest-good : {i n : ℕ} {cs cs′ ts ts′ : List ℕ} {c : RestRead} {o : Outcome} → r ≡ head.Good i n → m .start + m .len ≤ length s
-      → p .start + p .len ≤ length s → Rested s end form true (notes .framing) cs cs′ ts ts′ c → o ≡ requestOutcome (length s) v m (record { start = i; len = n }) p fields c
+      → p .start + p .len ≤ length s → Rested s end form true (notes .framing) cs cs′ ts ts′ c → o ≡ requestOutcome (length s) v m (record { start = i; len = n }) p fields (notes .closes) c
       → RequestRest s form (controlOf s m v a p) end fields notes cs cs′ ts ts′ o
   rest-good {i} {n} {cs} {cs′} {ts} {ts′} {c} {o} e f g w q =
       record {
@@ -92,7 +93,7 @@ module _ (s : List ℕ) (form : Form) (m a p : Span) (v : ℕ) (end : Cursor) (f
             let u = said e h y in
             let z = requestStart (pieceOf s m) v (piece i (u .0)) (wholePath (pieceOf s p)) in
             message-as (head-passes form (controlOf s m v a p) h end (drop (end .at) s) (u .1) (u .3))
-            (record { says = rest-says s m p v (u .0) i n fields (h .lines) (afterHeaders form true Missing z h (notes .framing) end (drop (end .at) s)) cs cs′ ts ts′ c o f g (u .2) (y .fields) q (w .by Missing z h .says) });
+            (record { says = rest-says s m p v (u .0) i n fields (notes .closes) (h .lines) (afterHeaders form true Missing z h (notes .framing) end (drop (end .at) s)) cs cs′ ts ts′ c o f g (u .2) (y .fields) (closing-noted notes h (y .noted)) q (w .by Missing z h .says) });
       }
 
 -- ---- behind control data
@@ -115,7 +116,7 @@ module _ (s : List ℕ) (form : Form) (q : RequestControl) (from : Cursor) where
   unfolding afterControl
   head-no e = requested-no (behind-no (headerSection form) (afterHead form q) s from e)
 
-  pub head-done : {hs hs′ cs cs′ ts ts′ : List ℕ} {e : Cursor} {c : ℕ} {n : Notes} {r : Outcome} → SectionDone s (headerSection form from (drop (from .at) s)) false 0 hs hs′ e c n
+  pub head-done : {hs hs′ cs cs′ ts ts′ : List ℕ} {e : Cursor} {c : ℕ} {n : Notes} {r : Outcome} → SectionDone s (headerSection form from (drop (from .at) s)) true false 0 hs hs′ e c n
       → RequestRest s form q e c n cs cs′ ts ts′ r → Requested (afterControl form q from (drop (from .at) s)) hs hs′ cs cs′ ts ts′ r
   unfolding afterControl informationalLines informationalNumbers
   head-done {hs} {hs′} {cs} {cs′} {ts} {ts′} {e} {c} {n} {r} d w =

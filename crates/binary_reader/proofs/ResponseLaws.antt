@@ -8,7 +8,7 @@ use Rattle.octets.specs.Refusals.{badLength}
 use Rattle.script.specs.Do.{good, wrong}
 use Rattle.messages.specs.Message.{FieldRead, Section, InformationalRead, responseStart, isResponse, Message}
 use Rattle.messages.specs.Control.{endsAtHead}
-use Rattle.messages.specs.Names.{kept}
+use Rattle.messages.specs.Names.{kept, closes}
 use Rattle.messages.specs.Notes.{bodyAnswer, isClashing}
 use Rattle.messages.specs.Rules.{binaryFramingOf, bodylessRule, mayState, statedIn}
 use Rattle.messages.specs.Answers.{informationalIn, recordOf}
@@ -37,7 +37,7 @@ use Rattle.binary_reader.specs.declared.FinalAnswer.the-variants as fina
 use Rattle.binary_reader.specs.declared.HeadsRead.{HeadsRead}
 use Rattle.binary_reader.specs.declared.HeadsRead.the-variants as heads-read
 use Rattle.binary_reader.specs.declared.RestRead.{RestRead}
-use Rattle.binary_reader.proofs.HeadLaws.{framing-noted}
+use Rattle.binary_reader.proofs.HeadLaws.{framing-noted, closing-noted}
 use Rattle.binary_reader.proofs.Answered.{message-as, message-no, answered-as, answered-no, with-headers}
 
 -- ---- what a final head states
@@ -86,13 +86,13 @@ module _ (t : Told) (n : ℕ) (f : Framing) (end : ℕ) where
 
 -- ---- behind the final head
 
-rest-says : (s : List ℕ) (stated : StatedLength) (is : List InformationalRead) (status c k : ℕ) (lines : List FieldRead) (x : Got Message) (cs cs′ ts ts′ : List ℕ) (d : RestRead) (r : Outcome)
-    → length is ≡ c → length (kept true lines) ≡ k → r ≡ responseOutcome stated (length s) status c k d
+rest-says : (s : List ℕ) (stated : StatedLength) (is : List InformationalRead) (status c k : ℕ) (closing : Bool) (lines : List FieldRead) (x : Got Message) (cs cs′ ts ts′ : List ℕ) (d : RestRead) (r : Outcome)
+    → length is ≡ c → length (kept true lines) ≡ k → closing ≡ closes lines → r ≡ responseOutcome stated (length s) status c k closing d
     → RestSays s stated (responseStart is status) lines x cs cs′ ts ts′ d → MessageSays true is lines x cs cs′ ts ts′ r
 unfolding recordOf
-rest-says s stated is status c k lines (got x e l) cs cs′ ts ts′ d r f g o u =
-    (o ∙ rw (u .0, u .3, u .4, u .5, u .6, f, g) refl, u .1, u .2, u .4, ap isResponse (u .3), ap informationalIn (u .3))
-rest-says s stated is status c k lines (no i j) cs cs′ ts ts′ d r f g o u = o ∙ rw u refl
+rest-says s stated is status c k closing lines (got x e l) cs cs′ ts ts′ d r f g y o u =
+    (o ∙ rw (u .0, u .3, u .4, u .5, u .6, f, g, y) refl, u .1, u .2, u .4, ap isResponse (u .3), ap informationalIn (u .3))
+rest-says s stated is status c k closing lines (no i j) cs cs′ ts ts′ d r f g y o u = o ∙ rw u refl
 
 module _ (t : Told) (s : List ℕ) (form : Form) (status : ℕ) (e : Cursor) (c k : ℕ) (notes : Notes) {r : FinalAnswer} (j : FinalJudged t status (notes .framing) (e .at) r) where
   said : {o : FinalAnswer} → r ≡ o → (is : List InformationalRead) (h : Section) → HeadsFacts s is h status e c k notes
@@ -105,14 +105,14 @@ module _ (t : Told) (s : List ℕ) (form : Form) (status : ℕ) (e : Cursor) (c 
   final-refused q = record { by = λ is h f. message-no (said q is h f) }
 
   pub final-read : {body : Bool} {f : Framing} {stated : StatedLength} {cs cs′ ts ts′ : List ℕ} {d : RestRead} {o : Outcome} → r ≡ final.Good body f stated
-      → Rested s e form body f cs cs′ ts ts′ d → o ≡ responseOutcome stated (length s) status c k d → FinalRead t s form status e c k notes cs cs′ ts ts′ o
+      → Rested s e form body f cs cs′ ts ts′ d → o ≡ responseOutcome stated (length s) status c k (notes .closes) d → FinalRead t s form status e c k notes cs cs′ ts ts′ o
   final-read {body} {f} {stated} {cs} {cs′} {ts} {ts′} {d} {o} q w g =
       record {
         by = λ is h y.
             message-as (said q is h y)
             (record {
-              says = rest-says s stated is status c k (h .lines) (afterHeaders form body stated (responseStart is status) h f e (drop (e .at) s)) cs cs′ ts ts′ d o (y .heads)
-                  (y .fields) g (w .by stated (responseStart is status) h .says);
+              says = rest-says s stated is status c k (notes .closes) (h .lines) (afterHeaders form body stated (responseStart is status) h f e (drop (e .at) s)) cs cs′ ts ts′ d o (y .heads)
+                  (y .fields) (closing-noted notes h (y .noted)) g (w .by stated (responseStart is status) h .says);
             });
       }
 

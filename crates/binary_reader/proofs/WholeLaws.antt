@@ -23,8 +23,8 @@ use Rattle.binary.specs.Reader.{no, cursor, _>>=_}
 use Rattle.binary.specs.declared.Form.{Form}
 use Rattle.binary.specs.Read.{formOf, requestMessage, responseMessage, afterIndicator, message, messageAnswer, readSized, readBinary}
 use Rattle.binary_sound.proofs.Sound.{binary-sound}
-use Rattle.ranges.specs.Ranges.{Responded, readingFrom}
-use Rattle.ranges.proofs.ByValue.{by-value}
+use Rattle.ranges.specs.Ranges.{Responded, CountsWithin, readingFrom}
+use Rattle.ranges.proofs.ByValue.{counts-within, by-value}
 use Rattle.messages.specs.Room.{sectionRoom, headsRoom, informationalRoom, chunksRoom}
 use Rattle.binary_parts.proofs.Places.{integer-cut, integer-got}
 use Rattle.binary_reader.specs.Requests.{Requested}
@@ -108,7 +108,10 @@ module _ (t : Told) (s : List ℕ) {hs hs′ ns ns′ cs cs′ ts ts′ : List �
   unfolding readBinary
   edition-other e = rw e (record { says = refl; informational = tt })
 
-pub binary-by-value : (t : Told) (s : List ℕ) {hs′ ns′ cs′ ts′ : List ℕ} {o : Outcome}
-    → Responded (readBinary t s) (replicate headsRoom 0) hs′ (replicate informationalRoom 0) ns′ (replicate chunksRoom 0) cs′ (replicate sectionRoom 0) ts′ o
-    → readingFrom o ns′ hs′ ts′ cs′ ≡ readingOf (readBinary t s)
-binary-by-value t s h = by-value s h (λ n m e. binary-sound t s n m e .sound)
+module _ (t : Told) (s : List ℕ) {hs′ ns′ cs′ ts′ : List ℕ} {o : Outcome}
+    (h : Responded (readBinary t s) (replicate headsRoom 0) hs′ (replicate informationalRoom 0) ns′ (replicate chunksRoom 0) cs′ (replicate sectionRoom 0) ts′ o) where
+  pub binary-counts : CountsWithin o ns′
+  binary-counts = counts-within s h (λ n m e. binary-sound t s n m e .sound)
+
+  pub binary-by-value : readingFrom o ns′ hs′ ts′ cs′ ≡ readingOf (readBinary t s)
+  binary-by-value = by-value s h (λ n m e. binary-sound t s n m e .sound)

@@ -4,7 +4,7 @@ use mathlib.Core.Path.{_≡_}
 use mathlib.Core.Bool.{true, false}
 use mathlib.Core.List.{List, [], _∷_, _++_}
 use lib.ListN.{length, drop}
-use Rattle.ranges.specs.Ranges.{FewHeads}
+use Rattle.ranges.specs.Ranges.{Stores, FewHeads}
 use Rattle.octets.specs.Limits.{linesMost}
 use Rattle.output.specs.Splice.{splice}
 use Rattle.messages.specs.Message.{InformationalRead, Section, Message}
@@ -36,7 +36,7 @@ pub record HeadStored (s : List ℕ) (base : ℕ) (hs hs′ : List ℕ) (e : Cur
   pub within : e .at ≤ length s
   pub few : length (h .lines) ≤ linesMost
   pub count : base + length (kept true (h .lines)) ≡ k
-  pub stored : hs′ ≡ splice hs (base * 4) (fieldsNumbers (kept true (h .lines)))
+  pub stored : Stores hs (base * 4) (fieldsNumbers (kept true (h .lines))) hs′
   pub counted : e .long ≤ e .at
 
 -- a head that was read behind the informational heads `is`, where the reader answers x, whatever is told
@@ -71,7 +71,7 @@ abbrev pub HeadsSays : (Told → Got Message) → Form → List ℕ → List ℕ
 HeadsSays x form s hs hs′ ns ns′ (heads-read.Done n e c k notes) =
     (is : List InformationalRead) × (h : Section) × HeadsFacts s is h n e c k notes
     × ((t : Told) → x t ≡ afterFinal t form is n h e (drop (e .at) s))
-    × (hs′ ≡ splice hs 0 (fieldsNumbers (informationalLines is ++ kept true (h .lines)))) × (ns′ ≡ splice ns 0 (informationalNumbers is))
+    × Stores hs 0 (fieldsNumbers (informationalLines is ++ kept true (h .lines))) hs′ × (ns′ ≡ splice ns 0 (informationalNumbers is))
 HeadsSays x form s hs hs′ ns ns′ (heads-read.Refused i p) = (t : Told) → x t ≡ no i p
 
 -- the heads of a response that were read, as one fact

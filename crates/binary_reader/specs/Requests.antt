@@ -1,7 +1,7 @@
 -- What the code that reads requests promises, in terms of `requestMessage` (binary/specs/Read; 01, "Binary HTTP as we take it").
 use Prim.Native.Nat.{ℕ, _+_, _≤_}
 use mathlib.Core.Path.{_≡_}
-use mathlib.Core.Bool.{false}
+use mathlib.Core.Bool.{Bool, false}
 use mathlib.Core.List.{List, []}
 use lib.ListN.{length, drop}
 use Rattle.script.specs.Do.{Piece, piece, Judged, good, wrong}
@@ -61,10 +61,10 @@ abbrev pub partIs : Span → Part
 partIs a = partAt (a .start) (a .len)
 
 -- the outcome of a request of n octets, by its numbers
-abbrev pub requestOutcome : ℕ → ℕ → Span → Span → Span → ℕ → RestRead → Outcome
-requestOutcome n scheme method authority path fields (rest-is.Done chunks total trailers long) =
-    outcome.Message (requestRecord scheme (partIs method) (partIs authority) prefix.Nothing (partIs path) (counted Missing fields chunks total trailers n long))
-requestOutcome n scheme method authority path fields (rest-is.Refused k p) = outcome.Refusal k p
+abbrev pub requestOutcome : ℕ → ℕ → Span → Span → Span → ℕ → Bool → RestRead → Outcome
+requestOutcome n scheme method authority path fields closes (rest-is.Done chunks total trailers long) =
+    outcome.Message (requestRecord scheme (partIs method) (partIs authority) prefix.Nothing (partIs path) (counted Missing closes fields chunks total trailers n long))
+requestOutcome n scheme method authority path fields closes (rest-is.Refused k p) = outcome.Refusal k p
 
 -- ---- behind the head
 

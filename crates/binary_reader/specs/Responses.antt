@@ -2,7 +2,7 @@
 -- states, and what stands behind it.
 use Prim.Native.Nat.{ℕ}
 use mathlib.Core.Path.{_≡_}
-use mathlib.Core.Bool.{true}
+use mathlib.Core.Bool.{Bool, true}
 use mathlib.Core.List.{List}
 use lib.ListN.{drop}
 use Rattle.messages.specs.Message.{Section, InformationalRead, responseStart}
@@ -41,10 +41,10 @@ pub record FinalJudged (t : Told) (n : ℕ) (f : Framing) (end : ℕ) (r : Final
 -- ---- whole responses
 
 -- the outcome of a response of n octets, by its numbers
-abbrev pub responseOutcome : StatedLength → ℕ → ℕ → ℕ → ℕ → RestRead → Outcome
-responseOutcome stated n status heads fields (rest-is.Done chunks total trailers long) =
-    outcome.Message (responseRecord heads status (counted stated fields chunks total trailers n long))
-responseOutcome stated n status heads fields (rest-is.Refused k p) = outcome.Refusal k p
+abbrev pub responseOutcome : StatedLength → ℕ → ℕ → ℕ → ℕ → Bool → RestRead → Outcome
+responseOutcome stated n status heads fields closes (rest-is.Done chunks total trailers long) =
+    outcome.Message (responseRecord heads status (counted stated closes fields chunks total trailers n long))
+responseOutcome stated n status heads fields closes (rest-is.Refused k p) = outcome.Refusal k p
 
 -- what stands behind any heads that were read up to a place
 pub record FinalRead (t : Told) (s : List ℕ) (form : Form) (status : ℕ) (end : Cursor) (heads fields : ℕ) (notes : Notes) (cs cs′ ts ts′ : List ℕ) (r : Outcome)

@@ -7,6 +7,7 @@ use mathlib.Core.List.{List}
 use lib.ListN.{length, drop}
 use Rattle.script.specs.Do.{Piece}
 use Rattle.output.specs.Splice.{splice}
+use Rattle.ranges.specs.Ranges.{Stores}
 use Rattle.messages.specs.Message.{FieldRead, Section, Start, Message}
 use Rattle.messages.specs.Names.{keptTrailers}
 use Rattle.messages.specs.Meaning.{contentOf}
@@ -29,7 +30,7 @@ use Rattle.binary_reader.specs.declared.RestRead.the-variants as rest-is
 -- trailers that were read from s into the lent ranges o: the number of kept lines, behind which the reading goes on
 abbrev pub TrailersSays : List ℕ → Got (List FieldRead) → List ℕ → List ℕ → TrailersRead → Type 0
 TrailersSays s (got fs e l) o o′ r =
-    (r ≡ trailers-are.Done e (length (keptTrailers fs))) × (o′ ≡ splice o 0 (fieldsNumbers (keptTrailers fs))) × GoesOn s e l
+    (r ≡ trailers-are.Done e (length (keptTrailers fs))) × Stores o 0 (fieldsNumbers (keptTrailers fs)) o′ × GoesOn s e l
 TrailersSays s (no n p) o o′ r = r ≡ trailers-are.Refused n p
 
 -- the promise of trailers that are read
@@ -44,7 +45,7 @@ abbrev pub RestSays : List ℕ → StatedLength → Start → List FieldRead →
 RestSays s stated start lines (got m e l) cs cs′ ts ts′ r =
     (r ≡ rest-is.Done (length (m .chunks)) (length (contentOf (m .chunks))) (length (keptTrailers (m .trailers))) (m .long))
     × (cs′ ≡ splice cs 0 (chunksNumbers (m .chunks)))
-    × (ts′ ≡ splice ts 0 (fieldsNumbers (keptTrailers (m .trailers))))
+    × Stores ts 0 (fieldsNumbers (keptTrailers (m .trailers))) ts′
     × (m .start ≡ start)
     × (m .lines ≡ lines)
     × (e .at ≡ length s)
@@ -66,7 +67,7 @@ pub record Rested (s : List ℕ) (from : Cursor) (form : Form) (body : Bool) (f 
   pub by : (stated : StatedLength) (start : Start) (h : Section)
       → RestIs s stated start (h .lines) (afterHeaders form body stated start h f from (drop (from .at) s)) cs cs′ ts ts′ r
 
--- how much of a message of n octets was read, and the length that it states; how many of its integers are long
-abbrev pub counted : StatedLength → ℕ → ℕ → ℕ → ℕ → ℕ → ℕ → Counts
-counted stated fields chunks total trailers n long =
-    record { headers = fields; chunks = chunks; content = total; trailers = trailers; length = n; stated = stated; long = long }
+-- how much of a message of n octets was read, the length that it states, and whether its sender means to close; how many of its integers are long
+abbrev pub counted : StatedLength → Bool → ℕ → ℕ → ℕ → ℕ → ℕ → ℕ → Counts
+counted stated closes fields chunks total trailers n long =
+    record { headers = fields; chunks = chunks; content = total; trailers = trailers; length = n; stated = stated; long = long; closes = closes }

@@ -4,6 +4,7 @@ use mathlib.Core.Path.{_≡_}
 use mathlib.Core.Bool.{Bool}
 use mathlib.Core.List.{List}
 use Rattle.output.specs.Splice.{splice}
+use Rattle.ranges.specs.Ranges.{Stores}
 use Rattle.messages.specs.Message.{FieldRead, InformationalRead, isResponse, Message}
 use Rattle.messages.specs.Names.{keptTrailers}
 use Rattle.messages.specs.Answers.{fieldsNumbers, chunksNumbers, informationalIn, recordOf}
@@ -16,7 +17,7 @@ abbrev pub MessageSays : Bool → List InformationalRead → List FieldRead → 
 MessageSays response is lines (got m e l) cs cs′ ts ts′ r =
     (r ≡ outcome.Message (recordOf (e .at) m))
     × (cs′ ≡ splice cs 0 (chunksNumbers (m .chunks)))
-    × (ts′ ≡ splice ts 0 (fieldsNumbers (keptTrailers (m .trailers))))
+    × Stores ts 0 (fieldsNumbers (keptTrailers (m .trailers))) ts′
     × (m .lines ≡ lines)
     × (isResponse (m .start) ≡ response)
     × (informationalIn (m .start) ≡ is)

@@ -41,7 +41,7 @@ fn after_informational_status(
     ensures { λ r. ⌜ Headed FewHeads (λ f is told. afterInformationalStatus form (heads told form f) is status next (drop (next .at) (now (s .entry))))
         form (now (s .entry)) base (now (headers .entry)) (now (headers .exit)) r ⌝ }
 {
-    let h = read_section(t, s, next, form, true, base, headers);
+    let h = read_section(t, s, next, form, true, true, base, headers);
     match h {
         Section::Refused { number, place } => return HeadRead::Refused { number, place },
         Section::Done { end, kept, notes } => {

@@ -75,9 +75,10 @@ fn request_outcome(
     authority: Span,
     path: Span,
     fields: usize,
+    closes: bool,
 ) -> Outcome
     requires { ⌜ (method .start + method .len < placesEnd) × (authority .start + authority .len < placesEnd) × (path .start + path .len < placesEnd) ⌝ }
-    ensures { λ r. ⌜ r ≡ requestOutcome n scheme method authority path fields read ⌝ }
+    ensures { λ r. ⌜ r ≡ requestOutcome n scheme method authority path fields closes read ⌝ }
 {
     match read {
         RestRead::Refused { number, place } => return Outcome::Refusal { number, place },
@@ -95,6 +96,7 @@ fn request_outcome(
                 length: n,
                 stated: StatedLength::Missing,
                 long,
+                closes,
             };
             return Outcome::Message(request_record(
                 scheme,
@@ -136,7 +138,16 @@ fn after_head(
         HeadAnswer::Good { start, len } => {
             let c = after_headers(t, s, end, form, true, f, chunks, trailers);
             let found = Span { start, len };
-            return request_outcome(c, s.len(), scheme, method, found, path, fields);
+            return request_outcome(
+                c,
+                s.len(),
+                scheme,
+                method,
+                found,
+                path,
+                fields,
+                notes.closes,
+            );
         }
     }
 }

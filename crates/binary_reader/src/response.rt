@@ -66,8 +66,9 @@ fn response_outcome(
     status: u32,
     heads: usize,
     fields: usize,
+    closes: bool,
 ) -> Outcome
-    ensures { λ r. ⌜ r ≡ responseOutcome stated n status heads fields read ⌝ }
+    ensures { λ r. ⌜ r ≡ responseOutcome stated n status heads fields closes read ⌝ }
 {
     match read {
         RestRead::Refused { number, place } => return Outcome::Refusal { number, place },
@@ -85,6 +86,7 @@ fn response_outcome(
                 length: n,
                 stated,
                 long,
+                closes,
             };
             return Outcome::Message(response_record(heads, status, counts));
         }
@@ -120,7 +122,7 @@ fn after_final(
             stated,
         } => {
             let c = after_headers(t, s, end, form, body, framing, chunks, trailers);
-            return response_outcome(c, stated, s.len(), status, heads, fields);
+            return response_outcome(c, stated, s.len(), status, heads, fields, notes.closes);
         }
     }
 }

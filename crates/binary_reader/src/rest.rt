@@ -52,7 +52,7 @@ fn read_trailers(
     if s.len() <= from.at {
         return TrailersRead::Done { end: from, kept: 0 };
     }
-    let h = read_section(t, s, from, form, false, 0, out);
+    let h = read_section(t, s, from, form, false, false, 0, out);
     match h {
         Section::Refused { number, place } => return TrailersRead::Refused { number, place },
         Section::Done { end, kept, notes } => {

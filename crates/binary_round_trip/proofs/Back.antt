@@ -164,7 +164,7 @@ meaning-back m v =
       c .1,
       header-back (ofResponse (m .control)) (m .headers) (section-fields _ (m .headers) (o .headers)) (m .stated) _,
       content-back _ (m .content),
-      fields-back false (m .trailers) _ (section-fields false (m .trailers) (o .trailers)),
+      fields-back false (m .trailers) _ (section-fields false (m .trailers) (o .trailers)) false,
     )
 
 -- ---- the claims

@@ -8,7 +8,7 @@ use native.Mathlib.Omega.{arith}
 use borrow.Author.Tests.{ne-eqb}
 use lib.Dec.{eqb}
 use lib.ListN.{length}
-use Rattle.messages.specs.Names.{linesOf, kept, areTrailers}
+use Rattle.messages.specs.Names.{linesOf, kept, keptOf, areTrailers}
 use Rattle.messages.specs.declared.Kind.the-variants as kind
 use Rattle.messages.specs.declared.Framing.the-variants.{Unstated}
 use Rattle.messages.specs.Rules.{binaryFramingOf}
@@ -35,20 +35,20 @@ module _ (host : Bool) (fs : List Field) (at : ℕ) (v : validFields host fs ≡
   pub unstated : binaryFramingOf (linesAt at fs) ≡ Unstated
   unstated = laws.unstated-binary host (linesAt at fs) lines-valid
 
-  pub kept-all : kept host (linesAt at fs) ≡ linesAt at fs
-  kept-all = laws.kept-all host (linesAt at fs) lines-valid
+  pub kept-all : (headers : Bool) → keptOf headers host (linesAt at fs) ≡ linesAt at fs
+  kept-all headers = laws.kept-all host headers (linesAt at fs) lines-valid
 
-  pub fields-back : map fieldMeans (kept host (linesAt at fs)) ≡ fs
-  fields-back = laws.fields-back host (linesAt at fs) lines-valid ∙ lines-say fs at
+  pub fields-back : (headers : Bool) → map fieldMeans (keptOf headers host (linesAt at fs)) ≡ fs
+  fields-back headers = laws.fields-back host headers (linesAt at fs) lines-valid ∙ lines-say fs at
 
 -- a header that a stated length begins
 module _ (host : Bool) (fs : List Field) (v : validFields host fs ≡ true) where
   pub header-back : (x : StatedLength) (at : ℕ) → map fieldMeans (kept host (linesAt at (statedFields x ++ fs))) ≡ fs
   unfolding linesAt
-  header-back Missing at = fields-back host fs at v
+  header-back Missing at = fields-back host fs at v true
   header-back (Of n) at =
       let q : ℕ = at + length (fieldBytes (lengthField n)) in
-      rw (length-kept (lineAt at (lengthField n)) n refl host (linesAt q fs) (lines-valid host fs q v)) (fields-back host fs q v)
+      rw (length-kept (lineAt at (lengthField n)) n refl host (linesAt q fs) (lines-valid host fs q v)) (fields-back host fs q v true)
 
   pub header-framing : (x : StatedLength) (m : Meaning) → validStated x m ≡ true → (at : ℕ)
       → binaryFramingOf (linesAt at (statedFields x ++ fs)) ≡ framingFor x at
@@ -74,4 +74,4 @@ unfolding headsAt informationalMeans
 heads-back [] at v = refl
 heads-back (h ∷ hs) at v =
     let o = head-ok h hs v in
-    rw (fields-back true (h .fields) _ (section-fields true (h .fields) (o .0 .fields)), heads-back hs (at + length (intBytes (h .status) ++ sectionBytes (h .fields))) (o .1))
+    rw (fields-back true (h .fields) _ (section-fields true (h .fields) (o .0 .fields)) true, heads-back hs (at + length (intBytes (h .status) ++ sectionBytes (h .fields))) (o .1))

@@ -90,7 +90,7 @@ content-good body end p c h = rw (content-back p c, agreed body (eqb (length c) 
 trailers-good : (body : Bool) (end at : ℕ) (ts : List Field) → validFields false ts ≡ true → (body || noFields ts) ≡ true
     → trailerRule body (record { lines = sectionAt at ts; end = end }) ≡ good (sectionAt at ts)
 unfolding trailerRule trailersAgree keptTrailers
-trailers-good body end at ts v h = rw (are-trailers ts _ v, kept-all false ts _ v, as-many ts _, agreed body (noFields ts) h)
+trailers-good body end at ts v h = rw (are-trailers ts _ v, kept-all false ts _ v false, as-many ts _, agreed body (noFields ts) h)
 
 reads-trailers : (body : Bool) (ts : List Field) (at : ℕ) (rest : List ℕ) → validSection false ts ≡ true → length (sectionBytes ts) ≤ binaryMost
     → (body || noFields ts) ≡ true → Reads (trailers (rfc9292 true) body) at (sectionBytes ts) rest (sectionAt at ts)

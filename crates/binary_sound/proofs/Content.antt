@@ -13,7 +13,7 @@ use Rattle.octets.specs.Text.{isEmpty}
 use Rattle.octets.proofs.Kit.{into}
 use Rattle.script.specs.Do.{Piece, piece, good}
 use Rattle.messages.specs.Message.{FieldRead, Section, Start, Message, countedMessage}
-use Rattle.messages.specs.Names.{areTrailers, kept, keptTrailers}
+use Rattle.messages.specs.Names.{areTrailers, endToEnd, keptTrailers}
 use Rattle.messages.specs.Rules.{agrees}
 use Rattle.messages.specs.Meaning.{fieldMeans, contentOf}
 use Rattle.messages.specs.Valid.{noFields, validBody}
@@ -65,7 +65,7 @@ or-true true = refl
 or-true false = refl
 
 named-none : (body : Bool) → GoodTrailers body []
-unfolding areTrailers keptTrailers kept
+unfolding areTrailers keptTrailers endToEnd
 named-none body = record { names = refl; none = or-true body }
 
 -- what the rules say is what a valid meaning has

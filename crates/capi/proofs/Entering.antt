@@ -11,6 +11,7 @@ use Rattle.messages.specs.Names.{kept, keptTrailers}
 use Rattle.messages.specs.Answers.{fieldsNumbers, chunksNumbers, informationalNumbers, informationalLines, informationalIn, padded, recordOf}
 use Rattle.messages.specs.declared.Record.{Record}
 use Rattle.ranges.proofs.Stored.{numbers-length}
+use Rattle.ranges.proofs.Entries.{stores-part}
 use Rattle.ranges.proofs.Outcomes.{Given, front-part, record-chunks, record-trailers}
 use Rattle.ranges.proofs.Stored.{chunks-length}
 use Rattle.capi.specs.Entries.{recordNumbers, entryNumbers, Entered, Numbered}
@@ -27,13 +28,13 @@ module _ {x : Answer Message} {hs hs′ cs cs′ ts ts′ : List ℕ} {r : Recor
       → Entered x input o o′ place number
   unfolding entryNumbers all-fields
   entered heads o o′ f input place number ef hf hc ht eh w =
-      let a : part hs′ 0 (f * 4) ≡ fieldsNumbers all-fields = rw (g .fields) (front-part hs (fieldsNumbers all-fields) (f * 4) (numbers-length all-fields ∙ ap (λ (k : ℕ). k * 4) (sym ef)) hf) in
+      let a : part hs′ 0 (f * 4) ≡ fieldsNumbers all-fields = stores-part (g .fields) (numbers-length all-fields ∙ ap (λ (k : ℕ). k * 4) (sym ef)) in
       let kc : r .chunks ≡ length (g .message .chunks) = ap (λ (q : Record). q .chunks) (g .numbers) ∙ record-chunks (g .long) (g .message) in
       let kt : r .trailers ≡ length (keptTrailers (g .message .trailers)) = ap (λ (q : Record). q .trailers) (g .numbers) ∙ record-trailers (g .long) (g .message) in
       let b : part cs′ 0 (r .chunks * 2) ≡ chunksNumbers (g .message .chunks) =
       rw (g .pieces) (front-part cs (chunksNumbers (g .message .chunks)) (r .chunks * 2) (chunks-length (g .message .chunks) ∙ ap (λ (k : ℕ). k * 2) (sym kc)) hc) in
       let c : part ts′ 0 (r .trailers * 4) ≡ fieldsNumbers (keptTrailers (g .message .trailers)) =
-      rw (g .trailers) (front-part ts (fieldsNumbers (keptTrailers (g .message .trailers))) (r .trailers * 4) (numbers-length (keptTrailers (g .message .trailers)) ∙ ap (λ (k : ℕ). k * 4) (sym kt)) ht) in
+      stores-part (g .trailers) (numbers-length (keptTrailers (g .message .trailers)) ∙ ap (λ (k : ℕ). k * 4) (sym kt)) in
       let l : r .length ≡ recordOf (g .long) (g .message) .length = ap (λ (q : Record). q .length) (g .numbers) in
       let n : recordNumbers r ≡ recordNumbers (recordOf (g .long) (g .message)) = ap recordNumbers (g .numbers) in
       let e : (recordNumbers r ++ part heads 0 8) ++ (part hs′ 0 (f * 4) ++ part cs′ 0 (r .chunks * 2) ++ part ts′ 0 (r .trailers * 4)) ≡ entryNumbers (g .long) (g .message) =

@@ -1,6 +1,7 @@
 -- The numbers of a message, given or not.
 use Prim.Native.Nat.{ℕ, _+_, _*_, _<_, _≤_}
 use mathlib.Core.Path.{_≡_, refl, sym, ap, _∙_}
+use mathlib.Core.Bool.{cond}
 use mathlib.Core.List.{List, [], _∷_, _++_}
 use native.Mathlib.Omega.{arith}
 use borrow.Author.Tests.{le-leb, lt-leb}
@@ -17,7 +18,7 @@ pub record-size : (r : Record) → length (recordNumbers r) ≡ 20
 unfolding recordNumbers
 record-size r = go (r .stated)
   where
-    go : (t : StatedLength) → length (controlNumbers r ++ countNumbers r ++ statedNumbers (prefixNumber (r .prefix)) t (r .long)) ≡ 20
+    go : (t : StatedLength) → length (controlNumbers r ++ countNumbers r ++ statedNumbers (prefixNumber (r .prefix)) t (r .long) (cond (r .closes) 1 0)) ≡ 20
     go Missing = refl
     go (Of n) = refl
 

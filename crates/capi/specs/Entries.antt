@@ -48,15 +48,15 @@ prefixNumber prefix.Nothing = 0
 prefixNumber prefix.Slash = 1
 prefixNumber prefix.Asterisk = 2
 
--- what is put before the path; a stated length: whether there is one, then its low and its high 32 bits; then how many integers are long. The number behind these
--- is 0: it is kept for an item of document 02 that has not landed
-abbrev pub statedNumbers : ℕ → StatedLength → ℕ → List ℕ
-statedNumbers before Missing long = (before ∷ 0 ∷ []) ++ (0 ∷ 0 ∷ []) ++ (long ∷ 0 ∷ [])
-statedNumbers before (Of n) long = (before ∷ 1 ∷ []) ++ (n % wordEnd ∷ n / wordEnd ∷ []) ++ (long ∷ 0 ∷ [])
+-- what is put before the path; a stated length: whether there is one, then its low and its high 32 bits; then how many integers are long, and whether the sender
+-- means to close
+abbrev pub statedNumbers : ℕ → StatedLength → ℕ → ℕ → List ℕ
+statedNumbers before Missing long closes = (before ∷ 0 ∷ []) ++ (0 ∷ 0 ∷ []) ++ (long ∷ closes ∷ [])
+statedNumbers before (Of n) long closes = (before ∷ 1 ∷ []) ++ (n % wordEnd ∷ n / wordEnd ∷ []) ++ (long ∷ closes ∷ [])
 
 -- the numbers of a record, but for the message's length
 unfoldable pub recordNumbers : Record → List ℕ
-recordNumbers r = controlNumbers r ++ countNumbers r ++ statedNumbers (prefixNumber (r .prefix)) (r .stated) (r .long)
+recordNumbers r = controlNumbers r ++ countNumbers r ++ statedNumbers (prefixNumber (r .prefix)) (r .stated) (r .long) (cond (r .closes) 1 0)
 
 -- how many numbers control data have, the status and the counts, a stated length with what is kept beside it, and a record
 abbrev pub controlCount : ℕ

@@ -50,7 +50,7 @@ fn put_control(out: &mut [u32], r: Record) -> usize
     requires { ⌜ controlCount ≤ length (now out) ⌝ }
     ensures { λ z. ⌜ Put (now (out .entry)) 0 (controlNumbers r) controlCount (now (out .exit)) z ⌝ }
 {
-    let kind = kind_number(r.response);
+    let kind = bit(r.response);
     let a = put_two(out, 0, kind, r.scheme);
     let method = r.method;
     let b = put_part_numbers(out, a, method);
@@ -60,10 +60,11 @@ fn put_control(out: &mut [u32], r: Record) -> usize
     put_part_numbers(out, c, path)
 }
 
-fn kind_number(response: bool) -> u32
-    ensures { λ r. ⌜ r ≡ cond response 1 0 ⌝ }
+// 1 for yes, 0 for no.
+fn bit(b: bool) -> u32
+    ensures { λ r. ⌜ r ≡ cond b 1 0 ⌝ }
 {
-    if response {
+    if b {
         return 1;
     }
     0
@@ -88,24 +89,25 @@ fn prefix_number(prefix: PathPrefix) -> u32
     }
 }
 
-// What is put before the path, a stated length, the count of long integers, and the zero behind them.
+// What is put before the path, a stated length, the count of long integers, and whether the sender means to close.
 fn put_stated(
     out: &mut [u32],
     at: usize,
     prefix: PathPrefix,
     stated: StatedLength,
     long: u32,
+    closes: u32,
 ) -> usize
     requires { ⌜ at + statedCount ≤ length (now out) ⌝ }
-    ensures { λ z. ⌜ Put (now (out .entry)) at (statedNumbers (prefixNumber prefix) stated long) statedCount (now (out .exit)) z ⌝ }
+    ensures { λ z. ⌜ Put (now (out .entry)) at (statedNumbers (prefixNumber prefix) stated long closes) statedCount (now (out .exit)) z ⌝ }
 {
     let before = prefix_number(prefix);
     match stated {
-        StatedLength::Missing => return put_six(out, at, before, 0, 0, 0, long, 0),
+        StatedLength::Missing => return put_six(out, at, before, 0, 0, 0, long, closes),
         StatedLength::Of(n) => {
             let low = (n % 4294967296) as u32;
             let high = (n / 4294967296) as u32;
-            return put_six(out, at, before, 1, low, high, long, 0);
+            return put_six(out, at, before, 1, low, high, long, closes);
         }
     }
 }
@@ -128,7 +130,8 @@ fn put_record(out: &mut [u32], r: Record) -> usize
     );
     let prefix = r.prefix;
     let stated = r.stated;
-    put_stated(out, b, prefix, stated, r.long as u32)
+    let closes = bit(r.closes);
+    put_stated(out, b, prefix, stated, r.long as u32, closes)
 }
 
 // The numbers of a record, and of its informational heads.

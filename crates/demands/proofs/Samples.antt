@@ -13,7 +13,8 @@ use Rattle.numbers.specs.Digits.{charOf, moreOf, countOf, digits}
 use Rattle.messages.specs.declared.Told.{Told}
 use Rattle.messages.specs.Told.{plain, isEdition}
 use Rattle.messages.specs.Control.{isUnsupported, methodVerdict, isOptions, asteriskVerdict, pathVerdict, authorityVerdict, isHost, isLowerName, isTrimmedValue}
-use Rattle.messages.specs.Names.{isHopByHop, kindOf, lineKind, sameKind, linesOf, kept, areTrailers, keptTrailers}
+use Rattle.messages.specs.Connection.{isNamed}
+use Rattle.messages.specs.Names.{isHopByHop, kindOf, lineKind, sameKind, linesOf, endToEnd, connectionValues, unnamed, kept, areTrailers, keptTrailers}
 use Rattle.messages.specs.Rules.{authorityFrom, authorityIn, framingFrom, binaryFramingOf, mayState}
 use Rattle.messages.specs.Meaning.{request, Meaning, fieldMeans, contentOf, meaning, lengthField}
 use Rattle.messages.specs.declared.StatedLength.the-variants.{Missing}
@@ -27,7 +28,7 @@ use Rattle.turn.specs.Turn.{binaryToHttp1}
 use Rattle.demands.specs.Demand3.{Call, Space, answerIn, call, entryIn, calls, entriesIn, entriesOf, NoResponse}
 
 unfoldable computing : Unit {0}
-unfolding isToken isValue isPath isAuthority classOf hasClass isBlank spanLen all lowerOf isLower sameText isEmpty push extraOf intLen longOf readMore readInt charOf moreOf countOf digits isUnsupported methodVerdict isOptions asteriskVerdict pathVerdict authorityVerdict isHost isLowerName isTrimmedValue isHopByHop kindOf lineKind sameKind linesOf kept areTrailers keptTrailers authorityFrom authorityIn framingFrom binaryFramingOf mayState fieldMeans contentOf meaning isScheme isEdition _>>=_ integer string part partWithin ruledPart schemeOf schemePart afterScheme requestControl knownLine knownLines bodyLines knownSection section headerSection knownContent content contentAgrees contentRule trailersAgree trailerRule trailers padding afterContent afterHeaders afterHead afterControl requestMessage afterIndicator message formOf isLineValue readSized readBinary fieldText sectionText requestLine hostField lengthField lengthLine headLines headText bodyText http1Of http1Fits toHttp1 writtenOf lentAfter binaryToHttp1 answerIn call entryIn calls entriesIn
+unfolding isToken isValue isPath isAuthority classOf hasClass isBlank spanLen all lowerOf isLower sameText isEmpty push extraOf intLen longOf readMore readInt charOf moreOf countOf digits isUnsupported methodVerdict isOptions asteriskVerdict pathVerdict authorityVerdict isHost isLowerName isTrimmedValue isHopByHop kindOf lineKind sameKind linesOf isNamed endToEnd connectionValues unnamed kept areTrailers keptTrailers authorityFrom authorityIn framingFrom binaryFramingOf mayState fieldMeans contentOf meaning isScheme isEdition _>>=_ integer string part partWithin ruledPart schemeOf schemePart afterScheme requestControl knownLine knownLines bodyLines knownSection section headerSection knownContent content contentAgrees contentRule trailersAgree trailerRule trailers padding afterContent afterHeaders afterHead afterControl requestMessage afterIndicator message formOf isLineValue readSized readBinary fieldText sectionText requestLine hostField lengthField lengthLine headLines headText bodyText http1Of http1Fits toHttp1 writtenOf lentAfter binaryToHttp1 answerIn call entryIn calls entriesIn
 computing = tt
 
 abbrev http : Told

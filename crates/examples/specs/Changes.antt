@@ -1,6 +1,7 @@
 -- The table of examples for 02: rows for each item that has landed, in the items' order, one statement. What a row says is in `Examples`.
 use Prim.Native.Nat.{ℕ}
 use Prim.Native.String.{String}
+use mathlib.Core.Bool.{true, false}
 use mathlib.Core.List.{List, [], _∷_, _++_}
 use lib.ListN.{take, replicate}
 use Rattle.octets.specs.Ascii.{ascii}
@@ -9,7 +10,7 @@ use Rattle.messages.specs.Answers.{partAt}
 use Rattle.messages.specs.declared.PathPrefix.the-variants as prefix
 use Rattle.messages.specs.declared.StatedLength.the-variants.{Missing, Of}
 use Rattle.messages.specs.declared.Told.{Told}
-use Rattle.examples.specs.Examples.{http, Example, integer, http1, http1Reply, binaryReply, states, replyBecomes, goesAs, binary, becomes, anewAs, turnedAway, counted, longs, http1As, aims, figure13, hex, AllHold}
+use Rattle.examples.specs.Examples.{http, Example, integer, http1, http1Reply, binaryReply, states, replyBecomes, goesAs, binary, becomes, anewAs, turnedAway, counted, longs, http1As, aims, closesAfter, binaryCloses, figure13, hex, AllHold}
 
 -- item 4: the sample integers of RFC 9000, appendix A.1, one of each width, the last in a form that is not the shortest
 unfoldable pub widths : List Example
@@ -310,9 +311,61 @@ targets =
     ∷ binary (binaryGet ++ hex "0161 08" ++ ascii "http://a") 4 12
     ∷ []
 
+-- a GET with these header lines behind its host
+abbrev pub getWith : String → List ℕ
+getWith lines = ascii "GET / HTTP/1.1\r\nHost:a\r\n" ++ ascii lines ++ ascii "\r\n"
+
+-- the same as Binary, up to its header section
+unfoldable pub getBinary : List ℕ
+getBinary = binaryGet ++ hex "0161 012f"
+
+-- what it becomes where no field is kept, and where "x: y" is
+unfoldable pub noneKept : List ℕ
+noneKept = getBinary ++ hex "00 00 00"
+
+unfoldable pub oneKept : List ℕ
+oneKept = getBinary ++ hex "04 01780179 00 00"
+
+-- item 3
+unfoldable pub named : List Example
+named =
+    -- a field is dropped that a Connection line names, before it or behind it; another is kept
+    becomes (getWith "Connection:x\r\nx:y\r\n") noneKept
+    ∷ becomes (getWith "x:y\r\nConnection:x\r\n") noneKept
+    ∷ becomes (getWith "Connection:xx\r\nx:y\r\n") oneKept
+    -- by any of several lines, and by any member: letters in any case on both sides, spaces and tabs at the ends, empty members beside it
+    ∷ becomes (getWith "Connection:close\r\nX:y\r\nConnection:x\r\n") noneKept
+    ∷ becomes (getWith "x:y\r\ncOnnection:,\t, X \t,\r\n") noneKept
+    -- every comma splits, within quotes too; a member that is no token names nothing
+    ∷ becomes (getWith "x:y\r\nConnection:\"a,x,b\"\r\n") noneKept
+    ∷ becomes (getWith "x:y\r\nConnection:\"x\", x y\r\n") oneKept
+    -- Proxy-Connection names nothing, and Connection may name itself
+    ∷ becomes (getWith "x:y\r\nProxy-Connection:x\r\n") oneKept
+    ∷ becomes (getWith "x:y\r\nConnection:connection\r\n") oneKept
+    -- host and lengths are judged on the whole section first
+    ∷ becomes (getWith "Connection:host, content-length\r\nContent-Length:1\r\n" ++ ascii "b") (getBinary ++ hex "00 0162 00")
+    ∷ http1 (getWith "Connection:content-length\r\nContent-Length:1\r\nContent-Length:1\r\n") 7 89
+    -- each informational head by its own lines; host of a response is dropped where it is named
+    ∷ replyBecomes
+    http
+    (ascii "HTTP/1.1 103 \r\nConnection:x\r\nx:y\r\n\r\nHTTP/1.1 204 \r\nx:y\r\nhost:b\r\nConnection:host\r\n\r\n")
+    (hex "01 4067 00 40cc 04 01780179 00 00")
+    -- trailers: a head's line names none of them, and one of theirs names nothing
+    ∷ becomes
+    (getWith "Connection:x\r\nTransfer-Encoding:chunked\r\n" ++ ascii "0\r\nx:y\r\nConnection:x\r\n\r\n")
+    (getBinary ++ hex "00 00 04 01780179")
+    -- Binary alike
+    ∷ anewAs http (getBinary ++ hex "12 01780179 0a" ++ ascii "connection" ++ hex "0278 2c 00 00") noneKept
+    -- whether the sender means to close
+    ∷ closesAfter (getWith "Connection:x ,CLOSE\r\n") true
+    ∷ closesAfter (getWith "Connection:x, closed\r\nclose:x\r\n") false
+    ∷ binaryCloses (getBinary ++ hex "11 0a" ++ ascii "connection" ++ hex "05" ++ ascii "close" ++ hex "00 00") true
+    ∷ []
+
 -- the statement: every row holds
 pub record Statement : Type 0 where
   pub item2 : AllHold targets
+  pub item3 : AllHold named
   pub item4 : AllHold widths
   pub item5 : AllHold replies
   pub item7 : AllHold editions

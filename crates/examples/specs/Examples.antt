@@ -85,6 +85,9 @@ pub data Example : Type 0 where
   http1As : Told → List ℕ → ℕ → ℕ → Example
   -- an accepted HTTP/1.1 request under http has this authority and this path, and what is put before it
   aims : List ℕ → Part → PathPrefix → Part → Example
+  -- an accepted HTTP/1.1 request under http says whether its sender means to close; so does a Binary message
+  closesAfter : List ℕ → Bool → Example
+  binaryCloses : List ℕ → Bool → Example
 
 -- a call told http, that its message answers no HEAD, and that the connection is open
 abbrev pub http : Told
@@ -123,6 +126,12 @@ Aims (outcome.Message r) a x p = (r .authority ≡ a) × (r .prefix ≡ x) × (r
 Aims (outcome.Refusal k q) a x p = ⊥
 Aims outcome.More a x p = ⊥
 
+-- whether the sender of an accepted message means to close
+abbrev pub Closes : Outcome → Bool → Type 0
+Closes (outcome.Message r) b = r .closes ≡ b
+Closes (outcome.Refusal k p) b = ⊥
+Closes outcome.More b = ⊥
+
 -- what a row says of the definitions
 abbrev pub Holds : Example → Type 0
 Holds (integer s v) = uncounted (readInt 0 s) ≡ Value v (length s) 0
@@ -143,6 +152,8 @@ Holds (counted s v l) = readInt 0 s ≡ Value v (length s) l
 Holds (longs s n) = LongIn (readingOf (readBinary http s) .outcome) n
 Holds (http1As t s k p) = Answers s (readRequest t s) k p
 Holds (aims s a x p) = Aims (readingOf (readRequest http s) .outcome) a x p
+Holds (closesAfter s b) = Closes (readingOf (readRequest http s) .outcome) b
+Holds (binaryCloses s b) = Closes (readingOf (readBinary http s) .outcome) b
 
 -- each row of a list holds
 abbrev pub AllHold : List Example → Type 0

@@ -15,9 +15,11 @@ use Rattle.script.specs.Do.{_>>=_, andThen, Piece, piece}
 use Rattle.script.proofs.Laws.{run-done, run-stop}
 use Rattle.script.proofs.Places.{run-bind, octets-more, octets-in}
 use Rattle.output.specs.Splice.{splice}
+use Rattle.ranges.specs.Ranges.{Stores}
 use Rattle.ranges.proofs.Stored.{chunk-next}
+use Rattle.ranges.proofs.Storing.{altered-none, stores-none}
 use Rattle.output.proofs.Laws.{splice-append, splice-length}
-use Rattle.messages.specs.Names.{areTrailers, kept, keptTrailers}
+use Rattle.messages.specs.Names.{areTrailers, endToEnd, keptTrailers}
 use Rattle.messages.specs.Meaning.{contentOf}
 use Rattle.messages.specs.Answers.{fieldsNumbers, chunksNumbers}
 use Rattle.messages.specs.declared.Notes.{Notes}
@@ -55,7 +57,7 @@ same-done e f g h = rw (e, f, g, h)
 abbrev behind : List ℕ → List Piece → ℕ → Lines → Answer Content
 behind s cs n l = run (cond (areTrailers (l .lines)) (done (record { chunks = cs; trailers = l .lines })) (stop badLength (l .end))) n (drop n s)
 
-module _ (s : List ℕ) (at count total : ℕ) {ts ts′ : List ℕ} {r : Section} (h : Sectioned (run (section trailerMost) at (drop at s)) false 0 ts ts′ r) where
+module _ (s : List ℕ) (at count total : ℕ) {ts ts′ : List ℕ} {r : Section} (h : Sectioned (run (section trailerMost) at (drop at s)) false false 0 ts ts′ r) where
   goes : (cs : List Piece) {y : Answer Lines} → run (section trailerMost) at (drop at s) ≡ y
       → run (trailerSection cs) at (drop at s) ≡ andThen y (behind s cs)
   unfolding trailerSection
@@ -75,7 +77,7 @@ module _ (s : List ℕ) (at count total : ℕ) {ts ts′ : List ℕ} {r : Sectio
     unfolding keptTrailers
     trailers-good g = let d = section-done h e in
         let z : end ≡ d .place = section-end trailerMost at (drop at s) (d .taken) .end in
-        let n : k ≡ length (kept false (d .lines)) = omega (arith, d .counted) in
+        let n : k ≡ length (endToEnd false (d .lines)) = omega (arith, d .counted) in
         record {
           says = λ cs o o′ a b c.
               contented-as {y = accepted (d .place) (record { chunks = cs; trailers = d .lines })} (goes cs (d .taken) ∙ rw (judged g, run-done)) (record { says = (same-done z (sym a) (sym b) n, c, d .stored) });
@@ -151,19 +153,22 @@ module _ (s : List ℕ) (at n : ℕ) (within : at ≤ length s) where
     size : length (take n (drop at s)) ≡ n
     size = length-take-le n (drop at s) (omega (arith, length-drop at s))
 
+    no-trailers : (ts : List ℕ) → Stores ts 0 [] ts
+    no-trailers ts = stores-none (altered-none 0 ts) (omega arith)
+
     pub sized-none : {o : List ℕ} → n ≡ 0 → SizedRead s at n o o (Done (at + n) 0 0 0)
-    unfolding content _>>=_ isEmpty contentOf chunksNumbers keptTrailers kept fieldsNumbers
+    unfolding content _>>=_ isEmpty contentOf chunksNumbers keptTrailers endToEnd fieldsNumbers
     sized-none z =
         let a : run (content (Sized n)) at (drop at s) ≡ accepted (at + n) (record { chunks = []; trailers = [] }) =
         octets-in _ _ s at within h ∙ rw (size, eq-eqb n 0 z, run-done) in
-        record { says = λ ts. contented-as a (record { says = (refl, refl, refl) }) }
+        record { says = λ ts. contented-as a (record { says = (refl, refl, no-trailers ts) }) }
 
     pub sized-one : {o o′ : List ℕ} → (n ≡ 0 → ⊥) → o′ ≡ splice o 0 (at ∷ n ∷ []) → SizedRead s at n o o′ (Done (at + n) 1 n 0)
-    unfolding content _>>=_ isEmpty contentOf chunksNumbers keptTrailers kept fieldsNumbers
+    unfolding content _>>=_ isEmpty contentOf chunksNumbers keptTrailers endToEnd fieldsNumbers
     sized-one z e =
         let a : run (content (Sized n)) at (drop at s) ≡ accepted (at + n) (record { chunks = piece at (take n (drop at s)) ∷ []; trailers = [] }) =
         octets-in _ _ s at within h ∙ rw (size, ne-eqb n 0 z, run-done) in
-        record { says = λ ts. contented-as a (record { says = (rw (append-nil (take n (drop at s)), size), rw size e, refl) }) }
+        record { says = λ ts. contented-as a (record { says = (rw (append-nil (take n (drop at s)), size), rw size e, no-trailers ts) }) }
 
 -- ---- content up to an end that has not come
 
@@ -196,7 +201,7 @@ pub record ContentDone (x : Answer Content) (cs cs′ ts ts′ : List ℕ) (end 
   pub total : m ≡ length (contentOf (read .chunks))
   pub trailers : k ≡ length (keptTrailers (read .trailers))
   pub pieces : cs′ ≡ splice cs 0 (chunksNumbers (read .chunks))
-  pub fields : ts′ ≡ splice ts 0 (fieldsNumbers (keptTrailers (read .trailers)))
+  pub fields : Stores ts 0 (fieldsNumbers (keptTrailers (read .trailers))) ts′
 
 module _ {x : Answer Content} {cs cs′ ts ts′ : List ℕ} {r : ContentRead} (h : Contented x cs cs′ ts ts′ r) where
   pub content-more : r ≡ More → x ≡ more

@@ -9,16 +9,13 @@ use lib.Dec.{eqb}
 use lib.ListN.{length, take, drop, length-drop}
 use lib.Seq.{length-take-le}
 use Rattle.octets.specs.Text.{lowerOf, isEmpty}
-use Rattle.output.specs.Splice.{splice}
-use Rattle.output.proofs.Laws.{splice-length}
 use Rattle.script.specs.Script.{lineOf}
 use Rattle.script.specs.Do.{Piece, piece, Judged, good, wrong}
 use Rattle.script.specs.declared.Line.{Line}
 use Rattle.script.specs.declared.Line.the-variants.{Ends, Bad, Long, More}
 use Rattle.messages.specs.Message.{FieldRead}
-use Rattle.messages.specs.Names.{kindOf, lineKind, kept, isEndToEnd}
+use Rattle.messages.specs.Names.{kindOf, lineKind, isEndToEnd}
 use Rattle.messages.specs.Notes.{isNoted, noteOf, noteLine}
-use Rattle.messages.specs.Answers.{fieldsNumbers}
 use Rattle.messages.specs.declared.Notes.{Notes}
 use Rattle.messages.proofs.Noting.{noted-nothing}
 use Rattle.messages.specs.declared.Kind.{Kind}
@@ -31,33 +28,25 @@ use Rattle.http1.specs.declared.NextLine.{NextLine}
 use Rattle.http1.specs.declared.NextLine.the-variants as line
 use Rattle.http1.proofs.Views.{field-within}
 use Rattle.ranges.specs.Ranges.{StoredIf}
-use Rattle.http1_parts.specs.Section.{lineAt, lineRead, LineTaken}
-use Rattle.http1_parts.specs.declared.LineRead.{LineRead}
+use Rattle.http1_parts.specs.Section.{lineAt, LineTaken}
 use Rattle.http1_parts.proofs.Parts.{part-front, part-inner, part-long}
 
 -- ---- a line that is taken
 
 pub line-taken : (s : List ℕ) (i n v l : ℕ) (host : Bool) (k : ℕ) (o o′ : List ℕ) (kind : Kind) (t : Bool) (r : ℕ) → i + n ≤ length s → v + l ≤ length s
     → kind ≡ kindOf (map lowerOf (take (i + n - i) (drop i s))) → t ≡ isEndToEnd host kind → StoredIf t k (i ∷ n ∷ v ∷ l ∷ []) o o′ r
-    → LineTaken (lineAt s i n v l) host k o o′ (lineRead kind r)
-unfolding kept fieldsNumbers lineKind
+    → LineTaken (lineAt s i n v l) host k o o′ (record { kind = kind; kept = r })
+unfolding lineKind
 line-taken s i n v l host k o o′ kind t r a b ek et p =
     let z : i + n - i ≡ n = omega arith in
     let e : kind ≡ kindOf (map lowerOf (take n (drop i s))) = ek ∙ rw z refl in
-    pick t p (et ∙ ap (isEndToEnd host) e) e
+    record { kind = e; stored = rw (← e, ← et, name-long, value-long) p }
   where
     name-long : length (take n (drop i s)) ≡ n
     name-long = length-take-le n (drop i s) (omega (arith, length-drop i s))
 
     value-long : length (take l (drop v s)) ≡ l
     value-long = length-take-le l (drop v s) (omega (arith, length-drop v s))
-
-    pick : (x : Bool) → StoredIf x k (i ∷ n ∷ v ∷ l ∷ []) o o′ r → x ≡ isEndToEnd host (kindOf (map lowerOf (take n (drop i s))))
-        → kind ≡ kindOf (map lowerOf (take n (drop i s))) → LineTaken (lineAt s i n v l) host k o o′ (lineRead kind r)
-    pick true u q e = record { read = rw (← q, u .count, e); stored = rw (← q, name-long, value-long) (u .stored) }
-    pick false u q e =
-        let z : k + 0 ≡ k = omega arith in
-        record { read = rw (← q, u .count, e, z); stored = rw (← q) (u .stored) }
 
 module _ (s : List ℕ) (i n v l : ℕ) {k : Kind} (notes : Notes) (e : k ≡ lineKind (lineAt s i n v l)) where
   -- a line that was noted, and one of which nothing is noted
@@ -68,9 +57,6 @@ module _ (s : List ℕ) (i n v l : ℕ) {k : Kind} (notes : Notes) (e : k ≡ li
 
   pub note-passed : isNoted k ≡ false → notes ≡ noteLine true notes (lineAt s i n v l)
   note-passed q = sym (noted-nothing true notes k i v (take l (drop v s)) q) ∙ ap (λ (x : Kind). noteOf true notes x i v (take l (drop v s))) e
-
-pub taken-same : {f : FieldRead} {host : Bool} {k : ℕ} {o o′ : List ℕ} {r : LineRead} → LineTaken f host k o o′ r → length o′ ≡ length o
-taken-same {f} {host} {k} {o} h = ap length (h .stored) ∙ splice-length o (k * 4) (fieldsNumbers (kept host (f ∷ [])))
 
 -- ---- what the next line tells
 

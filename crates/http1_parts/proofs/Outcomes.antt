@@ -16,9 +16,8 @@ use Rattle.script.proofs.Places.{run-bind}
 use Rattle.script.specs.Do.{_>>=_, Piece, piece, word, tell, Judged, good}
 use Rattle.script.proofs.Do.{every-bind, every-tell}
 use Rattle.script.proofs.Sound.{sound, says}
-use Rattle.output.specs.Splice.{splice}
 use Rattle.messages.specs.Message.{FieldRead}
-use Rattle.messages.specs.Names.{kept}
+use Rattle.messages.specs.Names.{keptOf}
 use Rattle.messages.specs.Notes.{notesOf}
 use Rattle.messages.specs.Answers.{fieldsNumbers}
 use Rattle.messages.specs.declared.Notes.{Notes}
@@ -29,6 +28,7 @@ use Rattle.http1.specs.Read.{Lines, lineWithin, less, fieldLines, section}
 use Rattle.http1.proofs.Views.{field-within}
 use Rattle.sound.specs.Placed.{Each}
 use Rattle.sound.proofs.Each.{each-snoc, each-map}
+use Rattle.ranges.specs.Ranges.{AlteredFrom, Stores}
 use Rattle.http1_parts.specs.Section.{Before, SectionSays, Sectioned}
 use Rattle.http1_parts.specs.declared.Section.{Section}
 use Rattle.http1_parts.specs.declared.Section.the-variants.{Done, Refused, More}
@@ -99,44 +99,53 @@ section-end left at s {n} {h} e =
 abbrev pub linesWith : List FieldRead → ℕ → ℕ → Lines
 linesWith fs end left = record { lines = fs; end = end; left = left }
 
-pub record SectionDone (x : Answer Lines) (host : Bool) (base : ℕ) (o o′ : List ℕ) (end left count : ℕ) (notes : Notes) : Type 0 where
+pub record SectionDone (x : Answer Lines) (headers host : Bool) (base : ℕ) (o o′ : List ℕ) (end left count : ℕ) (notes : Notes) : Type 0 where
   pub place : ℕ
   pub lines : List FieldRead
   pub taken : x ≡ accepted place (linesWith lines end left)
-  pub counted : count ≡ base + length (kept host lines)
+  pub counted : count ≡ base + length (keptOf headers host lines)
   pub noted : notes ≡ notesOf true lines
-  pub stored : o′ ≡ splice o (base * 4) (fieldsNumbers (kept host lines))
+  pub stored : Stores o (base * 4) (fieldsNumbers (keptOf headers host lines)) o′
 
-module _ {x : Answer Lines} {host : Bool} {base : ℕ} {o o′ : List ℕ} {r : Section} (h : Sectioned x host base o o′ r) where
+module _ {x : Answer Lines} {headers host : Bool} {base : ℕ} {o o′ : List ℕ} {r : Section} (h : Sectioned x headers host base o o′ r) where
   pub section-more : r ≡ More → x ≡ more
   section-more e = go x (h .says)
     where
-      go : (y : Answer Lines) → SectionSays y host base o o′ r → y ≡ more
+      go : (y : Answer Lines) → SectionSays y headers host base o o′ r → y ≡ more
       go (accepted n l) q = let d = q .0 in cc
-      go (refused n p) q = cc
+      go (refused n p) q = let d = q .0 in cc
       go more q = refl
 
   pub section-refused : {n p : ℕ} → r ≡ Refused n p → x ≡ refused n p
   section-refused {n} {p} e = go x (h .says)
     where
-      go : (y : Answer Lines) → SectionSays y host base o o′ r → y ≡ refused n p
+      go : (y : Answer Lines) → SectionSays y headers host base o o′ r → y ≡ refused n p
       go (accepted m l) q = let d = q .0 in cc
-      go (refused m k) q = cc
-      go more q = cc
+      go (refused m k) q = let d = q .0 in cc
+      go more q = let d = q .0 in cc
 
-  pub section-done : {end left count : ℕ} {notes : Notes} → r ≡ Done end left count notes → SectionDone x host base o o′ end left count notes
+  pub section-done : {end left count : ℕ} {notes : Notes} → r ≡ Done end left count notes → SectionDone x headers host base o o′ end left count notes
   section-done {end} {left} {count} {notes} e = go x (h .says)
     where
-      go : (y : Answer Lines) → SectionSays y host base o o′ r → SectionDone y host base o o′ end left count notes
+      go : (y : Answer Lines) → SectionSays y headers host base o o′ r → SectionDone y headers host base o o′ end left count notes
       go (accepted m l) q =
           let d = q .0 in
           let a : l .end ≡ end = cc in
           let b : l .left ≡ left = cc in
-          let c : count ≡ base + length (kept host (l .lines)) = cc in
+          let c : count ≡ base + length (keptOf headers host (l .lines)) = cc in
           let n : notes ≡ notesOf true (l .lines) = cc in
           record { place = m; lines = l .lines; taken = rw (a, b); counted = c; noted = n; stored = q .1 }
-      go (refused m k) q = let z : _≡_ {A = ℕ} 0 1 = cc in absurd (omega arith)
-      go more q = let z : _≡_ {A = ℕ} 0 1 = cc in absurd (omega arith)
+      go (refused m k) q = let d = q .0 in let z : _≡_ {A = ℕ} 0 1 = cc in absurd (omega arith)
+      go more q = let d = q .0 in let z : _≡_ {A = ℕ} 0 1 = cc in absurd (omega arith)
+
+  -- whatever it says, nothing before it is altered
+  pub section-altered : AlteredFrom (base * 4) o o′
+  section-altered = go x (h .says)
+    where
+      go : (y : Answer Lines) → SectionSays y headers host base o o′ r → AlteredFrom (base * 4) o o′
+      go (accepted n l) q = q .1 .altered
+      go (refused n p) q = q .1
+      go more q = q .1
 
 -- ---- a section, and what goes on behind it
 

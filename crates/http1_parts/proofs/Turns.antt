@@ -24,8 +24,10 @@ use Rattle.http1_parts.proofs.Line.{EmptyLine, FieldAt, NoFieldAt, fiel
 use Rattle.http1_parts.specs.declared.Section.{Section}
 
 -- an answer that equals another promises the same
-pub sectioned-as : {x y : Answer Lines} {host : Bool} {k : ℕ} {o o′ : List ℕ} {r : Section} → x ≡ y → SectionSays y host k o o′ r → Sectioned x host k o o′ r
-sectioned-as {host = host} {k = k} {o = o} {o′ = o′} {r = r} e h = record { says = subst (λ (z : Answer Lines). SectionSays z host k o o′ r) (sym e) h }
+pub sectioned-as : {x y : Answer Lines} {headers host : Bool} {k : ℕ} {o o′ : List ℕ} {r : Section} → x ≡ y → SectionSays y headers host k o o′ r
+    → Sectioned x headers host k o o′ r
+sectioned-as {headers = headers} {host = host} {k = k} {o = o} {o′ = o′} {r = r} e h =
+    record { says = subst (λ (z : Answer Lines). SectionSays z headers host k o o′ r) (sym e) h }
 
 module _ (s : List ℕ) (i left f : ℕ) (fs : List FieldRead) where
   pub turn-more : lineOf (drop i s) left i 0 ≡ More → run (fieldLines (suc f) left fs) i (drop i s) ≡ more

@@ -12,6 +12,7 @@ use Rattle.messages.specs.Answers.{fieldsNumbers, chunksNumbers}
 use Rattle.messages.specs.declared.Body.{Body}
 use Rattle.messages.specs.declared.Body.the-variants.{Sized, InChunks, UntilClosed}
 use Rattle.http1.specs.Read.{Content}
+use Rattle.ranges.specs.Ranges.{Stores}
 use Rattle.http1_parts.specs.declared.ContentRead.{ContentRead}
 use Rattle.http1_parts.specs.declared.ContentRead.the-variants.{Done, Refused, More}
 
@@ -25,7 +26,7 @@ SizedWithin UntilClosed = Unit {0}
 abbrev pub ContentSays : Answer Content → List ℕ → List ℕ → List ℕ → List ℕ → ContentRead → Type 0
 ContentSays (accepted n c) cs cs′ ts ts′ r =
     (r ≡ Done n (length (c .chunks)) (length (contentOf (c .chunks))) (length (keptTrailers (c .trailers)))) × (cs′ ≡ splice cs 0 (chunksNumbers (c .chunks)))
-    × (ts′ ≡ splice ts 0 (fieldsNumbers (keptTrailers (c .trailers))))
+    × Stores ts 0 (fieldsNumbers (keptTrailers (c .trailers))) ts′
 ContentSays (refused x p) cs cs′ ts ts′ r = r ≡ Refused x p
 ContentSays more cs cs′ ts ts′ r = r ≡ More
 

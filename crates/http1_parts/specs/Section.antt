@@ -9,14 +9,13 @@ use Rattle.octets.specs.Limits.{linesMost}
 use Rattle.octets.specs.Refusals.{badSyntax, tooLarge}
 use Rattle.script.specs.Script.{Answer, accepted, refused, more}
 use Rattle.script.specs.Do.{piece}
-use Rattle.output.specs.Splice.{splice}
 use Rattle.messages.specs.Message.{FieldRead}
 use Rattle.messages.specs.Room.{sectionRoom}
-use Rattle.messages.specs.Names.{lineKind, kept}
+use Rattle.messages.specs.Names.{lineKind, isEndToEnd, keptOf}
 use Rattle.messages.specs.Notes.{notesOf}
-use Rattle.messages.specs.Answers.{fieldsNumbers}
-use Rattle.messages.specs.declared.Kind.{Kind}
+use Rattle.messages.specs.Answers.{fieldNumbers, fieldsNumbers}
 use Rattle.http1.specs.Read.{Lines}
+use Rattle.ranges.specs.Ranges.{StoredIf, AlteredFrom, Stores}
 use Rattle.http1_parts.specs.declared.LineRead.{LineRead}
 use Rattle.http1_parts.specs.declared.Section.{Section}
 use Rattle.http1_parts.specs.declared.Section.the-variants.{Done, Refused, More}
@@ -45,22 +44,19 @@ lineAt s i n v l = record { name = piece i (take n (drop i s)); value = piece v 
 abbrev pub Before : ℕ → FieldRead → Type 0
 Before n f = f .value .place + length (f .value .text) ≤ n
 
--- what the code keeps of a line: its kind, and how many fields are kept with it
-abbrev pub lineRead : Kind → ℕ → LineRead
-lineRead k n = record { kind = k; kept = n }
-
--- a line that was taken: where it is kept it is stored behind the k entries of o
+-- a line that was taken: where it is end-to-end it is stored behind the k entries of o
 pub record LineTaken (f : FieldRead) (host : Bool) (k : ℕ) (o o′ : List ℕ) (r : LineRead) : Type 0 where
-  pub read : r ≡ lineRead (lineKind f) (k + length (kept host (f ∷ [])))
-  pub stored : o′ ≡ splice o (k * 4) (fieldsNumbers (kept host (f ∷ [])))
+  pub kind : r .kind ≡ lineKind f
+  pub stored : StoredIf (isEndToEnd host (lineKind f)) k (fieldNumbers f) o o′ (r .kept)
 
--- a section that was read behind the k entries of o
-abbrev pub SectionSays : Answer Lines → Bool → ℕ → List ℕ → List ℕ → Section → Type 0
-SectionSays (accepted n h) host k o o′ r =
-    (r ≡ Done (h .end) (h .left) (k + length (kept host (h .lines))) (notesOf true (h .lines))) × (o′ ≡ splice o (k * 4) (fieldsNumbers (kept host (h .lines))))
-SectionSays (refused x p) host k o o′ r = r ≡ Refused x p
-SectionSays more host k o o′ r = r ≡ More
+-- a section, of headers or not, that was read behind the k entries of o
+abbrev pub SectionSays : Answer Lines → Bool → Bool → ℕ → List ℕ → List ℕ → Section → Type 0
+SectionSays (accepted n h) headers host k o o′ r =
+    (r ≡ Done (h .end) (h .left) (k + length (keptOf headers host (h .lines))) (notesOf true (h .lines)))
+    × Stores o (k * 4) (fieldsNumbers (keptOf headers host (h .lines))) o′
+SectionSays (refused x p) headers host k o o′ r = (r ≡ Refused x p) × AlteredFrom (k * 4) o o′
+SectionSays more headers host k o o′ r = (r ≡ More) × AlteredFrom (k * 4) o o′
 
 -- the promise of a section that is read
-pub record Sectioned (x : Answer Lines) (host : Bool) (k : ℕ) (o o′ : List ℕ) (r : Section) : Type 0 where
-  pub says : SectionSays x host k o o′ r
+pub record Sectioned (x : Answer Lines) (headers host : Bool) (k : ℕ) (o o′ : List ℕ) (r : Section) : Type 0 where
+  pub says : SectionSays x headers host k o o′ r

@@ -12,6 +12,8 @@ use messages::sections::note;
 use octets::Limits;
 use octets::Refusals;
 use ranges::keep;
+use ranges::named::drop_named;
+use ranges::store_connection;
 ghost use mathlib.Core.Path.{_≡_};
 ghost use Prim.Native.Nat.{_+_, _-_, _*_, _≤_, _<_};
 ghost use lib.ListN.{length, drop};
@@ -21,7 +23,7 @@ ghost use Rattle.http1.specs.Read.{section};
 ghost use Rattle.ranges.specs.Ranges.{placesEnd};
 ghost use Rattle.http1_parts.specs.Section.{FieldRoom, SectionRoom, noField, lineAt, LineTaken, Sectioned};
 
-// The field line whose name has `name` octets from i on and whose value has `len` octets from `value` on: stored where it is kept.
+// The field line whose name has `name` octets from i on and whose value has `len` octets from `value` on: stored where it is end-to-end.
 fn take_line(
     s: &[u8],
     i: usize,
@@ -51,18 +53,19 @@ fn take_line(
 }
 
 // The field lines from `from` on, up to the empty line: at most 64 of them and at most `allowance` octets. Kept fields are stored behind the `base`
-// fields that stand in `out`.
+// fields that stand in `out`; `headers` says whether it is a header section, of which the fields that its Connection lines name are not kept.
 pub fn read_section(
     t: &[u8; 256],
     s: &[u8],
     from: usize,
     allowance: usize,
+    headers: bool,
     host: bool,
     base: usize,
     out: &mut [u32],
 ) -> Section
     requires { ⌜ (now t ≡ classes) × (from ≤ length (now s)) × (from + allowance < placesEnd) × SectionRoom base (now out) ⌝ }
-    ensures { λ r. ⌜ Sectioned (run (section allowance) from (drop from (now (s .entry)))) host base (now (out .entry)) (now (out .exit)) r ⌝ }
+    ensures { λ r. ⌜ Sectioned (run (section allowance) from (drop from (now (s .entry)))) headers host base (now (out .entry)) (now (out .exit)) r ⌝ }
 {
     let mut i = from;
     let mut left = allowance;
@@ -81,12 +84,15 @@ pub fn read_section(
                 number: Refusals::TOO_LARGE,
                 place: i,
             },
-            NextLine::Empty { next } => return Section::Done {
-                end: next,
-                left: left - 2,
-                kept: count,
-                notes,
-            },
+            NextLine::Empty { next } => {
+                let kept = drop_named(s, out, headers, base, count, notes.connections);
+                return Section::Done {
+                    end: next,
+                    left: left - 2,
+                    kept,
+                    notes,
+                };
+            }
             NextLine::NoField => return Section::Refused {
                 number: no_field(lines),
                 place: i,
@@ -111,6 +117,7 @@ pub fn read_section(
                 left = left - (next - i);
                 if is_noted(kind) {
                     let w = v + len;
+                    store_connection(out, base, notes.connections, kind, v as u32, len as u32);
                     notes = note(notes, kind, i, v, &s[v..w], true);
                 }
                 i = next;

@@ -1,12 +1,16 @@
 -- What holds of a section that was read at a place of an input.
 use Prim.Native.Nat.{ℕ, _+_, _≤_}
-use mathlib.Core.Path.{_≡_}
+use mathlib.Core.Path.{_≡_, ap, _∙_}
+use mathlib.Core.Bool.{true}
 use mathlib.Core.List.{List, [], _∷_}
 use lib.ListN.{length, drop}
 use Rattle.octets.specs.Limits.{linesMost}
 use Rattle.script.specs.Script.{accepted, run}
 use Rattle.messages.specs.Message.{FieldRead}
-use Rattle.messages.specs.Notes.{AllLie}
+use Rattle.messages.specs.Names.{closes}
+use Rattle.messages.specs.Notes.{notesOf, AllLie}
+use Rattle.messages.specs.declared.Notes.{Notes}
+use Rattle.messages.proofs.Noting.{notes-closes}
 use Rattle.messages.specs.declared.Body.{Body}
 use Rattle.messages.specs.declared.Body.the-variants.{Sized, InChunks, UntilClosed}
 use Rattle.http1.specs.Read.{Lines, section}
@@ -40,6 +44,10 @@ section-facts s from left n h g e =
       few = b .read .lines .few;
       lie = all-lie s (h .lines) (b .read .lines .lines);
     }
+
+-- whether the sender means to close, by notes
+pub closes-noted : (n : Notes) (h : Lines) → n ≡ notesOf true (h .lines) → n .closes ≡ closes (h .lines)
+closes-noted n h e = ap (λ (n : Notes). n .closes) e ∙ notes-closes true (h .lines)
 
 -- a body that is within its size
 pub fits-within : (b : Body) → Fits b → SizedWithin b

@@ -11,7 +11,6 @@ use Rattle.script.specs.Script.{Answer, accepted, refused, more, Says, run, Eve
 use Rattle.script.specs.Do.{_>>=_, Piece, piece, tell}
 use Rattle.script.proofs.Sound.{says, sound, every-any}
 use Rattle.script.proofs.Do.{every-bind, every-tell, every-then}
-use Rattle.output.specs.Splice.{splice}
 use Rattle.messages.specs.Message.{FieldRead, InformationalRead, isResponse, Message}
 use Rattle.messages.specs.Names.{kept, keptTrailers}
 use Rattle.messages.specs.Answers.{fieldsNumbers, chunksNumbers, informationalLines, informationalIn, partAt, partOf, recordOf}
@@ -24,7 +23,7 @@ use Rattle.messages.specs.declared.Outcome.the-variants as outcome
 use Rattle.http1.specs.Lines.{RequestRead}
 use Rattle.http1.specs.Read.{Lines, section, content, afterHead, readRequest}
 use Rattle.sound.specs.Placed.{Each}
-use Rattle.ranges.specs.Ranges.{OutcomeSays, Outcomed}
+use Rattle.ranges.specs.Ranges.{Stores, OutcomeSays, Outcomed}
 use Rattle.http1_parts.proofs.Outcomes.{linesWith, SectionDone, behind-done}
 use Rattle.http1_parts.specs.Section.{Before}
 use Rattle.http1_reader.specs.Readers.{requestIs, HeadFacts, RestSays, RestRead}
@@ -64,10 +63,10 @@ rest-of s t q h e g =
     only more u = tt
 
 -- with the header ranges that stand already
-with-headers : (h : Lines) (x : Answer Message) (hs hs′ cs cs′ ts ts′ : List ℕ) (r : Outcome) → hs′ ≡ splice hs 0 (fieldsNumbers (kept false (h .lines)))
+with-headers : (h : Lines) (x : Answer Message) (hs hs′ cs cs′ ts ts′ : List ℕ) (r : Outcome) → Stores hs 0 (fieldsNumbers (kept false (h .lines))) hs′
     → Says (λ n m. OfRequest h m) x → RestSays x cs cs′ ts ts′ r → OutcomeSays x hs hs′ cs cs′ ts ts′ r
 unfolding informationalLines
-with-headers h (accepted n m) hs hs′ cs cs′ ts ts′ r e u w = (w .0, e ∙ rw (u .alone, u .request, u .lines) refl, w .1, w .2)
+with-headers h (accepted n m) hs hs′ cs cs′ ts ts′ r e u w = (w .0, rw (u .alone, u .request, u .lines) e, w .1, w .2)
 with-headers h (refused n p) hs hs′ cs cs′ ts ts′ r e u w = w
 with-headers h more hs hs′ cs cs′ ts ts′ r e u w = w
 
@@ -88,7 +87,7 @@ module _ (s : List ℕ) (m : ℕ) (x : Target) (next : ℕ) (g : next ≤ length
   named : m + 1 + (x .host + x .hostlen) + 2 ≤ next → length (requestIs s next m x .authority .text) ≡ x .hostlen
   named h = length-take-le (x .hostlen) (drop (m + 1 + x .host) (take (next - 2) s)) (omega (arith, line-long, h, length-drop (m + 1 + x .host) (take (next - 2) s)))
 
-  module _ {hs hs′ : List ℕ} {e l c : ℕ} {n : Notes} (d : SectionDone (run (section (headMost - next)) next (drop next s)) false 0 hs hs′ e l c n) where
+  module _ {hs hs′ : List ℕ} {e l c : ℕ} {n : Notes} (d : SectionDone (run (section (headMost - next)) next (drop next s)) true false 0 hs hs′ e l c n) where
     abbrev pub head-lines : Lines
     head-lines = linesWith (d .lines) e l
 

@@ -40,7 +40,7 @@ use Rattle.http1_parts.specs.Section.{Before}
 use Rattle.http1_reader.specs.Readers.{JudgedSays, HeadJudged, RequestJudged, RestRead, requestIs, requestOutcome, HeadFacts, RestSays}
 use Rattle.http1_reader.specs.declared.HeadAnswer.{HeadAnswer}
 use Rattle.http1_reader.specs.declared.HeadAnswer.the-variants as head
-use Rattle.http1_reader.proofs.Facts.{fits-within}
+use Rattle.http1_reader.proofs.Facts.{closes-noted, fits-within}
 use Rattle.http1.specs.declared.Target.{Target}
 use Rattle.messages.specs.Control.{isHost}
 use mathlib.Core.Logic.{_⊎_, inl, inr}
@@ -101,7 +101,7 @@ rest-content t q h s e a b u v =
 -- what stands behind a head that is good, with its content as it was read
 pub rest-read : (t : Told) (q : RequestRead) (h : Lines) (s : List ℕ) (m : ℕ) (x : Target) (e k : ℕ) (n : Notes) (a l : ℕ) (b : Body) (cs cs′ ts ts′ : List ℕ) (c : ContentRead) (r : Outcome)
     → HeadFacts s q h m x e k n → GoodHead (targetAuthority (h .end) (q .authority) (h .lines)) (requestBody (h .end) (framingOf (h .lines))) a l b
-    → Contented (run (content b) e (drop e s)) cs cs′ ts ts′ c → r ≡ requestOutcome t m x a l k c
+    → Contented (run (content b) e (drop e s)) cs cs′ ts ts′ c → r ≡ requestOutcome t m x a l k (n .closes) c
     → RestSays (run (afterHead t q h) e (drop e s)) cs cs′ ts ts′ r
 unfolding recordOf
 rest-read t q h s m x e k n a l b cs cs′ ts ts′ c r f g w o =
@@ -109,7 +109,7 @@ rest-read t q h s m x e k n a l b cs cs′ ts ts′ c r f g w o =
     (go (run (content b) e (drop e s)) (w .says))
   where
     go : (x : Answer Content) → ContentSays x cs cs′ ts ts′ c → RestSays (andThen x (λ n c. accepted n (messageWith t q h (g .authority) c))) cs cs′ ts ts′ r
-    go (accepted i d) u = (o ∙ rw (u .0, f .method, f .prefix, f .path, f .fields, g .place, g .long) refl, u .1, u .2)
+    go (accepted i d) u = (o ∙ rw (u .0, f .method, f .prefix, f .path, f .fields, g .place, g .long, closes-noted n h (f .notes)) refl, u .1, u .2)
     go (refused i j) u = o ∙ rw u refl
     go more u = o ∙ rw u refl
 
@@ -199,7 +199,7 @@ module _ (s : List ℕ) (e : ℕ) (n : Notes) {r : HeadAnswer} (t : Told) (m : �
 
   module _ (a l : ℕ) (b : Body) (g : r ≡ head.Good a l b) where
     pub rest-good : (cs cs′ ts ts′ : List ℕ) (c : ContentRead) (o : Outcome) → Contented (run (content b) e (drop e s)) cs cs′ ts ts′ c
-        → o ≡ requestOutcome t m x a l k c → RestRead s t m x e k n cs cs′ ts ts′ o
+        → o ≡ requestOutcome t m x a l k (n .closes) c → RestRead s t m x e k n cs cs′ ts ts′ o
     rest-good cs cs′ ts ts′ c o u v =
         record { by = λ q h f. rest-read t q h s m x e k n a l b cs cs′ ts ts′ c o f (head-good a l b (head-of q h f) g) u v }
 

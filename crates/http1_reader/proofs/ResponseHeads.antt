@@ -50,7 +50,7 @@ record SectionEnds (s : List ℕ) (next left base : ℕ) (hs hs′ : List ℕ) (
   pub rest : lines .left ≡ l
   pub noted : n ≡ notesOf true (lines .lines)
 
-module _ (s : List ℕ) (next left base : ℕ) (hs hs′ : List ℕ) (r : Section) (w : Sectioned (run (section left) next (drop next s)) true base hs hs′ r) where
+module _ (s : List ℕ) (next left base : ℕ) (hs hs′ : List ℕ) (r : Section) (w : Sectioned (run (section left) next (drop next s)) true true base hs hs′ r) where
   module _ (P : List InformationalRead → Type 0) (k : List InformationalRead → Onward → BehindHeads → Lines → Script Message) where
     pub headed-more : r ≡ section-read.More → Headed P (λ is u v. run (section left >>= k is u v) next (drop next s)) s base hs hs′ head.More
     headed-more e = record { by = λ is z u v. behind-more left (k is u v) s next (section-more w e) }

@@ -28,12 +28,12 @@ use Rattle.http1.specs.Read.{Lines, Content, content, ResponseCall, responseCal
 use Rattle.http1_sound.proofs.Rules.{response-framed}
 use Rattle.http1_parts.specs.Content.{SizedWithin, ContentSays, Contented}
 use Rattle.http1_parts.specs.declared.ContentRead.{ContentRead}
-use Rattle.ranges.specs.Ranges.{OutcomeSays, InformationalSays, Responded}
+use Rattle.ranges.specs.Ranges.{Stores, OutcomeSays, InformationalSays, Responded}
 use Rattle.http1_reader.specs.Readers.{RestSays}
 use Rattle.http1_reader.specs.Responses.{HeadsFacts, responseRun, HeadsSays, HeadsTaken, responseOutcome, FinalRead}
 use Rattle.http1_reader.specs.declared.HeadsRead.{HeadsRead}
 use Rattle.http1_reader.specs.declared.HeadsRead.the-variants as heads-read
-use Rattle.http1_reader.proofs.Facts.{fits-within}
+use Rattle.http1_reader.proofs.Facts.{closes-noted, fits-within}
 use Rattle.http1_reader.proofs.ResponseHeads.{framing-noted}
 
 -- ---- behind the final head
@@ -76,7 +76,7 @@ module _ (q : ResponseCall) (s : List ℕ) (status e c k : ℕ) (notes : Notes) 
     final-within = fits-within b (response-framed (q .told) x status e (notes .framing) b (body-read _ b g) .fits)
 
     pub final-read : (cs cs′ ts ts′ : List ℕ) (st : StatedLength) (d : ContentRead) (r : Outcome) → st ≡ statedIn (q .told) status (notes .framing) → Contented (run (content b) e (drop e s)) cs cs′ ts ts′ d
-        → r ≡ responseOutcome st status c k d → FinalRead q s status e c k notes cs cs′ ts ts′ r
+        → r ≡ responseOutcome st status c k (notes .closes) d → FinalRead q s status e c k notes cs cs′ ts ts′ r
     unfolding afterFinal recordOf
     final-read cs cs′ ts ts′ st d r i w o =
         record {
@@ -89,7 +89,7 @@ module _ (q : ResponseCall) (s : List ℕ) (status e c k : ℕ) (notes : Notes) 
       where
         go : (is : List InformationalRead) (h : Lines) → HeadsFacts s is h e c k notes → (x : Answer Content) → ContentSays x cs cs′ ts ts′ d
             → RestSays (andThen x (λ j c. accepted j (responseWith (statedIn (q .told) status (framingOf (h .lines))) is status h c))) cs cs′ ts ts′ r
-        go is h f (accepted j l) u = (o ∙ rw (u .0, f .heads, f .fields, i, framing-noted notes h (f .noted)) refl, u .1, u .2)
+        go is h f (accepted j l) u = (o ∙ rw (u .0, f .heads, f .fields, i, framing-noted notes h (f .noted), closes-noted notes h (f .noted)) refl, u .1, u .2)
         go is h f (refused j p) u = o ∙ rw u refl
         go is h f more u = o ∙ rw u refl
 
@@ -143,10 +143,10 @@ module _ {s hs hs′ ns ns′ : List ℕ} {r : HeadsRead} (w : HeadsTaken (respo
         subst (λ (z : Answer Message). Responded z hs hs′ ns ns′ cs cs′ ts ts′ o) (sym (d .5 (afterFinal call)))
         (go (d .0) (d .1) (d .6) (d .7) (run (afterFinal call (d .0) n (d .1)) e (drop e s)) (of-heads call (d .0) n (d .1) s e) (f .by (d .0) (d .1) (d .2)))
       where
-        go : (is : List InformationalRead) (h : Lines) → hs′ ≡ splice hs 0 (fieldsNumbers (informationalLines is ++ kept true (h .lines)))
+        go : (is : List InformationalRead) (h : Lines) → Stores hs 0 (fieldsNumbers (informationalLines is ++ kept true (h .lines))) hs′
             → ns′ ≡ splice ns 0 (informationalNumbers is) → (y : Answer Message) → Says (λ j m. OfHeads is n h m) y → RestSays y cs cs′ ts ts′ o
             → Responded y hs hs′ ns ns′ cs cs′ ts ts′ o
         go is h a b (accepted j m) z u =
-            record { says = (u .0, a ∙ rw (z .start, z .lines) refl, u .1, u .2); informational = b ∙ rw (z .start) refl }
+            record { says = (u .0, rw (z .start, z .lines) a, u .1, u .2); informational = b ∙ rw (z .start) refl }
         go is h a b (refused i p) z u = record { says = u; informational = tt }
         go is h a b more z u = record { says = u; informational = tt }

@@ -5,7 +5,7 @@ use mathlib.Core.List.{List, [], _∷_, _++_}
 use mathlib.Core.Bool.{Bool, true, false}
 use native.Mathlib.Omega.{arith}
 use lib.ListN.{length, drop, length-append}
-use Rattle.ranges.specs.Ranges.{SoManyHeads}
+use Rattle.ranges.specs.Ranges.{Stores, SoManyHeads}
 use Rattle.octets.specs.Limits.{headMost, linesMost, informationalMost}
 use Rattle.script.specs.Script.{Answer, accepted, refused, more, run}
 use Rattle.output.specs.Splice.{splice}
@@ -15,6 +15,7 @@ use Rattle.messages.specs.Answers.{fieldsNumbers, informationalNumbers, informa
 use Rattle.messages.specs.declared.Notes.{Notes}
 use Rattle.messages.proofs.Noting.{kept-few}
 use Rattle.http1.specs.Read.{Lines, informationalRead, BehindHeads, nextHead, headsThen}
+use Rattle.ranges.proofs.Storing.{altered-none, stores-none}
 use Rattle.ranges.proofs.HeadsStored.{lines-snoc, fields-more, numbers-more}
 use Rattle.http1_reader.specs.Responses.{Onward, HeadStored, HeadSays, Headed, HeadsFacts, responseRun, HeadsSays, HeadsTaken}
 use Rattle.http1_reader.specs.declared.HeadRead.{HeadRead}
@@ -31,7 +32,7 @@ pub record HeadsTo (s hs₀ hs ns₀ ns : List ℕ) (i left count base : ℕ) : 
   pub total : i + left ≡ headMost
   pub fields : length (informationalLines read) ≡ base
   pub few : base ≤ count * linesMost
-  pub stored : hs ≡ splice hs₀ 0 (fieldsNumbers (informationalLines read))
+  pub stored : Stores hs₀ 0 (fieldsNumbers (informationalLines read)) hs
   pub numbers : ns ≡ splice ns₀ 0 (informationalNumbers read)
   pub turn : (v : BehindHeads) → responseRun s v ≡ run (headsThen v (suc (informationalMost - count)) read left) i (drop i s)
 
@@ -46,7 +47,7 @@ heads-start s hs ns =
       total = refl;
       fields = refl;
       few = omega arith;
-      stored = refl;
+      stored = stores-none (altered-none 0 hs) (omega arith);
       numbers = refl;
       turn = λ v. refl;
     }
@@ -72,8 +73,8 @@ module _ {s hs₀ hs hs′ ns₀ ns : List ℕ} {i left count base : ℕ} (to : 
   heads-refused ns′ k p e = record { says = λ v. turns v ∙ says (head.Refused k p) e (onward v) v }
 
   -- the fields of one head more
-  stored-more : {e k : ℕ} {h : Lines} → HeadStored s base hs hs′ e k h → hs′ ≡ splice hs₀ 0 (fieldsNumbers (informationalLines (to .read) ++ kept true (h .lines)))
-  stored-more {h = h} q = fields-more hs₀ (informationalLines (to .read)) (kept true (h .lines)) (to .fields) (to .stored) (q .stored)
+  stored-more : {e k : ℕ} {h : Lines} → HeadStored s base hs hs′ e k h → Stores hs₀ 0 (fieldsNumbers (informationalLines (to .read) ++ kept true (h .lines))) hs′
+  stored-more {h = h} q = fields-more (informationalLines (to .read)) (kept true (h .lines)) (to .fields) (to .stored) (q .stored)
 
   module _ (n e k : ℕ) where
     pub heads-final : (notes : Notes) → r ≡ head.Final n e k notes → HeadsTaken (responseRun s) s hs₀ hs′ ns₀ ns (heads-read.Done n e count (k - base) notes)
@@ -117,7 +118,7 @@ module _ {s hs₀ hs hs′ ns₀ ns : List ℕ} {i left count base : ℕ} (to : 
             total = omega (arith, d .1 .left, d .2);
             fields = rw (lines-snoc (to .read) x) (length-append (informationalLines (to .read)) (kept true (h .lines)) ∙ omega (arith, to .fields, d .1 .count));
             few = omega (arith, few, to .few);
-            stored = stored-more (d .1) ∙ rw (lines-snoc (to .read) x) refl;
+            stored = rw (lines-snoc (to .read) x) (stored-more (d .1));
             numbers = numbers-more ns₀ (to .read) x (to .counted) (to .numbers) f stores;
             turn = λ v. turns v ∙ d .4 (onward v) v ∙ ap (λ (m : ℕ). run (headsThen v m (to .read ++ x ∷ []) l) e (drop e s)) g;
           }

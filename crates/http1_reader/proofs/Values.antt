@@ -15,9 +15,9 @@ use Rattle.http1.specs.Read.{readRequest, readResponse}
 use Rattle.http1_sound.specs.Read.{IsRequest}
 use Rattle.http1_sound.proofs.Sound.{request-sound, response-sound}
 use Rattle.sound.specs.Sound.{Sound}
-use Rattle.ranges.specs.Ranges.{Outcomed, Responded, readingFrom}
+use Rattle.ranges.specs.Ranges.{Outcomed, Responded, CountsWithin, readingFrom}
 use Rattle.ranges.proofs.Outcomes.{IsHeld, held, held-request}
-use Rattle.ranges.proofs.ByValue.{by-value, requested}
+use Rattle.ranges.proofs.ByValue.{counts-within, by-value, requested}
 
 is-request : (t : Told) (lines : List FieldRead) (st : Start) → IsRequest t lines st → isResponse st ≡ false
 is-request t lines (requestStart q c a p) i = refl
@@ -33,9 +33,13 @@ pub request-held : (t : Told) (s : List ℕ) {hs hs′ cs cs′ ts ts′ : List 
     → o ≡ outcome.Message r → 256 ≤ length hs → 512 ≤ length cs → 256 ≤ length ts → IsHeld (readRequest t s) s r hs′ ns cs′ ts′
 request-held t s ns h e = held-request s ns h e (sound-request t s)
 
-pub request-by-value : (t : Told) (s : List ℕ) {hs′ cs′ ts′ : List ℕ} {o : Outcome} → Outcomed (readRequest t s) (replicate 1280 0) hs′ (replicate 512 0) cs′ (replicate 256 0) ts′ o
-    → readingFrom o (replicate 8 0) hs′ ts′ cs′ ≡ readingOf (readRequest t s)
-request-by-value t s h = by-value s (requested (replicate 8 0) h (λ n m e. sound-request t s n m e .1)) (λ n m e. sound-request t s n m e .0)
+-- its counts are within its ranges, and its answer by value is what its definition says
+module _ (t : Told) (s : List ℕ) {hs′ cs′ ts′ : List ℕ} {o : Outcome} (h : Outcomed (readRequest t s) (replicate 1280 0) hs′ (replicate 512 0) cs′ (replicate 256 0) ts′ o) where
+  pub request-counts : CountsWithin o (replicate 8 0)
+  request-counts = counts-within s (requested (replicate 8 0) h (λ n m e. sound-request t s n m e .1)) (λ n m e. sound-request t s n m e .0)
+
+  pub request-by-value : readingFrom o (replicate 8 0) hs′ ts′ cs′ ≡ readingOf (readRequest t s)
+  request-by-value = by-value s (requested (replicate 8 0) h (λ n m e. sound-request t s n m e .1)) (λ n m e. sound-request t s n m e .0)
 
 sound-response : (t : Told) (s : List ℕ) (n : ℕ) (m : Message) → readResponse t s ≡ accepted n m → Sound s m
 sound-response t s n m e = response-sound t s n m e .sound
@@ -45,7 +49,10 @@ pub response-held : (t : Told) (s : List ℕ) {hs hs′ ns ns′ cs cs′ ts ts�
     → o ≡ outcome.Message r → 1280 ≤ length hs → 8 ≤ length ns → 512 ≤ length cs → 256 ≤ length ts → IsHeld (readResponse t s) s r hs′ ns′ cs′ ts′
 response-held t s h e = held s h e (sound-response t s)
 
-pub response-by-value : (t : Told) (s : List ℕ) {hs′ ns′ cs′ ts′ : List ℕ} {o : Outcome}
-    → Responded (readResponse t s) (replicate 1280 0) hs′ (replicate 8 0) ns′ (replicate 512 0) cs′ (replicate 256 0) ts′ o
-    → readingFrom o ns′ hs′ ts′ cs′ ≡ readingOf (readResponse t s)
-response-by-value t s h = by-value s h (sound-response t s)
+module _ (t : Told) (s : List ℕ) {hs′ ns′ cs′ ts′ : List ℕ} {o : Outcome}
+    (h : Responded (readResponse t s) (replicate 1280 0) hs′ (replicate 8 0) ns′ (replicate 512 0) cs′ (replicate 256 0) ts′ o) where
+  pub response-counts : CountsWithin o ns′
+  response-counts = counts-within s h (sound-response t s)
+
+  pub response-by-value : readingFrom o ns′ hs′ ts′ cs′ ≡ readingOf (readResponse t s)
+  response-by-value = by-value s h (sound-response t s)

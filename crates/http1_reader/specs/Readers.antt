@@ -24,7 +24,7 @@ use Rattle.http1.specs.Lines.{RequestRead, within}
 use Rattle.http1.specs.declared.Target.{Target}
 use Rattle.http1.specs.Read.{Lines, afterHead, afterRequestLine}
 use Rattle.sound.specs.Placed.{Each}
-use Rattle.ranges.specs.Ranges.{Outcomed}
+use Rattle.ranges.specs.Ranges.{Stores, Outcomed}
 use Rattle.http1_parts.specs.Section.{Before}
 use Rattle.http1_parts.specs.declared.ContentRead.{ContentRead}
 use Rattle.http1_parts.specs.declared.ContentRead.the-variants as content
@@ -63,18 +63,19 @@ pub record RequestJudged (s : List ℕ) (a n end : ℕ) (notes : Notes) (r : Hea
 
 -- ---- requests
 
--- the counts of a message of length n: kept header fields, chunks and the octets in them, kept trailer fields; and its stated length
-abbrev pub countsWith : StatedLength → ℕ → ℕ → ℕ → ℕ → ℕ → Counts
-countsWith stated fields n chunks total trailers =
-    record { headers = fields; chunks = chunks; content = total; trailers = trailers; length = n; stated = stated; long = 0 }
+-- the counts of a message of length n: kept header fields, chunks and the octets in them, kept trailer fields; its stated length, and whether the sender means to
+-- close
+abbrev pub countsWith : StatedLength → Bool → ℕ → ℕ → ℕ → ℕ → ℕ → Counts
+countsWith stated closes fields n chunks total trailers =
+    record { headers = fields; chunks = chunks; content = total; trailers = trailers; length = n; stated = stated; long = 0; closes = closes }
 
 -- the outcome of a request whose content was read
-abbrev pub requestOutcome : Told → ℕ → Target → ℕ → ℕ → ℕ → ContentRead → Outcome
-requestOutcome t method x start len fields (content.Done n k total m) =
+abbrev pub requestOutcome : Told → ℕ → Target → ℕ → ℕ → ℕ → Bool → ContentRead → Outcome
+requestOutcome t method x start len fields closes (content.Done n k total m) =
     outcome.Message
-    (requestRecord (t .scheme) (partAt 0 method) (partAt start len) (x .prefix) (partAt (method + 1 + x .start) (x .len)) (countsWith Missing fields n k total m))
-requestOutcome t method x start len fields (content.Refused k p) = outcome.Refusal k p
-requestOutcome t method x start len fields content.More = outcome.More
+    (requestRecord (t .scheme) (partAt 0 method) (partAt start len) (x .prefix) (partAt (method + 1 + x .start) (x .len)) (countsWith Missing closes fields n k total m))
+requestOutcome t method x start len fields closes (content.Refused k p) = outcome.Refusal k p
+requestOutcome t method x start len fields closes content.More = outcome.More
 
 -- a space, the version and CR LF
 abbrev pub versionLen : ℕ
@@ -114,7 +115,7 @@ HeadKnown s m x e k n = (q : RequestRead) × (h : Lines) × HeadFacts s q h m x 
 -- what stands behind the head: an answer, and the ranges of chunks and trailers of an accepted message
 abbrev pub RestSays : Answer Message → List ℕ → List ℕ → List ℕ → List ℕ → Outcome → Type 0
 RestSays (accepted n m) cs cs′ ts ts′ r =
-    (r ≡ outcome.Message (recordOf n m)) × (cs′ ≡ splice cs 0 (chunksNumbers (m .chunks))) × (ts′ ≡ splice ts 0 (fieldsNumbers (keptTrailers (m .trailers))))
+    (r ≡ outcome.Message (recordOf n m)) × (cs′ ≡ splice cs 0 (chunksNumbers (m .chunks))) × Stores ts 0 (fieldsNumbers (keptTrailers (m .trailers))) ts′
 RestSays (refused k p) cs cs′ ts ts′ r = r ≡ outcome.Refusal k p
 RestSays more cs cs′ ts ts′ r = r ≡ outcome.More
 

@@ -5,7 +5,7 @@ use mathlib.Core.Path.{_≡_}
 use mathlib.Core.Bool.{Bool, true, false}
 use mathlib.Core.List.{List, [], _∷_, _++_}
 use lib.ListN.{length, drop}
-use Rattle.ranges.specs.Ranges.{AnyHeads, FewHeads, SoManyHeads}
+use Rattle.ranges.specs.Ranges.{Stores, AnyHeads, FewHeads, SoManyHeads}
 use Rattle.octets.specs.Limits.{headMost, linesMost, informationalMost}
 use Rattle.script.specs.Script.{Answer, accepted, refused, more, Script, run}
 use Rattle.output.specs.Splice.{splice}
@@ -36,7 +36,7 @@ pub record HeadStored (s : List ℕ) (base : ℕ) (hs hs′ : List ℕ) (e k : �
   pub within : e ≤ length s
   pub few : length (h .lines) ≤ linesMost
   pub count : base + length (kept true (h .lines)) ≡ k
-  pub stored : hs′ ≡ splice hs (base * 4) (fieldsNumbers (kept true (h .lines)))
+  pub stored : Stores hs (base * 4) (fieldsNumbers (kept true (h .lines))) hs′
 
 -- what reads on behind an informational head
 abbrev pub Onward : Type 0
@@ -89,7 +89,7 @@ abbrev pub HeadsSays : (BehindHeads → Answer Message) → List ℕ → List �
 HeadsSays x s hs hs′ ns ns′ (heads-read.Done n e c k notes) =
     (is : List InformationalRead) × (h : Lines) × HeadsFacts s is h e c k notes × (e ≤ length s) × (e ≤ headMost)
     × ((after : BehindHeads) → x after ≡ run (after is n h) e (drop e s))
-    × (hs′ ≡ splice hs 0 (fieldsNumbers (informationalLines is ++ kept true (h .lines)))) × (ns′ ≡ splice ns 0 (informationalNumbers is))
+    × Stores hs 0 (fieldsNumbers (informationalLines is ++ kept true (h .lines))) hs′ × (ns′ ≡ splice ns 0 (informationalNumbers is))
 HeadsSays x s hs hs′ ns ns′ (heads-read.Refused i p) = (after : BehindHeads) → x after ≡ refused i p
 HeadsSays x s hs hs′ ns ns′ heads-read.More = (after : BehindHeads) → x after ≡ more
 
@@ -100,10 +100,11 @@ pub record HeadsTaken (x : BehindHeads → Answer Message) (s hs hs′ ns ns′ 
 -- ---- whole responses
 
 -- the outcome of a response whose content was read
-abbrev pub responseOutcome : StatedLength → ℕ → ℕ → ℕ → ContentRead → Outcome
-responseOutcome stated status count fields (content.Done n k total m) = outcome.Message (responseRecord count status (countsWith stated fields n k total m))
-responseOutcome stated status count fields (content.Refused k p) = outcome.Refusal k p
-responseOutcome stated status count fields content.More = outcome.More
+abbrev pub responseOutcome : StatedLength → ℕ → ℕ → ℕ → Bool → ContentRead → Outcome
+responseOutcome stated status count fields closes (content.Done n k total m) =
+    outcome.Message (responseRecord count status (countsWith stated closes fields n k total m))
+responseOutcome stated status count fields closes (content.Refused k p) = outcome.Refusal k p
+responseOutcome stated status count fields closes content.More = outcome.More
 
 -- what stands behind the final head, read by a call
 pub record FinalRead (q : ResponseCall) (s : List ℕ) (status end count fields : ℕ) (notes : Notes) (cs cs′ ts ts′ : List ℕ) (r : Outcome) : Type 0 where

@@ -43,9 +43,10 @@ fn request_outcome(
     start: usize,
     len: usize,
     fields: usize,
+    closes: bool,
 ) -> Outcome
     requires { ⌜ (method + 1 + (target .start + target .len) < placesEnd) × (start + len < placesEnd) ⌝ }
-    ensures { λ r. ⌜ r ≡ requestOutcome told method target start len fields read ⌝ }
+    ensures { λ r. ⌜ r ≡ requestOutcome told method target start len fields closes read ⌝ }
 {
     match read {
         ContentRead::More => Outcome::More,
@@ -64,6 +65,7 @@ fn request_outcome(
                 length: end,
                 stated: StatedLength::Missing,
                 long: 0,
+                closes,
             };
             let method_part = Part {
                 start: 0,
@@ -108,7 +110,7 @@ fn read_rest(
         HeadAnswer::Refused { number, place } => return Outcome::Refusal { number, place },
         HeadAnswer::Good { start, len, body } => {
             let c = read_content(t, s, end, body, chunks, trailers);
-            return request_outcome(c, told, method, target, start, len, fields);
+            return request_outcome(c, told, method, target, start, len, fields, notes.closes);
         }
     }
 }
@@ -131,7 +133,7 @@ fn read_head(
     ensures { λ r. ⌜ BehindLineRead told (now (s .entry)) method target next
         (now (headers .entry)) (now (headers .exit)) (now (chunks .entry)) (now (chunks .exit)) (now (trailers .entry)) (now (trailers .exit)) r ⌝ }
 {
-    let h = read_section(t, s, next, Limits::HEAD - next, false, 0, headers);
+    let h = read_section(t, s, next, Limits::HEAD - next, true, false, 0, headers);
     match h {
         Section::More => return Outcome::More,
         Section::Refused { number, place } => return Outcome::Refusal { number, place },

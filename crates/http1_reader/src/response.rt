@@ -53,7 +53,7 @@ fn informational_head(
     requires { ⌜ (now t ≡ classes) × (next ≤ length (now s)) × (next + left ≡ headMost) × SectionRoom base (now headers) ⌝ }
     ensures { λ r. ⌜ InformationalHeaded (now (s .entry)) status next left base (now (headers .entry)) (now (headers .exit)) r ⌝ }
 {
-    let h = read_section(t, s, next, left, true, base, headers);
+    let h = read_section(t, s, next, left, true, true, base, headers);
     match h {
         Section::More => return HeadRead::More,
         Section::Refused { number, place } => return HeadRead::Refused { number, place },
@@ -91,7 +91,7 @@ fn final_head(
     requires { ⌜ (now t ≡ classes) × (next ≤ length (now s)) × (next + left ≡ headMost) × SectionRoom base (now headers) ⌝ }
     ensures { λ r. ⌜ FinalHeaded (now (s .entry)) status next left base (now (headers .entry)) (now (headers .exit)) r ⌝ }
 {
-    let h = read_section(t, s, next, left, true, base, headers);
+    let h = read_section(t, s, next, left, true, true, base, headers);
     match h {
         Section::More => return HeadRead::More,
         Section::Refused { number, place } => return HeadRead::Refused { number, place },
@@ -208,8 +208,9 @@ fn response_outcome(
     status: u32,
     heads: usize,
     fields: usize,
+    closes: bool,
 ) -> Outcome
-    ensures { λ r. ⌜ r ≡ responseOutcome stated status heads fields read ⌝ }
+    ensures { λ r. ⌜ r ≡ responseOutcome stated status heads fields closes read ⌝ }
 {
     match read {
         ContentRead::More => Outcome::More,
@@ -228,6 +229,7 @@ fn response_outcome(
                 length: end,
                 stated,
                 long: 0,
+                closes,
             };
             Outcome::Message(response_record(heads, status, counts))
         }
@@ -260,7 +262,7 @@ fn after_final(
         BodyAnswer::Read(body) => {
             let c = read_content(t, s, end, body, chunks, trailers);
             let stated = stated_in(told, status as usize, f);
-            return response_outcome(c, stated, status, heads, fields);
+            return response_outcome(c, stated, status, heads, fields, notes.closes);
         }
     }
 }

@@ -128,7 +128,7 @@ meaning-of t (request m s a p) fs b ts Missing v =
     rw (
       request-kept t m a fs b ts (0 + length (requestLine m p)) (section-fields false fs (ok .headers)),
       content-back _ b,
-      fields-back false ts _ (section-fields false ts (ok .trailers)),
+      fields-back false false ts _ (section-fields false ts (ok .trailers)),
     )
 meaning-of t (response hs s) fs b ts x v =
     let w : Meaning = made (response hs s) fs b ts x in
@@ -137,7 +137,7 @@ meaning-of t (response hs s) fs b ts x v =
       heads-back hs 0 (response-ok hs s (ok .control) .heads),
       response-kept t s w (0 + length (informationalText hs ++ statusLine s)) (section-fields true fs (ok .headers)),
       content-back _ b,
-      fields-back false ts _ (section-fields false ts (ok .trailers)),
+      fields-back false false ts _ (section-fields false ts (ok .trailers)),
     )
 
 pub meaning-back : (t : Told) (m : Meaning) → valid m ≡ true → meaning (placedAt t 0 m) ≡ m

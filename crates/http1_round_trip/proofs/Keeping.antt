@@ -12,7 +12,7 @@ use Rattle.octets.proofs.Kit.{and-split}
 use Rattle.script.specs.Do.{piece, good}
 use Rattle.messages.specs.Message.{FieldRead}
 use Rattle.messages.specs.Control.{isHost, endsAtHead}
-use Rattle.messages.specs.Names.{kindOf, lineKind, sameKind, linesOf, kept, areTrailers}
+use Rattle.messages.specs.Names.{kindOf, lineKind, sameKind, linesOf, endToEnd, connectionValues, kept, keptOf, areTrailers}
 use Rattle.messages.specs.Rules.{authorityFrom, authorityIn, framingFrom, framingOf, requestBody, contentBody, responseBody, lengthIn, statedIn}
 use Rattle.messages.specs.declared.Ending.{Ending}
 use Rattle.messages.specs.declared.Body.{Body}
@@ -28,7 +28,7 @@ use Rattle.messages.specs.Meaning.{Field, fieldMeans, Informational, informatio
 use Rattle.messages.specs.Valid.{validFields, validHeads, noFields, validBody, validStated}
 use Rattle.messages.proofs.Valid.{section-fields, head-ok}
 use Rattle.messages.proofs.ValidLines as laws
-use Rattle.messages.proofs.Stating.{LinesOk, fields-ok, length-line, length-kind, length-framing, stated-ok, stated-back, bodyless-good, Suited}
+use Rattle.messages.proofs.Stating.{LinesOk, fields-ok, length-line, length-kind, length-kept, length-framing, stated-ok, stated-back, bodyless-good, Suited}
 use Rattle.messages.proofs.Stating.{framingFor as statedFraming}
 use Rattle.http1_writer.specs.declared.LengthLine.{LengthLine}
 use Rattle.http1_writer.specs.declared.LengthLine.the-variants as line
@@ -46,8 +46,8 @@ lines-say (f ∷ fs) at = rw (lines-say fs (at + length (fieldText f)))
 lines-valid : (host : Bool) (fs : List Field) (at : ℕ) → validFields host fs ≡ true → validFields host (map laws.said (linesAt at fs)) ≡ true
 lines-valid host fs at v = rw (lines-say fs at) v
 
-pub fields-back : (host : Bool) (fs : List Field) (at : ℕ) → validFields host fs ≡ true → map fieldMeans (kept host (linesAt at fs)) ≡ fs
-fields-back host fs at v = laws.fields-back host (linesAt at fs) (lines-valid host fs at v) ∙ lines-say fs at
+pub fields-back : (headers host : Bool) (fs : List Field) (at : ℕ) → validFields host fs ≡ true → map fieldMeans (keptOf headers host (linesAt at fs)) ≡ fs
+fields-back headers host fs at v = laws.fields-back host headers (linesAt at fs) (lines-valid host fs at v) ∙ lines-say fs at
 
 pub unstated : (host : Bool) (fs : List Field) (at : ℕ) → validFields host fs ≡ true → framingOf (linesAt at fs) ≡ Unstated
 unstated host fs at v = laws.unstated host (linesAt at fs) (lines-valid host fs at v)
@@ -63,7 +63,7 @@ unfolding headsAt informationalMeans
 heads-back [] at v = refl
 heads-back (h ∷ hs) at v =
     let o = head-ok h hs v in
-    rw (fields-back true (h .fields) _ (section-fields true (h .fields) (o .0 .fields)), heads-back hs (at + length (statusLine (h .status) ++ sectionText (h .fields))) (o .1))
+    rw (fields-back true true (h .fields) _ (section-fields true (h .fields) (o .0 .fields)), heads-back hs (at + length (statusLine (h .status) ++ sectionText (h .fields))) (o .1))
 
 -- ---- the kinds of the lines that a head gains
 
@@ -102,6 +102,10 @@ coding-said : (p : ℕ) → framingFrom [] (lineAt p codingField ∷ []) ≡ Chu
 unfolding framingFrom codingField sameText lowerOf
 coding-said p = refl
 
+coding-kept : (host : Bool) (at : ℕ) (ls : List FieldRead) → kept host (lineAt at codingField ∷ ls) ≡ kept host ls
+unfolding kept connectionValues endToEnd linesOf sameKind
+coding-kept host at ls = rw (coding-kind at)
+
 module _ (host : Bool) (fs : List Field) (v : validFields host fs ≡ true) where
   pub lead-ok : (l : LengthLine) → LinesOk (lengthFields l ++ fs)
   lead-ok line.Nothing = fields-ok host fs v
@@ -109,10 +113,12 @@ module _ (host : Bool) (fs : List Field) (v : validFields host fs ≡ true) wher
   lead-ok line.Chunked = (coding-line, fields-ok host fs v)
 
   lead-kept : (l : LengthLine) (at : ℕ) → map fieldMeans (kept host (linesAt at (lengthFields l ++ fs))) ≡ fs
-  unfolding kept linesAt
-  lead-kept line.Nothing at = fields-back host fs at v
-  lead-kept (line.Length n) at = rw (length-kind (lineAt at (lengthField n)) n refl) (fields-back host fs _ v)
-  lead-kept line.Chunked at = rw (coding-kind at) (fields-back host fs _ v)
+  unfolding linesAt
+  lead-kept line.Nothing at = fields-back true host fs at v
+  lead-kept (line.Length n) at =
+      let q : ℕ = at + length (fieldText (lengthField n)) in
+      rw (length-kept (lineAt at (lengthField n)) n refl host (linesAt q fs) (lines-valid host fs q v)) (fields-back true host fs q v)
+  lead-kept line.Chunked at = rw (coding-kept host at (linesAt (at + length (fieldText codingField)) fs)) (fields-back true host fs _ v)
 
   coding-framing : (at : ℕ) → framingOf (lineAt at codingField ∷ linesAt (at + length (fieldText codingField)) fs) ≡ Chunked
   unfolding framingOf linesOf sameKind
@@ -159,8 +165,8 @@ module _ (a : List ℕ) (at : ℕ) (ls : List FieldRead) where
   host-framing = rw (host-of kind.ContentLength, host-of kind.TransferEncoding)
 
   host-kept : kept false (lineAt at (hostField a) ∷ ls) ≡ kept false ls
-  unfolding kept
-  host-kept = rw (host-kind a at)
+  unfolding kept connectionValues endToEnd sameKind
+  host-kept = rw (host-of kind.Connection, host-kind a at)
 
   host-found : (end : ℕ) → linesOf kind.Host ls ≡ [] → isHost a ≡ true → authorityIn end (piece 0 []) (lineAt at (hostField a) ∷ ls) ≡ good (piece (at + 6) a)
   unfolding authorityIn authorityFrom sameKind hostField isEmpty

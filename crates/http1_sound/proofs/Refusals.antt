@@ -9,7 +9,7 @@ use lib.Dec.{eqb, leb, ltb}
 use lib.ListN.{length, take, drop, length-append}
 use Rattle.octets.specs.Limits.{headMost, trailerMost, chunkLineMost, linesMost, chunksMost, contentMost, informationalMost, pathMost}
 use Rattle.octets.specs.Refusals.{badSyntax, badVersion, notSupported, tooLarge, badHost, otherScheme}
-use Rattle.octets.specs.Text.{spanLen, sameText, isEmpty, all}
+use Rattle.octets.specs.Text.{spanLen, isOther, sameText, isEmpty, all}
 use Rattle.octets.proofs.Kit.{either}
 use Rattle.script.specs.Script.{refused, someOctets, Script, run}
 use Rattle.script.specs.Do.{Piece, piece, good, wrong}
@@ -22,7 +22,7 @@ use Rattle.messages.specs.Rules.{authorityIn, framingOf, requestBody, nothingSt
 use Rattle.messages.specs.Valid.{isScheme}
 use Rattle.messages.specs.declared.Body.{Body}
 use Rattle.messages.specs.declared.Body.the-variants.{Sized, InChunks, UntilClosed}
-use Rattle.http1.specs.Lines.{isOther, version, requestParts, requestVersion, requestTarget, requestLens, onRequest, requestOf, statusAt, statusVersion, isStatusShape, statusLens, onStatus, statusOf, onTarget}
+use Rattle.http1.specs.Lines.{version, requestParts, requestVersion, requestTarget, requestLens, onRequest, requestOf, statusAt, statusVersion, isStatusShape, statusLens, onStatus, statusOf, onTarget}
 use Rattle.http1.specs.Lines.{fieldLens, onField, fieldOf, chunkLens, onChunk, chunkOf}
 use Rattle.http1.specs.Read.{lineWithin, less, Lines, fieldLines, section, trailerSection, chunkData, chunksFrom, content, afterHead, request, readRequest, ResponseCall, responseCall, afterFinal, heads, headsThen, readResponse}
 use Rattle.http1.specs.declared.TargetRead.the-variants as target

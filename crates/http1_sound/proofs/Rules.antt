@@ -13,7 +13,7 @@ use Rattle.octets.specs.Text.{isEmpty}
 use Rattle.script.specs.Do.{Piece, piece, good, wrong}
 use Rattle.messages.specs.Message.{FieldRead}
 use Rattle.messages.specs.Control.{endsAtHead, isHost}
-use Rattle.messages.specs.Names.{kept, keptTrailers, linesOf}
+use Rattle.messages.specs.Names.{endToEnd, keptTrailers, linesOf}
 use Rattle.messages.specs.Rules.{authorityIn, requestBody, bodylessRule, unmeasuredBody, contentBody, responseBody, lengthIn, agrees, targetAuthority, hostOnce}
 use Rattle.messages.specs.Told.{isYes, endingOf}
 use Rattle.messages.specs.Notes.{isClashing}
@@ -148,7 +148,7 @@ content-framed x end Clashing b e = request-framed end Clashing b e
 
 -- content without octets and trailers is valid of any head
 empty-body : (t : Bool) (c : Content) → Fills (Sized 0) c → validBody t (contentOf (c .chunks)) (map fieldMeans (keptTrailers (c .trailers))) ≡ true
-unfolding validBody isEmpty keptTrailers kept
+unfolding validBody isEmpty keptTrailers endToEnd
 empty-body true c h = refl
 empty-body false c h = rw (eq-eqb (length (contentOf (c .chunks))) 0 (h .0), h .1)
 

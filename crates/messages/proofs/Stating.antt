@@ -18,7 +18,7 @@ use Rattle.numbers.proofs.DigitLaws.{decimal-round, digits-pass, digits-value}
 use Rattle.script.specs.Do.{good}
 use Rattle.messages.specs.Control.{isLowerName, isTrimmedValue, endsAtHead}
 use Rattle.messages.specs.Message.{FieldRead}
-use Rattle.messages.specs.Names.{kindOf, lineKind, sameKind, linesOf, kept}
+use Rattle.messages.specs.Names.{kindOf, lineKind, sameKind, linesOf, endToEnd, connectionValues, kept}
 use Rattle.messages.specs.Rules.{framingFrom, framingOf, binaryFramingOf, nothingStated, lengthAlone, bodylessRule, lengthIn}
 use Rattle.messages.specs.Meaning.{Field, Informational, response, Meaning, lengthField, statedFields}
 use Rattle.messages.specs.Valid.{validFields, validBody, mayStateLength, validStated, isMissing, suits}
@@ -99,8 +99,8 @@ module _ (f : FieldRead) (n : ℕ) (e : said f ≡ lengthField n) where
     length-of k = rw length-kind
 
     pub length-kept : kept host (f ∷ fs) ≡ kept host fs
-    unfolding kept
-    length-kept = rw length-kind
+    unfolding kept connectionValues endToEnd sameKind
+    length-kept = rw (length-of kind.Connection, length-kind)
 
     pub length-hosts : linesOf kind.Host (f ∷ fs) ≡ linesOf kind.Host fs
     unfolding sameKind

@@ -21,13 +21,14 @@ use Rattle.messages.specs.declared.Outcome.{Outcome}
 use Rattle.messages.specs.declared.Outcome.the-variants as outcome
 use Rattle.sound.specs.Placed.{Each, OfLine, Lying}
 use Rattle.sound.specs.Sound.{Sound}
+use Rattle.sound.proofs.Each.{each-kept}
 use Rattle.http1.specs.Read.{readRequest, readResponse}
 use Rattle.http1_sound.proofs.Sound.{request-sound, response-sound}
 use Rattle.binary.specs.Read.{readBinary}
 use Rattle.binary_sound.proofs.Sound.{binary-sound}
 use Rattle.ranges.specs.Ranges.{Outcomed, Held}
 use Rattle.ranges.specs.Entries.{entryOf, fieldIn, fieldsIn, fieldsBefore, EntryWithin}
-use Rattle.ranges.proofs.Entries.{FieldsAt, lies-is, fields-are, fields-more, fields-none, each-kept, held-parts, held-within}
+use Rattle.ranges.proofs.Entries.{FieldsAt, lies-is, fields-are, fields-more, fields-none, held-parts, held-within}
 use Rattle.ranges.proofs.Outcomes.{IsHeld, given-refusal, given-more}
 use Rattle.turn.specs.Question.{firstOf, Question, questionOf, valueOr, requestQuestion, responseQuestion, binaryQuestion}
 use Rattle.question.specs.Asking.{foundOf, askedOf, valuePart, foundIn, OutcomeWithin, askedFrom, octetsOr, pointsTo, FoundWithin, Answered}

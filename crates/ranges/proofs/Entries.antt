@@ -1,33 +1,34 @@
 -- The message that the numbers of a record and of lent ranges name is the one that was read; its numbers are within the source; and the steps of a loop
 -- over entries.
 use Prim.Native.Nat.{ℕ, zero, suc, _+_, _-_, _*_, _<_, _≤_}
-use mathlib.Core.Path.{_≡_, refl, sym, ap, subst, _∙_}
-use mathlib.Core.Bool.{Bool, true, false, cond}
+use mathlib.Core.Path.{_≡_, refl, sym, ap, _∙_}
+use mathlib.Core.Bool.{true, false}
 use mathlib.Core.List.{List, [], _∷_, _++_, map, append-nil}
 use native.Mathlib.Nat.{add-zero}
 use native.Mathlib.Numerals.{add-one}
 use native.Mathlib.Omega.{arith}
-use lib.ListN.{length, getD, take, drop, length-append}
+use lib.ListN.{length, getD, length-append}
 use lib.Seq.{getD-at}
 use Rattle.octets.specs.Limits.{linesMost, chunksMost, informationalMost}
 use Rattle.script.specs.Script.{Lies}
-use Rattle.script.specs.Do.{Piece, piece}
+use Rattle.script.specs.Do.{Piece}
 use Rattle.script.proofs.Places.{lies-part, lies-at, lies-in}
 use Rattle.output.specs.Splice.{part, Puts, Put}
 use Rattle.output.specs.Reply.{Reply, Served}
 use Rattle.output.specs.declared.Written.{Written}
 use Rattle.output.proofs.Laws.{elements-take}
 use Rattle.messages.specs.Message.{FieldRead, InformationalRead, Start, requestStart, responseStart, isResponse, Message, prefixOctets}
-use Rattle.messages.specs.Names.{lineKind, isEndToEnd, kept, keptTrailers}
-use Rattle.messages.specs.Meaning.{Informational, Control, Meaning, fieldMeans, informationalMeans, controlMeans, contentOf, meaning}
+use Rattle.messages.specs.Names.{kept, keptTrailers}
+use Rattle.messages.specs.Meaning.{Meaning, fieldMeans, informationalMeans, controlMeans, contentOf, meaning}
 use Rattle.messages.specs.Answers.{fieldNumbers, fieldsNumbers, chunksNumbers, informationalNumbers, informationalLines, informationalIn, recordFrom, recordOf}
-use Rattle.messages.proofs.Noting.{kept-few}
+use Rattle.messages.proofs.Noting.{kept-few, trailers-few}
 use Rattle.messages.proofs.Valid.{meaning-ok}
 use Rattle.messages.specs.declared.Record.{Record}
 use Rattle.sound.specs.Placed.{Each, OfLine, OfStart, Lying}
 use Rattle.sound.specs.Sound.{GoodSection, GoodHeads, Sound}
-use Rattle.ranges.specs.Ranges.{headNumbers, Begins, Held, HeldServed}
-use Rattle.ranges.specs.Entries.{fieldIn, entryOf, fieldsIn, chunksIn, fieldsBefore, headIn, headsIn, partIn, meaningIn, EntryWithin, FieldsWithin, HeadsWithin, ChunksWithin, MessageWithin}
+use Rattle.sound.proofs.Each.{each-kept, each-trailers}
+use Rattle.ranges.specs.Ranges.{Stores, Begins, Held, HeldServed}
+use Rattle.ranges.specs.Entries.{fieldIn, entryOf, fieldsIn, chunksIn, fieldsBefore, headIn, headsIn, meaningIn, EntryWithin, FieldsWithin, HeadsWithin, ChunksWithin, MessageWithin}
 use Rattle.ranges.proofs.Stored.{numbers-append, numbers-length}
 use Rattle.messages.specs.declared.PathPrefix.{PathPrefix}
 
@@ -51,6 +52,9 @@ lies-next {o} {w} {k} {x} n h y = lies-behind (x ∷ []) w n h y
 -- what lies at a place is the part there
 pub lies-is : {s w : List ℕ} {at : ℕ} → Lies s at w → part s at (length w) ≡ w
 lies-is {s} {w} {at} y = elements-take 0 s at (length w) (lies-in y) ∙ lies-at y
+
+pub stores-part : {o l o′ : List ℕ} {a n : ℕ} → Stores o a l o′ → length l ≡ n → part o′ a n ≡ l
+stores-part x e = rw (sym e) (lies-is (x .lies))
 
 -- ---- fields
 
@@ -187,16 +191,6 @@ module _ (s cs : List ℕ) where
 
 -- ---- informational heads
 
--- what holds of each line holds of each that is kept
-pub each-kept : (P : FieldRead → Type 0) (host : Bool) (fs : List FieldRead) → Each P fs → Each P (kept host fs)
-unfolding kept
-each-kept P host [] h = tt
-each-kept P host (f ∷ fs) h = go (isEndToEnd host (lineKind f)) (each-kept P host fs (h .1))
-  where
-    go : (b : Bool) → Each P (kept host fs) → Each P (cond b (f ∷ kept host fs) (kept host fs))
-    go true ih = (h .0, ih)
-    go false ih = ih
-
 -- heads whose numbers stand in ns from the head i on and in hs, and which lie in s
 pub record HeadsAt (s hs ns : List ℕ) (i : ℕ) (is : List InformationalRead) : Type 0 where
   pub numbers : Lies ns (i * 2) (informationalNumbers is)
@@ -219,6 +213,21 @@ module _ (ns : List ℕ) where
   pub before-none : fieldsBefore ns 0 ≡ 0
   unfolding fieldsBefore
   before-none = refl
+
+  -- where the fields behind those of the heads begin, whose numbers stand from the head i on
+  pub before-are : (i : ℕ) (is : List InformationalRead) → Lies ns (i * 2) (informationalNumbers is) → fieldsBefore ns (i + length is) ≡ fieldsBefore ns i + length (informationalLines is)
+  unfolding informationalNumbers informationalLines
+  before-are i [] y = rw (add-zero i) (omega arith)
+  before-are i (h ∷ is) y =
+      let a = lies-next (i * 2 + 1) refl y in
+      let q : i + suc (length is) ≡ i + 1 + length is = omega arith in
+      rw q (omega (
+        arith,
+        before-are (i + 1) is (lies-next ((i + 1) * 2) (omega arith) a),
+        before-next i,
+        lies-first a,
+        length-append (kept true (h .lines)) (informationalLines is),
+      ))
 
 module _ (s hs ns : List ℕ) where
   first-head : (i : ℕ) (h : InformationalRead) (is : List InformationalRead) → HeadsAt s hs ns i (h ∷ is) → FirstHead s hs ns i h is
@@ -250,15 +259,6 @@ module _ (s hs ns : List ℕ) where
   heads-are i (h ∷ is) g =
       let f = first-head i h is g in
       rw (f .status, f .count, fields-mean s hs (fieldsBefore ns i) (kept true (h .lines)) (f .at), heads-are (i + 1) is (f .rest))
-
-  -- where the fields behind those of the heads begin
-  pub before-are : (i : ℕ) (is : List InformationalRead) → HeadsAt s hs ns i is → fieldsBefore ns (i + length is) ≡ fieldsBefore ns i + length (informationalLines is)
-  unfolding informationalLines
-  before-are i [] g = rw (add-zero i) (omega arith)
-  before-are i (h ∷ is) g =
-      let f = first-head i h is g in
-      let q : i + suc (length is) ≡ i + 1 + length is = omega arith in
-      rw q (omega (arith, before-are (i + 1) is (f .rest), f .next, length-append (kept true (h .lines)) (informationalLines is)))
 
   heads-inside : (i : ℕ) (is : List InformationalRead) → HeadsAt s hs ns i is → Each (λ h. GoodSection (h .lines)) is → (j : ℕ) → j < length is
       → FieldsWithin (length s) hs (fieldsBefore ns (i + j)) (getD ns ((i + j) * 2 + 1) 0)
@@ -323,7 +323,7 @@ module _ {s : List ℕ} {n : ℕ} {m : Message} {r : Record} {hs ns cs ts : List
   held-parts =
       let is : List InformationalRead = informationalIn (m .start) in
       let y = rw (numbers-append (informationalLines is) (kept (isResponse (m .start)) (m .lines))) at (begins-lies (h .fields)) in
-      let b = before-are s hs ns 0 is heads-at in
+      let b = before-are ns 0 is (heads-at .numbers) in
       let z : 0 + length is ≡ length is = omega arith in
       let q : fieldsBefore ns (length is) ≡ fieldsBefore ns 0 + length (informationalLines is) = rw z at b in
       record {
@@ -336,7 +336,7 @@ module _ {s : List ℕ} {n : ℕ} {m : Message} {r : Record} {hs ns cs ts : List
         chunks = record { numbers = lies-zero (0 * 2) (omega arith) (begins-lies (h .chunks)); lie = h .sound .placed .chunks };
         trailers = record {
           numbers = lies-zero (0 * 4) (omega arith) (begins-lies (h .trailers));
-          lie = each-kept (OfLine (Lying s)) false (m .trailers) (h .sound .placed .trailers);
+          lie = each-trailers (OfLine (Lying s)) (m .trailers) (h .sound .placed .trailers);
         };
       }
 
@@ -379,7 +379,7 @@ module _ (s : List ℕ) (n : ℕ) (m : Message) (hs ns cs ts : List ℕ) where
     chunks = chunks-within s cs (m .chunks) (p .chunks) (w .chunks .few);
     content = rw (chunks-are s cs 0 (m .chunks) (p .chunks));
     small = meaning-ok (meaning m) (w .valid) .content;
-    trailers = fields-within s ts 0 (kept false (m .trailers)) (p .trailers) (omega (arith, kept-few false (m .trailers), w .trailers .few));
+    trailers = fields-within s ts 0 (keptTrailers (m .trailers)) (p .trailers) (omega (arith, trailers-few (m .trailers), w .trailers .few));
   }
   within-with (responseStart is status) o g w p = record {
     method = omega arith;
@@ -390,7 +390,7 @@ module _ (s : List ℕ) (n : ℕ) (m : Message) (hs ns cs ts : List ℕ) where
     chunks = chunks-within s cs (m .chunks) (p .chunks) (w .chunks .few);
     content = rw (chunks-are s cs 0 (m .chunks) (p .chunks));
     small = meaning-ok (meaning m) (w .valid) .content;
-    trailers = fields-within s ts 0 (kept false (m .trailers)) (p .trailers) (omega (arith, kept-few false (m .trailers), w .trailers .few));
+    trailers = fields-within s ts 0 (keptTrailers (m .trailers)) (p .trailers) (omega (arith, trailers-few (m .trailers), w .trailers .few));
   }
 
 -- the laws that a writer needs of `Held`

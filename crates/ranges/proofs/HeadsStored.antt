@@ -10,7 +10,9 @@ use Rattle.output.proofs.Laws.{splice-append}
 use Rattle.messages.specs.Message.{FieldRead, InformationalRead}
 use Rattle.messages.specs.Names.{kept}
 use Rattle.messages.specs.Answers.{fieldsNumbers, informationalNumbers, informationalLines}
+use Rattle.ranges.specs.Ranges.{Stores}
 use Rattle.ranges.proofs.Stored.{numbers-append, numbers-length}
+use Rattle.ranges.proofs.Storing.{stores-then}
 
 pub lines-snoc : (is : List InformationalRead) (x : InformationalRead) → informationalLines (is ++ x ∷ []) ≡ informationalLines is ++ kept true (x .lines)
 unfolding informationalLines
@@ -33,11 +35,11 @@ numbers-long [] = refl
 numbers-long (i ∷ is) = omega (arith, numbers-long is)
 
 -- the kept fields b of one head more, behind the k fields a
-pub fields-more : (o₀ : List ℕ) (a b : List FieldRead) {o o′ : List ℕ} {k : ℕ} → length a ≡ k → o ≡ splice o₀ 0 (fieldsNumbers a)
-    → o′ ≡ splice o (k * 4) (fieldsNumbers b) → o′ ≡ splice o₀ 0 (fieldsNumbers (a ++ b))
-fields-more o₀ a b {o} {o′} {k} c e q =
+pub fields-more : (a b : List FieldRead) {o₀ o o′ : List ℕ} {k : ℕ} → length a ≡ k → Stores o₀ 0 (fieldsNumbers a) o → Stores o (k * 4) (fieldsNumbers b) o′
+    → Stores o₀ 0 (fieldsNumbers (a ++ b)) o′
+fields-more a b {k = k} c x y =
     let z : k * 4 ≡ 0 + length (fieldsNumbers a) = omega (arith, numbers-length a, c) in
-    q ∙ rw (e, z, splice-append o₀ 0 (fieldsNumbers a) (fieldsNumbers b), numbers-append a b) refl
+    rw (numbers-append a b) (stores-then x (rw z at y))
 
 -- the numbers of one head more, which has n kept fields, behind those of k heads
 pub numbers-more : (o₀ : List ℕ) (is : List InformationalRead) (x : InformationalRead) {o o′ : List ℕ} {k n : ℕ} → length is ≡ k

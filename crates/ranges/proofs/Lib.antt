@@ -1,6 +1,11 @@
+pub mod Storing
 pub mod Stored
-pub mod Outcomes
-pub mod ByValue
-pub mod Entries
+pub mod Gathering
 pub mod HeadsStored
+pub mod Outcomes
+pub mod Clearing
+pub mod Entries
+pub mod ByValue
 pub mod Content
+pub mod Dropping
+pub mod Leaving

@@ -8,7 +8,6 @@ use lib.ListN.{length, take, drop, length-append}
 use lib.Seq.{take-append-seam}
 use Rattle.octets.specs.Limits.{contentMost}
 use Rattle.script.specs.Script.{Answer, accepted, refused, more}
-use Rattle.script.specs.Do.{Piece}
 use Rattle.output.specs.Splice.{splice, part}
 use Rattle.output.proofs.Laws.{splice-is, splice-length, elements-take}
 use Rattle.messages.specs.Message.{InformationalRead, Start, requestStart, responseStart, isResponse, Message}
@@ -19,12 +18,13 @@ use Rattle.messages.specs.Answers.{fieldsNumbers, chunksNumbers, informationalN
 use Rattle.messages.specs.declared.Record.{Record}
 use Rattle.messages.specs.declared.Outcome.{Outcome}
 use Rattle.messages.specs.declared.Outcome.the-variants as outcome
-use Rattle.messages.proofs.Noting.{kept-few}
+use Rattle.messages.proofs.Noting.{kept-few, trailers-few}
 use Rattle.messages.proofs.Valid.{meaning-ok}
 use Rattle.sound.specs.Placed.{Each}
 use Rattle.sound.specs.Sound.{Sound, GoodHeads, GoodSection}
-use Rattle.ranges.specs.Ranges.{headNumbers, trailerNumbers, OutcomeSays, Outcomed, InformationalSays, Responded, SmallRecord, Begins, Held}
+use Rattle.ranges.specs.Ranges.{headNumbers, trailerNumbers, OutcomeSays, Outcomed, InformationalSays, Responded, Stores, SmallRecord, Begins, Held}
 use Rattle.ranges.proofs.Stored.{numbers-length, chunks-length}
+use Rattle.ranges.proofs.Storing.{stores-begins}
 
 -- what was stored at the front is what is taken from there
 pub front-part : (o l : List ℕ) (n : ℕ) → length l ≡ n → n ≤ length o → part (splice o 0 l) 0 n ≡ l
@@ -39,9 +39,9 @@ pub record Given (x : Answer Message) (hs hs′ cs cs′ ts ts′ : List ℕ) (r
   pub message : Message
   pub taken : x ≡ accepted long message
   pub numbers : r ≡ recordOf long message
-  pub fields : hs′ ≡ splice hs 0 (headNumbers message)
+  pub fields : Stores hs 0 (headNumbers message) hs′
   pub pieces : cs′ ≡ splice cs 0 (chunksNumbers (message .chunks))
-  pub trailers : ts′ ≡ splice ts 0 (trailerNumbers message)
+  pub trailers : Stores ts 0 (trailerNumbers message) ts′
 
 no-message : {A : Type 0} {k p : ℕ} {r : Record} → outcome.Refusal k p ≡ outcome.Message r → A
 no-message e = let z : _≡_ {A = ℕ} 0 1 = cc in absurd (omega arith)
@@ -82,6 +82,22 @@ response-outcomed h = record { says = h .says }
 
 -- ---- counts
 
+pub record-heads : (n : ℕ) (m : Message) → recordOf n m .informational ≡ length (informationalIn (m .start))
+unfolding recordOf
+record-heads n m = go (m .start)
+  where
+    go : (st : Start) → recordFrom st n m .informational ≡ length (informationalIn st)
+    go (requestStart q s a p) = refl
+    go (responseStart hs s) = refl
+
+pub record-headers : (n : ℕ) (m : Message) → recordOf n m .headers ≡ length (kept (isResponse (m .start)) (m .lines))
+unfolding recordOf
+record-headers n m = go (m .start)
+  where
+    go : (st : Start) → recordFrom st n m .headers ≡ length (kept (isResponse st) (m .lines))
+    go (requestStart q s a p) = refl
+    go (responseStart hs s) = refl
+
 pub record-chunks : (n : ℕ) (m : Message) → recordOf n m .chunks ≡ length (m .chunks)
 unfolding recordOf
 record-chunks n m = go (m .start)
@@ -114,7 +130,7 @@ sound-small s n m h = go (m .start) (h .heads)
           headers = omega (arith, kept-few false (m .lines), h .lines .few);
           chunks = h .chunks .few;
           content = content-small m (h .valid);
-          trailers = omega (arith, kept-few false (m .trailers), h .trailers .few);
+          trailers = omega (arith, trailers-few (m .trailers), h .trailers .few);
           long = h .long;
         }
     go (responseStart hs c) g =
@@ -123,7 +139,7 @@ sound-small s n m h = go (m .start) (h .heads)
           headers = omega (arith, kept-few true (m .lines), h .lines .few);
           chunks = h .chunks .few;
           content = content-small m (h .valid);
-          trailers = omega (arith, kept-few false (m .trailers), h .trailers .few);
+          trailers = omega (arith, trailers-few (m .trailers), h .trailers .few);
           long = h .long;
         }
 
@@ -179,7 +195,7 @@ module _ {s : List ℕ} {m : Message} (h : Sound s m) where
 
   pub trailers-small : length (trailerNumbers m) ≤ 256
   unfolding keptTrailers
-  trailers-small = omega (arith, numbers-length (kept false (m .trailers)), kept-few false (m .trailers), h .trailers .few)
+  trailers-small = omega (arith, numbers-length (keptTrailers (m .trailers)), trailers-few (m .trailers), h .trailers .few)
 
 -- ---- what a writer finds
 
@@ -213,10 +229,10 @@ module _ {x : Answer Message} {hs hs′ cs cs′ ts ts′ : List ℕ} {o : Outco
             record {
               sound = k;
               numbers = cc;
-              fields = begins hs (headNumbers m) (omega (arith, fields-small k, a)) (q .1);
+              fields = stores-begins (q .1);
               informational = begins ns (informationalNumbers (informationalIn (m .start))) (omega (arith, informational-small k, b)) i;
               chunks = begins cs (chunksNumbers (m .chunks)) (omega (arith, chunks-small k, c)) (q .2);
-              trailers = begins ts (trailerNumbers m) (omega (arith, trailers-small k, d)) (q .3);
+              trailers = stores-begins (q .3);
             },
           )
       go (refused j p) q i z = no-message (sym q ∙ e)
@@ -239,10 +255,10 @@ module _ {x : Answer Message} {hs hs′ cs cs′ ts ts′ : List ℕ} {o : Outco
             record {
               sound = k;
               numbers = cc;
-              fields = begins hs (headNumbers m) (omega (arith, request-fields-small k (z n m refl .1), a)) (q .1);
+              fields = stores-begins (q .1);
               informational = begins-none (m .start) ns (z n m refl .1);
               chunks = begins cs (chunksNumbers (m .chunks)) (omega (arith, chunks-small k, c)) (q .2);
-              trailers = begins ts (trailerNumbers m) (omega (arith, trailers-small k, d)) (q .3);
+              trailers = stores-begins (q .3);
             },
           )
       go (refused j p) q z = no-message (sym q ∙ e)

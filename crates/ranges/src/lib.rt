@@ -1,4 +1,7 @@
 // Ranges of messages in lent arrays of numbers: what every reader stores and every writer finds.
+pub mod named; // named.rt: fields that Connection lines name are dropped
+
+use messages::Kind;
 use messages::Outcome;
 use messages::Part;
 use messages::PathPrefix;
@@ -7,17 +10,23 @@ use messages::Reading;
 use messages::answers::more;
 use messages::answers::refusal;
 use messages::parts::prefix_len;
+use octets::Limits;
 use output::put_octet;
 use output::put_part;
 ghost use mathlib.Core.Path.{_≡_};
 ghost use mathlib.Core.List.{[], _∷_};
+ghost use mathlib.Core.Bool.{cond};
 ghost use Prim.Native.Nat.{_+_, _*_, _≤_, _<_};
 ghost use lib.ListN.{length, getD};
-ghost use Rattle.octets.specs.Limits.{informationalMost};
+ghost use Rattle.octets.specs.Limits.{linesMost, informationalMost};
 ghost use Rattle.output.specs.Splice.{splice, Put};
-ghost use Rattle.ranges.specs.Ranges.{placesEnd, StoredIf, readingFrom};
+ghost use Rattle.ranges.specs.Ranges.{placesEnd, StoredIf, CountsWithin, clearedFrom, readingFrom};
 ghost use Rattle.ranges.specs.Entries.{fieldsBefore, contentIn, ChunksWithin, PartWithin, pathIn, pathSize, pathBound};
+ghost use Rattle.ranges.specs.Connections.{connectionAt};
 ghost use Rattle.messages.specs.Message.{prefixOctets};
+ghost use Rattle.messages.specs.Names.{sameKind};
+ghost use Rattle.messages.specs.Room.{sectionRoom};
+ghost use Rattle.messages.specs.declared.Kind.the-variants.{Connection};
 
 // Two numbers are stored as the entry k: start and length of a chunk, or status and number of kept fields of an informational head.
 pub fn store(out: &mut [u32], k: usize, a: u32, b: u32)
@@ -27,6 +36,31 @@ pub fn store(out: &mut [u32], k: usize, a: u32, b: u32)
     let at = k * 2;
     out[at] = a;
     out[at + 1] = b;
+}
+
+// Whether a line is a Connection line.
+fn is_connection(kind: Kind) -> bool
+    ensures { λ r. ⌜ r ≡ sameKind kind Connection ⌝ }
+{
+    match kind {
+        Kind::Ordinary => false,
+        Kind::HopByHop => false,
+        Kind::Host => false,
+        Kind::ContentLength => false,
+        Kind::TransferEncoding => false,
+        Kind::Connection => true,
+    }
+}
+
+// A line of a section behind `base` fields, n Connection lines before it: where it is one too, start and length of its value are stored.
+pub fn store_connection(out: &mut [u32], base: usize, n: usize, kind: Kind, start: u32, len: u32)
+    requires { ⌜ (n < linesMost) × (base * 4 + sectionRoom ≤ length (now out)) ⌝ }
+    ensures { λ _. ⌜ now (out .exit) ≡ cond (sameKind kind Connection) (splice (now (out .entry)) (connectionAt base n) (start ∷ len ∷ [])) (now (out .entry)) ⌝ }
+{
+    if is_connection(kind) {
+        let entry = (base + Limits::LINES) * 2 - (n + 1);
+        return store(out, entry, start, len);
+    }
 }
 
 // A field that is kept is stored as the entry k: start and length of its name, start and length of its value.
@@ -53,31 +87,14 @@ pub fn keep(
     k
 }
 
-// A reader's answer by value, from its outcome and the ranges that it left; only a message has ranges.
-pub fn reading(
-    o: Outcome,
-    informational: [u32; 8],
-    headers: [u32; 1280],
-    trailers: [u32; 256],
-    chunks: [u32; 512],
-) -> Reading
-    ensures { λ r. ⌜ r ≡ readingFrom o informational headers trailers chunks ⌝ }
+// The numbers from the place `from` on become zero.
+fn clear_from(out: &mut [u32], from: usize)
+    ensures { λ _. ⌜ now (out .exit) ≡ clearedFrom from (now (out .entry)) ⌝ }
 {
-    match o {
-        Outcome::More => return more(),
-        Outcome::Refusal { number, place } => return refusal(number, place),
-        Outcome::Message(record) => {
-            let ranges = Ranges {
-                informational,
-                headers,
-                trailers,
-                chunks,
-            };
-            return Reading {
-                outcome: Outcome::Message(record),
-                ranges,
-            };
-        }
+    let mut i = from;
+    while i < out.len() {
+        out[i] = 0;
+        i += 1;
     }
 }
 
@@ -107,6 +124,40 @@ pub fn fields_before(heads: &[u32], n: usize) -> usize
         i += 1;
     }
     k
+}
+
+// A reader's answer by value, from its outcome and the ranges that it left; only a message has ranges.
+pub fn reading(
+    o: Outcome,
+    informational: [u32; 8],
+    headers: [u32; 1280],
+    trailers: [u32; 256],
+    chunks: [u32; 512],
+) -> Reading
+    requires { ⌜ CountsWithin o informational ⌝ }
+    ensures { λ r. ⌜ r ≡ readingFrom o informational headers trailers chunks ⌝ }
+{
+    match o {
+        Outcome::More => return more(),
+        Outcome::Refusal { number, place } => return refusal(number, place),
+        Outcome::Message(record) => {
+            let mut hs = headers;
+            let mut ts = trailers;
+            let fields = fields_before(&informational, record.informational) + record.headers;
+            clear_from(&mut hs, fields * 4);
+            clear_from(&mut ts, record.trailers * 4);
+            let ranges = Ranges {
+                informational,
+                headers: hs,
+                trailers: ts,
+                chunks,
+            };
+            return Reading {
+                outcome: Outcome::Message(record),
+                ranges,
+            };
+        }
+    }
 }
 
 // The octets of the first n chunks, one behind the other.

@@ -2,13 +2,15 @@
 use Prim.Native.Nat.{ℕ, _+_}
 use mathlib.Core.Path.{_≡_, refl, _∙_}
 use mathlib.Core.Bool.{Bool, true, false, cond}
-use mathlib.Core.List.{List, [], _∷_, _++_}
+use mathlib.Core.List.{List, [], _∷_, _++_, map}
 use native.Mathlib.Omega.{arith}
 use lib.ListN.{length, length-append}
+use Rattle.octets.specs.Text.{lowerOf}
 use Rattle.script.specs.Do.{Piece}
 use Rattle.script.proofs.Places.{lies-in}
 use Rattle.messages.specs.Message.{FieldRead, InformationalRead, Start, requestStart, responseStart, Message}
-use Rattle.messages.specs.Names.{lineKind, sameKind, linesOf}
+use Rattle.messages.specs.Connection.{isNamed}
+use Rattle.messages.specs.Names.{lineKind, sameKind, linesOf, isEndToEnd, endToEnd, connectionValues, unnamed, kept, keptTrailers}
 use Rattle.messages.specs.declared.Kind.{Kind}
 use Rattle.messages.specs.Meaning.{contentOf}
 use Rattle.sound.specs.Placed.{Each, OfLine, OfStart, OfParts, Lying, Inside, Placed}
@@ -32,6 +34,34 @@ each-of P k (f ∷ fs) h = go (sameKind (lineKind f) k) (each-of P k fs (h .1))
     go : (b : Bool) → Each P (linesOf k fs) → Each P (cond b (f ∷ linesOf k fs) (linesOf k fs))
     go true ih = (h .0, ih)
     go false ih = ih
+
+-- and of each that is kept
+module _ (P : FieldRead → Type 0) where
+  pub each-end-to-end : (host : Bool) (fs : List FieldRead) → Each P fs → Each P (endToEnd host fs)
+  unfolding endToEnd
+  each-end-to-end host [] h = tt
+  each-end-to-end host (f ∷ fs) h = go (isEndToEnd host (lineKind f)) (each-end-to-end host fs (h .1))
+    where
+      go : (b : Bool) → Each P (endToEnd host fs) → Each P (cond b (f ∷ endToEnd host fs) (endToEnd host fs))
+      go true ih = (h .0, ih)
+      go false ih = ih
+
+  pub each-unnamed : (vs : List (List ℕ)) (fs : List FieldRead) → Each P fs → Each P (unnamed vs fs)
+  unfolding unnamed
+  each-unnamed vs [] h = tt
+  each-unnamed vs (f ∷ fs) h = go (isNamed vs (map lowerOf (f .name .text))) (each-unnamed vs fs (h .1))
+    where
+      go : (b : Bool) → Each P (unnamed vs fs) → Each P (cond b (unnamed vs fs) (f ∷ unnamed vs fs))
+      go true ih = ih
+      go false ih = (h .0, ih)
+
+  pub each-kept : (host : Bool) (fs : List FieldRead) → Each P fs → Each P (kept host fs)
+  unfolding kept
+  each-kept host fs h = each-unnamed (connectionValues fs) (endToEnd host fs) (each-end-to-end host fs h)
+
+  pub each-trailers : (fs : List FieldRead) → Each P fs → Each P (keptTrailers fs)
+  unfolding keptTrailers
+  each-trailers fs h = each-end-to-end false fs h
 
 module _ (P Q : Piece → Type 0) (f : (p : Piece) → P p → Q p) where
   pub line-map : (x : FieldRead) → OfLine P x → OfLine Q x

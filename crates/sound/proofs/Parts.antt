@@ -151,9 +151,9 @@ parts-valid s m h =
     rw (
       response-is (m .start),
       h .control,
-      section-valid (isResponse (m .start)) (m .lines) (section-good s (m .lines) (h .lines)),
+      section-valid true (isResponse (m .start)) (m .lines) (section-good s (m .lines) (h .lines)),
       le-leb (length (contentOf (m .chunks))) contentMost (h .chunks .small),
-      section-valid false (m .trailers) (section-good s (m .trailers) (h .trailers)),
+      section-valid false false (m .trailers) (section-good s (m .trailers) (h .trailers)),
       h .body,
       h .stated,
     )

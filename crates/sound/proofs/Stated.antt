@@ -15,7 +15,8 @@ use Rattle.numbers.specs.Digits.{numOf}
 use Rattle.script.specs.Do.{Judged, good, wrong}
 use Rattle.messages.specs.Message.{FieldRead}
 use Rattle.messages.specs.Control.{isBodyless, endsAtHead}
-use Rattle.messages.specs.Names.{lineKind, sameKind, linesOf, isEndToEnd, kept}
+use Rattle.messages.specs.Names.{lineKind, sameKind, linesOf, isEndToEnd, endToEnd, connectionValues, kept}
+use Rattle.messages.proofs.Unnamed.{unnamed-few}
 use Rattle.messages.specs.Told.{isYes}
 use Rattle.messages.specs.Rules.{framingFrom, framingOf, binaryFramingOf, nothingStated, lengthAlone, bodylessRule, lengthIn}
 use Rattle.messages.specs.Notes.{isClashing}
@@ -32,24 +33,29 @@ use Rattle.sound.proofs.Rules.{nothing-stated}
 
 -- ---- the line of a stated length is not kept
 
-pub lengths-dropped : (host : Bool) (fs : List FieldRead) → length (kept host fs) + length (linesOf kind.ContentLength fs) ≤ length fs
-unfolding kept linesOf sameKind
-lengths-dropped host [] = omega arith
-lengths-dropped host (f ∷ fs) = go (lineKind f) (lengths-dropped host fs)
+lengths-beside : (host : Bool) (fs : List FieldRead) → length (endToEnd host fs) + length (linesOf kind.ContentLength fs) ≤ length fs
+unfolding endToEnd linesOf sameKind
+lengths-beside host [] = omega arith
+lengths-beside host (f ∷ fs) = go (lineKind f) (lengths-beside host fs)
   where
-    one : (b : Bool) → length (kept host fs) + length (linesOf kind.ContentLength fs) ≤ length fs
-        → length (cond b (f ∷ kept host fs) (kept host fs)) + length (linesOf kind.ContentLength fs) ≤ length (f ∷ fs)
+    one : (b : Bool) → length (endToEnd host fs) + length (linesOf kind.ContentLength fs) ≤ length fs
+        → length (cond b (f ∷ endToEnd host fs) (endToEnd host fs)) + length (linesOf kind.ContentLength fs) ≤ length (f ∷ fs)
     one true h = omega arith
     one false h = omega arith
 
-    go : (k : Kind) → length (kept host fs) + length (linesOf kind.ContentLength fs) ≤ length fs
-        → length (cond (isEndToEnd host k) (f ∷ kept host fs) (kept host fs))
+    go : (k : Kind) → length (endToEnd host fs) + length (linesOf kind.ContentLength fs) ≤ length fs
+        → length (cond (isEndToEnd host k) (f ∷ endToEnd host fs) (endToEnd host fs))
         + length (cond (sameKind k kind.ContentLength) (f ∷ linesOf kind.ContentLength fs) (linesOf kind.ContentLength fs)) ≤ length (f ∷ fs)
     go kind.Ordinary h = omega arith
     go kind.HopByHop h = omega arith
     go kind.Host h = one host h
     go kind.ContentLength h = omega arith
     go kind.TransferEncoding h = omega arith
+    go kind.Connection h = omega arith
+
+pub lengths-dropped : (host : Bool) (fs : List FieldRead) → length (kept host fs) + length (linesOf kind.ContentLength fs) ≤ length fs
+unfolding kept
+lengths-dropped host fs = omega (arith, unnamed-few (connectionValues fs) (endToEnd host fs), lengths-beside host fs)
 
 from-line : (fs cs : List FieldRead) (n p : ℕ) → framingFrom fs cs ≡ Stated n p → 1 ≤ length fs
 unfolding framingFrom

@@ -1,5 +1,5 @@
 use borrow.Author.Needs.{needs}
-use mathlib.Core.Path.{refl}
+use native.Mathlib.Omega.{arith}
 use Rattle.binary_parts.proofs.Sections.{header-none, header-some}
 use Rattle.binary_parts.proofs.lines.header_section.Statement.{statement}
 use Rattle.binary_parts.proofs.lines.header_section.Tie as tie
@@ -13,7 +13,7 @@ no-notes-requires : tie.Need-no-notes-requires
 no-notes-requires c κs = search needs
 
 returns : tie.Need-returns
-returns c = header-none _ (c .before .before .before .before .before .args .s .now) _ (c .before .before .is-headless .ensures) (c .before .if1 .taken) (c .before .before .before .before .before .pre .1) (c .before .before .before .before .before .pre .4) (c .no-notes .ensures) refl
+returns c = header-none _ (c .before .before .before .before .before .args .s .now) _ (c .before .before .is-headless .ensures) (c .before .if1 .taken) (c .before .before .before .before .before .pre .1) (c .before .before .before .before .before .pre .4) (c .no-notes .ensures) (omega (arith, c .before .before .before .before .before .pre .3))
 
 read-section-requires : tie.Need-read-section-requires
 read-section-requires c κs = c .before .before .before .before .before .pre

@@ -1,12 +1,13 @@
 use borrow.Author.Needs.{needs}
 use Rattle.binary_parts.proofs.Places.{integer-few}
 use native.Mathlib.Omega.{arith}
+use Rattle.ranges.proofs.Storing.{altered-none}
 use Prim.Native.Nat.{_+_}
 use mathlib.Core.Path.{_≡_, refl, sym, ap, _∙_}
 use lib.ListN.{length, take, drop}
 use Rattle.numbers.proofs.IntegerLaws.{int-within}
 use Rattle.binary_parts.proofs.Rest.{part-short}
-use Rattle.binary_parts.proofs.Sections.{sectioned-as, section-cut, section-short, section-body}
+use Rattle.binary_parts.proofs.Sections.{gathered-as, section-cut, section-short, section-body}
 use Rattle.binary_parts.proofs.lines.known_section.Statement.{statement}
 use Rattle.binary_parts.proofs.lines.known_section.Tie as tie
 use Rattle.binary_parts.proofs.lines.known_section.Reads as reads
@@ -22,13 +23,13 @@ enum-told : tie.Need-enum-told
 enum-told c = search needs
 
 returns : tie.Need-returns
-returns c = sectioned-as (section-cut _ (c .before .before .before .before .before .pre .4) (c .before .before .before .before .before .args .s .now) _ (sym (c .before .before .read-int .ensures .0) ∙ c .enum-told .given .1)) refl
+returns c = gathered-as (section-cut _ (c .before .before .before .before .before .pre .4) (c .before .before .before .before .before .args .s .now) _ (sym (c .before .before .read-int .ensures .0) ∙ c .enum-told .given .1)) (refl, altered-none _ _)
 
 sub-if1 : tie.Need-sub-if1
 sub-if1 c = omega (arith, int-within (c .before .before .before .before .before .before .args .s .now) (c .before .before .before .before .before .before .args .from .at) (sym (c .before .before .before .read-int .ensures .0) ∙ c .before .n .given .1))
 
 returns-2 : tie.Need-returns-2
-returns-2 c = sectioned-as (section-short _ (c .before .before .before .before .before .before .before .pre .4) (c .before .before .before .before .before .before .before .args .s .now) _ (sym (c .before .before .before .before .read-int .ensures .0) ∙ c .before .before .n .given .1) (c .if1 .taken)) refl
+returns-2 c = gathered-as (section-short _ (c .before .before .before .before .before .before .before .pre .4) (c .before .before .before .before .before .before .before .args .s .now) _ (sym (c .before .before .before .before .read-int .ensures .0) ∙ c .before .before .n .given .1) (c .if1 .taken)) (refl, altered-none _ _)
 
 add-known-lines : tie.Need-add-known-lines
 add-known-lines c = omega (arith, int-within (c .before .before .before .before .before .before .before .args .s .now) (c .before .before .before .before .before .before .before .args .from .at) (sym (c .before .before .before .before .read-int .ensures .0) ∙ c .before .before .n .given .1))

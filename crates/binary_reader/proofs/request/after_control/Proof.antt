@@ -1,6 +1,7 @@
 use borrow.Author.Needs.{needs}
 use native.Mathlib.Omega.{arith}
-use Rattle.binary_reader.proofs.SectionOutcomes.{header-lines, section-no, section-done}
+use Rattle.binary_parts.proofs.SectionLines.{header-lines}
+use Rattle.binary_reader.proofs.SectionOutcomes.{section-no, section-done}
 use Rattle.binary_reader.proofs.RequestLaws.{head-no, head-done}
 use Rattle.binary_reader.proofs.request.after_control.Statement.{statement}
 use Rattle.binary_reader.proofs.request.after_control.Tie as tie

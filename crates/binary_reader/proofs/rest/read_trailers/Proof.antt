@@ -1,6 +1,5 @@
 use borrow.Author.Needs.{needs}
 use native.Mathlib.Omega.{arith}
-use mathlib.Core.Path.{refl}
 use Rattle.binary_reader.proofs.Trailing.{trailers-none, trailers-no, trailers-good, trailers-bad}
 use Rattle.binary_reader.proofs.rest.read_trailers.Statement.{statement}
 use Rattle.binary_reader.proofs.rest.read_trailers.Tie as tie
@@ -8,7 +7,7 @@ use Rattle.binary_reader.proofs.rest.read_trailers.Reads as reads
 use Rattle.binary_reader.proofs.rest.read_trailers.Lts as lts
 
 returns : tie.Need-returns
-returns c = trailers-none (c .before .before .before .before .args .s .now) _ _ _ (c .before .before .before .before .pre .1) (c .before .before .before .before .pre .4) (c .if1 .taken) refl
+returns c = trailers-none (c .before .before .before .before .args .s .now) _ _ _ (c .before .before .before .before .pre .1) (c .before .before .before .before .pre .4) (c .if1 .taken)
 
 read-section-requires : tie.Need-read-section-requires
 read-section-requires c κs = (c .before .before .before .before .before .pre .0, c .before .before .before .before .before .pre .1, c .before .before .before .before .before .pre .2, omega (arith, c .before .before .before .before .before .pre .3), c .before .before .before .before .before .pre .4)

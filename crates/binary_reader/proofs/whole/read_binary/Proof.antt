@@ -1,7 +1,7 @@
 use borrow.Author.Needs.{needs}
 use native.Mathlib.Omega.{arith}
 use mathlib.Core.Path.{_∙_}
-use Rattle.binary_reader.proofs.WholeLaws.{binary-by-value}
+use Rattle.binary_reader.proofs.WholeLaws.{binary-counts, binary-by-value}
 use Rattle.binary_reader.proofs.whole.read_binary.Statement.{statement}
 use Rattle.binary_reader.proofs.whole.read_binary.Tie as tie
 use Rattle.binary_reader.proofs.whole.read_binary.Reads as reads
@@ -26,7 +26,7 @@ binary-in-requires : tie.Need-binary-in-requires
 binary-in-requires c κs = (c .before .before .before .before .before .class-table .ensures, omega arith, omega arith, omega arith, omega arith)
 
 reading-requires : tie.Need-reading-requires
-reading-requires c κs = search needs
+reading-requires c κs = binary-counts (c .before .before .before .before .before .before .before .before .before .before .before .before .args .told) (c .before .before .before .before .before .before .before .before .before .before .before .before .args .input .now) (c .before .before .before .before .binary-in .ensures)
 
 returns : tie.Need-returns
 returns c = c .reading .ensures ∙ binary-by-value (c .before .before .before .before .before .before .before .before .before .before .before .before .before .args .told) (c .before .before .before .before .before .before .before .before .before .before .before .before .before .args .input .now) (c .before .before .before .before .before .binary-in .ensures)

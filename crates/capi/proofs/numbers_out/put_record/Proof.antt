@@ -28,18 +28,21 @@ cast-put-six-5 c = omega (arith, c .before .before .before .before .before .befo
 put-six-requires : tie.Need-put-six-requires
 put-six-requires c κs = omega (arith, c .before .before .before .before .before .before .before .before .before .before .before .pre .0, c .before .before .before .before .before .before .before .before .put-control .ensures .next, c .before .before .before .before .before .before .before .before .put-control .kept)
 
+bit-requires : tie.Need-bit-requires
+bit-requires c κs = search needs
+
 cast-put-stated : tie.Need-cast-put-stated
-cast-put-stated c = omega (arith, c .before .before .before .before .before .before .before .before .before .before .before .before .before .before .before .before .pre .1 .long)
+cast-put-stated c = omega (arith, c .before .before .before .before .before .before .before .before .before .before .before .before .before .before .before .before .before .pre .1 .long)
 
 put-stated-requires : tie.Need-put-stated-requires
-put-stated-requires c κs = omega (arith, c .before .before .before .before .before .before .before .before .before .before .before .before .before .before .before .before .pre .0, c .before .before .before .before .before .before .before .before .before .before .before .before .before .put-control .ensures .next, c .before .before .before .before .before .before .before .before .before .before .before .before .before .put-control .kept, c .before .before .before .before .put-six .ensures .next, c .before .before .before .before .put-six .kept)
+put-stated-requires c κs = omega (arith, c .before .before .before .before .before .before .before .before .before .before .before .before .before .before .before .before .before .pre .0, c .before .before .before .before .before .before .before .before .before .before .before .before .before .before .put-control .ensures .next, c .before .before .before .before .before .before .before .before .before .before .before .before .before .before .put-control .kept, c .before .before .before .before .before .put-six .ensures .next, c .before .before .before .before .before .put-six .kept)
 
 same-length : tie.Need-same-length
-same-length c = search needs
+same-length c = omega (arith, c .before .before .before .before .before .before .before .before .before .before .before .before .before .before .before .before .before .put-control .kept, c .before .before .before .before .before .before .before .before .put-six .kept, c .before .before .put-stated .kept)
 
 returns : tie.Need-returns
 unfolding recordNumbers
-returns c = put-then (put-then (c .before .before .before .before .before .before .before .before .before .before .before .before .before .before .before .before .put-control .ensures) (c .before .before .before .before .before .before .before .put-six .ensures)) (c .before .before .put-stated .ensures)
+returns c = put-then (put-then (c .before .before .before .before .before .before .before .before .before .before .before .before .before .before .before .before .before .put-control .ensures) (c .before .before .before .before .before .before .before .before .put-six .ensures)) (rw (c .before .before .before .before .before .bit .ensures) at (c .before .before .put-stated .ensures))
 
 pub put-record-spec : {M : Type 1} → statement M
 put-record-spec =
@@ -52,6 +55,7 @@ put-record-spec =
     cast-put-six-4
     cast-put-six-5
     put-six-requires
+    bit-requires
     cast-put-stated
     put-stated-requires
     same-length

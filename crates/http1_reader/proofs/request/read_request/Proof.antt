@@ -1,7 +1,7 @@
 use borrow.Author.Needs.{needs}
 use native.Mathlib.Omega.{arith}
 use mathlib.Core.Path.{_∙_}
-use Rattle.http1_reader.proofs.Values.{request-by-value}
+use Rattle.http1_reader.proofs.Values.{request-counts, request-by-value}
 use Rattle.http1_reader.proofs.request.read_request.Statement.{statement}
 use Rattle.http1_reader.proofs.request.read_request.Tie as tie
 use Rattle.http1_reader.proofs.request.read_request.Reads as reads
@@ -23,7 +23,7 @@ request-in-requires : tie.Need-request-in-requires
 request-in-requires c κs = (c .before .before .before .before .class-table .ensures, omega arith, omega arith, omega arith)
 
 reading-requires : tie.Need-reading-requires
-reading-requires c κs = search needs
+reading-requires c κs = request-counts (c .before .before .before .before .before .before .before .before .before .before .args .told) (c .before .before .before .before .before .before .before .before .before .before .args .input .now) (c .before .before .before .request-in .ensures)
 
 returns : tie.Need-returns
 returns c = c .reading .ensures ∙ request-by-value (c .before .before .before .before .before .before .before .before .before .before .before .args .told) (c .before .before .before .before .before .before .before .before .before .before .before .args .input .now) (c .before .before .before .before .request-in .ensures)

@@ -16,26 +16,26 @@ enum-known-read c = search needs
 enum-known-read-2 : tie.Need-enum-known-read-2
 enum-known-read-2 c = search needs
 
-cast-t22 : tie.Need-cast-t22
-cast-t22 c = search needs
-
-cast-t22-2 : tie.Need-cast-t22-2
-cast-t22-2 c = search needs
-
 cast-t23 : tie.Need-cast-t23
 cast-t23 c = search needs
 
-add-t24 : tie.Need-add-t24
-add-t24 c = search needs
+cast-t23-2 : tie.Need-cast-t23-2
+cast-t23-2 c = search needs
+
+cast-t24 : tie.Need-cast-t24
+cast-t24 c = search needs
 
 add-t25 : tie.Need-add-t25
 add-t25 c = search needs
 
-cast-t22-3 : tie.Need-cast-t22-3
-cast-t22-3 c = search needs
+add-t26 : tie.Need-add-t26
+add-t26 c = search needs
 
-cast-t23-2 : tie.Need-cast-t23-2
-cast-t23-2 c = search needs
+cast-t23-3 : tie.Need-cast-t23-3
+cast-t23-3 c = search needs
+
+cast-t24-2 : tie.Need-cast-t24-2
+cast-t24-2 c = search needs
 
 request-record-requires : tie.Need-request-record-requires
 request-record-requires c κs = search needs
@@ -56,13 +56,13 @@ request-outcome-spec =
     enum-told
     enum-known-read
     enum-known-read-2
-    cast-t22
-    cast-t22-2
     cast-t23
-    add-t24
-    add-t25
-    cast-t22-3
     cast-t23-2
+    cast-t24
+    add-t25
+    add-t26
+    cast-t23-3
+    cast-t24-2
     request-record-requires
     returns
     returns-2

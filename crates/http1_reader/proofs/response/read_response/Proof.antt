@@ -1,7 +1,7 @@
 use borrow.Author.Needs.{needs}
 use native.Mathlib.Omega.{arith}
 use mathlib.Core.Path.{_∙_}
-use Rattle.http1_reader.proofs.Values.{response-by-value}
+use Rattle.http1_reader.proofs.Values.{response-counts, response-by-value}
 use Rattle.http1_reader.proofs.response.read_response.Statement.{statement}
 use Rattle.http1_reader.proofs.response.read_response.Tie as tie
 use Rattle.http1_reader.proofs.response.read_response.Reads as reads
@@ -26,7 +26,7 @@ response-in-requires : tie.Need-response-in-requires
 response-in-requires c κs = (c .before .before .before .before .before .class-table .ensures, omega arith, omega arith, omega arith, omega arith)
 
 reading-requires : tie.Need-reading-requires
-reading-requires c κs = search needs
+reading-requires c κs = response-counts (c .before .before .before .before .before .before .before .before .before .before .before .before .args .told) (c .before .before .before .before .before .before .before .before .before .before .before .before .args .input .now) (c .before .before .before .before .response-in .ensures)
 
 returns : tie.Need-returns
 returns c = c .reading .ensures ∙ response-by-value (c .before .before .before .before .before .before .before .before .before .before .before .before .before .args .told) (c .before .before .before .before .before .before .before .before .before .before .before .before .before .args .input .now) (c .before .before .before .before .before .response-in .ensures)
