@@ -53,12 +53,12 @@ static void add_json(struct message *m, size_t first, size_t len)
         add_octets(m, &json[i % 61], 1);
 }
 
-/* 30 fields, a line of Connection or nothing first behind Host; so many are kept. */
-static struct message post_with_30(const char *connection, size_t kept)
+/* 30 fields: Host, these lines, settings of the reader and the length; so many are kept. */
+static struct message post_with_30(const char *lines, int settings, size_t kept)
 {
     struct message m = begin(30, kept, 61);
-    add(&m, "POST /scans/17 HTTP/1.1\r\nHost: gateway-4.flock.example\r\n%s", connection);
-    for (int i = 1; i <= (*connection ? 27 : 28); i++)
+    add(&m, "POST /scans/17 HTTP/1.1\r\nHost: gateway-4.flock.example\r\n%s", lines);
+    for (int i = 1; i <= settings; i++)
         add(&m, "X-Reader-Setting-%02d: value %02d of twenty-eight, %s\r\n", i, i, i % 2 ? "as configured" : "as measured");
     add(&m, "Content-Length: 61\r\n\r\n");
     m.head = m.len;
@@ -77,8 +77,8 @@ static void make_posts(void)
     add_json(&small, 0, 61);
     check_size("length of the scan post", small.len, 226);
 
-    fields30 = post_with_30("", 28);
-    connection30 = post_with_30("Connection: keep-alive, X-Reader-Setting-07\r\n", 26);
+    fields30 = post_with_30("", 28, 28);
+    connection30 = post_with_30("X-Antenna: 3\r\nConnection: keep-alive, X-Antenna\r\n", 26, 26);
 
     by_length = begin(3, 1, 32768);
     add(&by_length, "POST /scans/17 HTTP/1.1\r\nHost: gateway-4.flock.example\r\nContent-Type: application/json\r\nContent-Length: 32768\r\n\r\n");

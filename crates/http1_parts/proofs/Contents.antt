@@ -1,5 +1,5 @@
 -- Content that was read: chunks one behind the other, the trailers behind the last, content by its length.
-use Prim.Native.Nat.{ℕ, zero, suc, _+_, _-_, _*_, _<_, _≤_}
+use Prim.Native.Nat.{ℕ, suc, _+_, _-_, _*_, _<_, _≤_}
 use mathlib.Core.Path.{_≡_, refl, sym, ap, _∙_, subst}
 use mathlib.Core.List.{List, [], _∷_, _++_, append-nil}
 use mathlib.Core.Bool.{Bool, true, false, cond}
@@ -10,7 +10,7 @@ use lib.Seq.{length-take-le}
 use Rattle.octets.specs.Text.{isEmpty}
 use Rattle.octets.specs.Limits.{trailerMost, chunkLineMost, chunksMost, contentMost}
 use Rattle.octets.specs.Refusals.{badLength, tooLarge}
-use Rattle.script.specs.Script.{Answer, accepted, refused, more, Script, done, stop, need, run}
+use Rattle.script.specs.Script.{Answer, accepted, refused, more, done, stop, run}
 use Rattle.script.specs.Do.{_>>=_, andThen, Piece, piece}
 use Rattle.script.proofs.Laws.{run-done, run-stop}
 use Rattle.script.proofs.Places.{run-bind, octets-more, octets-in}
@@ -18,7 +18,6 @@ use Rattle.output.specs.Splice.{splice}
 use Rattle.ranges.specs.Ranges.{Stores}
 use Rattle.ranges.proofs.Stored.{chunk-next}
 use Rattle.ranges.proofs.Storing.{altered-none, stores-none}
-use Rattle.output.proofs.Laws.{splice-append, splice-length}
 use Rattle.messages.specs.Names.{areTrailers, endToEnd, keptTrailers}
 use Rattle.messages.specs.Meaning.{contentOf}
 use Rattle.messages.specs.Answers.{fieldsNumbers, chunksNumbers}
@@ -36,7 +35,7 @@ use Rattle.http1_parts.specs.declared.ChunkRead.{ChunkRead}
 use Rattle.http1_parts.specs.declared.ChunkRead.the-variants as read
 use Rattle.http1_parts.specs.declared.ContentRead.{ContentRead}
 use Rattle.http1_parts.specs.declared.ContentRead.the-variants.{Done, Refused, More}
-use Rattle.http1_parts.proofs.Outcomes.{section-end, section-more, section-refused, section-done, SectionDone}
+use Rattle.http1_parts.proofs.Outcomes.{section-end, section-more, section-refused, section-done}
 
 -- an answer that equals another promises the same
 pub contented-as : {x y : Answer Content} {cs cs′ ts ts′ : List ℕ} {r : ContentRead} → x ≡ y → Contented y cs cs′ ts ts′ r → Contented x cs cs′ ts ts′ r
@@ -80,7 +79,7 @@ module _ (s : List ℕ) (at count total : ℕ) {ts ts′ : List ℕ} {r : Sectio
         let n : k ≡ length (endToEnd false (d .lines)) = omega (arith, d .counted) in
         record {
           says = λ cs o o′ a b c.
-              contented-as {y = accepted (d .place) (record { chunks = cs; trailers = d .lines })} (goes cs (d .taken) ∙ rw (judged g, run-done)) (record { says = (same-done z (sym a) (sym b) n, c, d .stored) });
+              contented-as {y = accepted (d .place) (record { chunks = cs; trailers = d .lines })} (goes cs (d .taken) ∙ rw (judged g, run-done)) (record { says = (same-done z (sym a) (sym b) n, c, d .stored .fields) });
         }
 
     pub trailers-bad : t ≡ false → Trailed s at count total ts ts′ (Refused badLength end)

@@ -4,4 +4,5 @@ pub mod Turns
 pub mod Taking
 pub mod ChunkTurns
 pub mod Outcomes
+pub mod Headers
 pub mod Contents

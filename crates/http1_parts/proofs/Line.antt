@@ -1,7 +1,7 @@
 -- A field line that was taken, as the code makes it, and what the next line of a section tells.
-use Prim.Native.Nat.{ℕ, zero, suc, _+_, _-_, _*_, _<_, _≤_}
+use Prim.Native.Nat.{ℕ, _+_, _-_, _≤_}
 use mathlib.Core.Path.{_≡_, refl, sym, ap, _∙_}
-use mathlib.Core.List.{List, [], _∷_, _++_, map}
+use mathlib.Core.List.{List, [], _∷_, map}
 use mathlib.Core.Bool.{Bool, true, false, cond}
 use native.Mathlib.Omega.{arith}
 use borrow.Author.Tests.{eqb-true, eqb-false}
@@ -10,17 +10,16 @@ use lib.ListN.{length, take, drop, length-drop}
 use lib.Seq.{length-take-le}
 use Rattle.octets.specs.Text.{lowerOf, isEmpty}
 use Rattle.script.specs.Script.{lineOf}
-use Rattle.script.specs.Do.{Piece, piece, Judged, good, wrong}
+use Rattle.script.specs.Do.{piece, good, wrong}
 use Rattle.script.specs.declared.Line.{Line}
 use Rattle.script.specs.declared.Line.the-variants.{Ends, Bad, Long, More}
-use Rattle.messages.specs.Message.{FieldRead}
 use Rattle.messages.specs.Names.{kindOf, lineKind, isEndToEnd}
 use Rattle.messages.specs.Notes.{isNoted, noteOf, noteLine}
 use Rattle.messages.specs.declared.Notes.{Notes}
 use Rattle.messages.proofs.Noting.{noted-nothing}
 use Rattle.messages.specs.declared.Kind.{Kind}
 use Rattle.octets.specs.Refusals.{badSyntax}
-use Rattle.http1.specs.Lines.{onField, fieldLens, fieldOf}
+use Rattle.http1.specs.Lines.{fieldLens, fieldOf}
 use Rattle.http1.specs.Next.{ofField, lineJudged, onLine, nextLine}
 use Rattle.http1.specs.declared.FieldLine.{FieldLine}
 use Rattle.http1.specs.declared.FieldLine.the-variants as field

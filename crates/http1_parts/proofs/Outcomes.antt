@@ -1,6 +1,6 @@
 -- What a section that was read says to its caller, by its outcome.
-use Prim.Native.Nat.{ℕ, zero, suc, _+_, _-_, _*_, _<_, _≤_}
-use mathlib.Core.Path.{_≡_, refl, sym, ap, _∙_, subst}
+use Prim.Native.Nat.{ℕ, zero, suc, _+_, _-_, _≤_}
+use mathlib.Core.Path.{_≡_, refl, _∙_, subst}
 use mathlib.Core.List.{List, [], _∷_, _++_}
 use mathlib.Core.Bool.{Bool, true, false, cond}
 use native.Mathlib.Omega.{arith}
@@ -11,15 +11,14 @@ use lib.Seq.{length-take-le}
 use Rattle.octets.specs.Text.{isEmpty}
 use Rattle.octets.specs.Limits.{linesMost}
 use Rattle.octets.specs.Refusals.{tooLarge}
-use Rattle.script.specs.Script.{Answer, accepted, refused, more, Script, done, stop, need, run, Every}
+use Rattle.script.specs.Script.{Answer, accepted, refused, more, Script, done, stop, run, Every}
 use Rattle.script.proofs.Places.{run-bind}
-use Rattle.script.specs.Do.{_>>=_, Piece, piece, word, tell, Judged, good}
+use Rattle.script.specs.Do.{_>>=_, Piece, piece, word, tell, good}
 use Rattle.script.proofs.Do.{every-bind, every-tell}
 use Rattle.script.proofs.Sound.{sound, says}
 use Rattle.messages.specs.Message.{FieldRead}
 use Rattle.messages.specs.Names.{keptOf}
 use Rattle.messages.specs.Notes.{notesOf}
-use Rattle.messages.specs.Answers.{fieldsNumbers}
 use Rattle.messages.specs.declared.Notes.{Notes}
 use Rattle.http1.specs.Lines.{onField, fieldLens, fieldOf}
 use Rattle.http1.specs.declared.FieldLine.{FieldLine}
@@ -28,8 +27,7 @@ use Rattle.http1.specs.Read.{Lines, lineWithin, less, fieldLines, section}
 use Rattle.http1.proofs.Views.{field-within}
 use Rattle.sound.specs.Placed.{Each}
 use Rattle.sound.proofs.Each.{each-snoc, each-map}
-use Rattle.ranges.specs.Ranges.{AlteredFrom, Stores}
-use Rattle.http1_parts.specs.Section.{Before, SectionSays, Sectioned}
+use Rattle.http1_parts.specs.Section.{Before, LinesStored, SectionSays, Sectioned}
 use Rattle.http1_parts.specs.declared.Section.{Section}
 use Rattle.http1_parts.specs.declared.Section.the-variants.{Done, Refused, More}
 
@@ -105,7 +103,7 @@ pub record SectionDone (x : Answer Lines) (headers host : Bool) (base : ℕ) (o 
   pub taken : x ≡ accepted place (linesWith lines end left)
   pub counted : count ≡ base + length (keptOf headers host lines)
   pub noted : notes ≡ notesOf true lines
-  pub stored : Stores o (base * 4) (fieldsNumbers (keptOf headers host lines)) o′
+  pub stored : LinesStored headers host base lines o o′
 
 module _ {x : Answer Lines} {headers host : Bool} {base : ℕ} {o o′ : List ℕ} {r : Section} (h : Sectioned x headers host base o o′ r) where
   pub section-more : r ≡ More → x ≡ more
@@ -137,15 +135,6 @@ module _ {x : Answer Lines} {headers host : Bool} {base : ℕ} {o o′ : List �
           record { place = m; lines = l .lines; taken = rw (a, b); counted = c; noted = n; stored = q .1 }
       go (refused m k) q = let d = q .0 in let z : _≡_ {A = ℕ} 0 1 = cc in absurd (omega arith)
       go more q = let d = q .0 in let z : _≡_ {A = ℕ} 0 1 = cc in absurd (omega arith)
-
-  -- whatever it says, nothing before it is altered
-  pub section-altered : AlteredFrom (base * 4) o o′
-  section-altered = go x (h .says)
-    where
-      go : (y : Answer Lines) → SectionSays y headers host base o o′ r → AlteredFrom (base * 4) o o′
-      go (accepted n l) q = q .1 .altered
-      go (refused n p) q = q .1
-      go more q = q .1
 
 -- ---- a section, and what goes on behind it
 

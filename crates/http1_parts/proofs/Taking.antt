@@ -10,16 +10,14 @@ use Rattle.octets.specs.Limits.{linesMost}
 use Rattle.output.specs.Splice.{splice}
 use Rattle.output.proofs.Laws.{splice-length}
 use Rattle.messages.specs.Message.{FieldRead}
-use Rattle.messages.specs.Names.{linesOf, sameKind, endToEnd, keptOf}
+use Rattle.messages.specs.Names.{linesOf, sameKind, endToEnd}
 use Rattle.messages.specs.Notes.{isNoted, noNotes, noteOf, noteLine, notesOf}
-use Rattle.messages.specs.Answers.{fieldsNumbers}
 use Rattle.messages.specs.declared.Kind.{Kind}
 use Rattle.messages.specs.declared.Kind.the-variants as kind
 use Rattle.messages.specs.declared.Notes.{Notes}
 use Rattle.messages.proofs.Noting.{notes-none, notes-more, notes-connections}
-use Rattle.sound.specs.Placed.{Each, OfLine, Lying}
-use Rattle.ranges.specs.Ranges.{StoredIf, AlteredFrom, Stores}
-use Rattle.ranges.specs.Connections.{connectionAt, Gathered, GatheredFacts, LinesGathered, Kept}
+use Rattle.ranges.specs.Ranges.{StoredIf, AlteredFrom}
+use Rattle.ranges.specs.Connections.{connectionAt, Gathered}
 use Rattle.ranges.proofs.Gathering.{gathered-none, gathered-more, gathered-unnoted, gathered-count, gathered-room, connection-room}
 use Rattle.http1_parts.specs.Section.{FieldRoom, SectionRoom, lineAt, LineTaken}
 use Rattle.http1_parts.specs.declared.LineRead.{LineRead}
@@ -104,20 +102,6 @@ module _ {host : Bool} {base : ℕ} {fs : List FieldRead} {o o₁ : List ℕ} {l
 
   -- ---- no line more
 
-  module _ {s : List ℕ} (lying : Each (OfLine (Lying s)) fs) where
-    facts : GatheredFacts s host base fs count (notes .connections) o o₁
-    facts = record {
-      gathered = h .gathered;
-      fields = h .counted;
-      lines = connections-are;
-      few = omega (arith, h .number, h .few);
-      lying = lying;
-    }
-
-    pub taken-known : LinesGathered s base count (notes .connections) o₁
-    taken-known = (host, fs, o, facts)
-
-    pub taken-kept : {headers : Bool} {o₂ : List ℕ} {r end left : ℕ} → Kept s headers base count (notes .connections) o₁ o₂ r
-        → (Done end left r notes ≡ Done end left (base + length (keptOf headers host fs)) (notesOf true fs))
-        × Stores o (base * 4) (fieldsNumbers (keptOf headers host fs)) o₂
-    taken-kept k = let y = k .by host fs o facts in (rw (y .0, h .noted), y .1)
+  pub taken-all : {end left rest : ℕ} → left ≡ rest
+      → (Done end left count notes ≡ Done end rest (base + length (endToEnd host fs)) (notesOf true fs)) × Gathered host base fs o o₁
+  taken-all e = (rw (e, h .counted, h .noted), h .gathered)

@@ -1,24 +1,24 @@
 -- One turn of the section loop, by what the next line is.
-use Prim.Native.Nat.{ℕ, zero, suc, _+_, _-_, _*_, _<_, _≤_}
-use mathlib.Core.Path.{_≡_, refl, sym, ap, _∙_, subst}
-use mathlib.Core.List.{List, [], _∷_, _++_, append-assoc}
+use Prim.Native.Nat.{ℕ, suc, _+_, _-_, _<_, _≤_}
+use mathlib.Core.Path.{_≡_, refl, sym, _∙_, subst}
+use mathlib.Core.List.{List, [], _∷_, _++_}
 use mathlib.Core.Bool.{Bool, true, false, cond}
 use native.Mathlib.Omega.{arith}
 use borrow.Author.Tests.{eq-eqb, ne-eqb, le-leb, lt-leb, leb-true, leb-false}
 use lib.Dec.{eqb, leb}
-use lib.ListN.{length, take, drop, length-append, length-drop}
+use lib.ListN.{length, take, drop, length-drop}
 use lib.Seq.{length-take-le}
 use Rattle.octets.specs.Text.{isEmpty}
 use Rattle.octets.specs.Limits.{linesMost}
 use Rattle.octets.specs.Refusals.{badSyntax, tooLarge}
-use Rattle.script.specs.Script.{Answer, accepted, refused, more, Script, done, stop, need, run, lineOf}
-use Rattle.script.specs.Do.{_>>=_, Piece, piece, word, tell, Judged, good, wrong}
+use Rattle.script.specs.Script.{Answer, accepted, refused, more, run, lineOf}
+use Rattle.script.specs.Do.{_>>=_, piece, good, wrong}
 use Rattle.script.specs.declared.Line.the-variants.{Ends, Bad, Long, More}
 use Rattle.script.proofs.Laws.{run-done, run-stop}
 use Rattle.script.proofs.Places.{line-more, line-bad, line-long, line-ends, line-within}
 use Rattle.messages.specs.Message.{FieldRead}
 use Rattle.http1.specs.Lines.{fieldOf}
-use Rattle.http1.specs.Read.{Lines, lineWithin, fieldLines}
+use Rattle.http1.specs.Read.{Lines, fieldLines}
 use Rattle.http1_parts.specs.Section.{noField, lineAt, SectionSays, Sectioned}
 use Rattle.http1_parts.proofs.Line.{EmptyLine, FieldAt, NoFieldAt, field-bad, field-good, line-bounds}
 use Rattle.http1_parts.specs.declared.Section.{Section}
@@ -77,7 +77,7 @@ module _ (s : List ℕ) (i left f : ℕ) (fs : List FieldRead) where
 -- ---- by what the next line tells
 
 module _ (s : List ℕ) (i left f : ℕ) (fs : List FieldRead) (within : i ≤ length s) where
-  empty-at : {next : ℕ} (x : EmptyLine s i left next) → next - 2 ≡ i
+  pub empty-at : {next : ℕ} (x : EmptyLine s i left next) → next - 2 ≡ i
   empty-at {next} x = omega (arith, x .none, long-as s i left f fs next (x .ends) within, line-within s left i next within (x .ends))
 
   pub turn-empty : {next : ℕ} → EmptyLine s i left next → run (fieldLines (suc f) left fs) i (drop i s) ≡ accepted next (record { lines = fs; end = next; left = left - 2 })
@@ -107,8 +107,8 @@ module _ (s : List ℕ) (i left f : ℕ) (fs : List FieldRead) (within : i ≤ l
     pub turn-over : linesMost ≤ length fs → run (fieldLines (suc f) left fs) i (drop i s) ≡ refused tooLarge i
     turn-over g = turn-full s i left f fs next (x .ends) within not-empty g
 
-    pub turn-taken : (g′ : ℕ) → f ≡ suc g′ → length fs < linesMost
-        → run (fieldLines (suc f) left fs) i (drop i s) ≡ run (fieldLines (suc g′) (left - (next - i)) (fs ++ lineAt s i n (i + v) l ∷ [])) next (drop next s)
-    turn-taken g′ z g =
+    pub turn-taken : (g′ rest : ℕ) → f ≡ suc g′ → left - (next - i) ≡ rest → length fs < linesMost
+        → run (fieldLines (suc f) left fs) i (drop i s) ≡ run (fieldLines (suc g′) rest (fs ++ lineAt s i n (i + v) l ∷ [])) next (drop next s)
+    turn-taken g′ rest z y g =
         let w = field-bounds in
-        turn-field s i left f fs next (x .ends) within not-empty g g′ z (field-good s i (next - 2) n v l (omega (arith, w)) (omega (arith, w)) (x .field))
+        rw (← y) (turn-field s i left f fs next (x .ends) within not-empty g g′ z (field-good s i (next - 2) n v l (omega (arith, w)) (omega (arith, w)) (x .field)))

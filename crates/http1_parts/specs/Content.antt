@@ -1,9 +1,9 @@
 -- What the code that reads content promises, in terms of the script `content` (http1/specs/Read; 01, "HTTP/1.1 as we take it": lengths and chunks).
-use Prim.Native.Nat.{ℕ, _+_, _*_, _≤_}
+use Prim.Native.Nat.{ℕ, _≤_}
 use mathlib.Core.Path.{_≡_}
-use mathlib.Core.List.{List, [], _∷_}
+use mathlib.Core.List.{List}
 use lib.ListN.{length}
-use Rattle.octets.specs.Limits.{chunksMost, contentMost}
+use Rattle.octets.specs.Limits.{contentMost}
 use Rattle.script.specs.Script.{Answer, accepted, refused, more}
 use Rattle.output.specs.Splice.{splice}
 use Rattle.messages.specs.Names.{keptTrailers}

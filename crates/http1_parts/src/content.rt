@@ -37,7 +37,7 @@ fn read_trailers(
     requires { ⌜ (now t ≡ classes) × (from ≤ length (now s)) × (from + trailerMost < placesEnd) × (sectionRoom ≤ length (now out)) ⌝ }
     ensures { λ r. ⌜ Trailed (now (s .entry)) from count total (now (out .entry)) (now (out .exit)) r ⌝ }
 {
-    let h = read_section(t, s, from, Limits::TRAILER, false, false, 0, out);
+    let h = read_section(t, s, from, Limits::TRAILER, false, 0, out);
     match h {
         Section::More => return ContentRead::More,
         Section::Refused { number, place } => return ContentRead::Refused { number, place },

@@ -15,6 +15,7 @@ use ranges::keep;
 use ranges::named::drop_named;
 use ranges::store_connection;
 ghost use mathlib.Core.Path.{_≡_};
+ghost use mathlib.Core.Bool.{true, false};
 ghost use Prim.Native.Nat.{_+_, _-_, _*_, _≤_, _<_};
 ghost use lib.ListN.{length, drop};
 ghost use Rattle.octets.specs.Table.{classes};
@@ -52,28 +53,27 @@ fn take_line(
     LineRead { kind, kept: k }
 }
 
-// The field lines from `from` on, up to the empty line: at most 64 of them and at most `allowance` octets. Kept fields are stored behind the `base`
-// fields that stand in `out`; `headers` says whether it is a header section, of which the fields that its Connection lines name are not kept.
+// The field lines from `from` on, up to the empty line: at most 64 of them and at most `allowance` octets. End-to-end fields are stored behind the `base`
+// fields that stand in `out`, and where the values of Connection lines stand from the end of the section's room on, downwards.
 pub fn read_section(
     t: &[u8; 256],
     s: &[u8],
     from: usize,
     allowance: usize,
-    headers: bool,
     host: bool,
     base: usize,
     out: &mut [u32],
 ) -> Section
     requires { ⌜ (now t ≡ classes) × (from ≤ length (now s)) × (from + allowance < placesEnd) × SectionRoom base (now out) ⌝ }
-    ensures { λ r. ⌜ Sectioned (run (section allowance) from (drop from (now (s .entry)))) headers host base (now (out .entry)) (now (out .exit)) r ⌝ }
+    ensures { λ r. ⌜ Sectioned (run (section allowance) from (drop from (now (s .entry)))) false host base (now (out .entry)) (now (out .exit)) r ⌝ }
 {
+    let end = from + allowance;
     let mut i = from;
-    let mut left = allowance;
     let mut lines: usize = 0;
     let mut count = base;
     let mut notes = no_notes();
     loop {
-        let l = next_line(t, s, i, left);
+        let l = next_line(t, s, i, end - i);
         match l {
             NextLine::More => return Section::More,
             NextLine::Bad => return Section::Refused {
@@ -84,15 +84,12 @@ pub fn read_section(
                 number: Refusals::TOO_LARGE,
                 place: i,
             },
-            NextLine::Empty { next } => {
-                let kept = drop_named(s, out, headers, base, count, notes.connections);
-                return Section::Done {
-                    end: next,
-                    left: left - 2,
-                    kept,
-                    notes,
-                };
-            }
+            NextLine::Empty { next } => return Section::Done {
+                end: next,
+                left: end - next,
+                kept: count,
+                notes,
+            },
             NextLine::NoField => return Section::Refused {
                 number: no_field(lines),
                 place: i,
@@ -114,7 +111,6 @@ pub fn read_section(
                 let kind = taken.kind;
                 count = taken.kept;
                 lines += 1;
-                left = left - (next - i);
                 if is_noted(kind) {
                     let w = v + len;
                     store_connection(out, base, notes.connections, kind, v as u32, len as u32);
@@ -134,4 +130,38 @@ fn no_field(lines: usize) -> u32
         return Refusals::TOO_LARGE;
     }
     Refusals::BAD_SYNTAX
+}
+
+// A header section from `from` on: the same, without the fields that its Connection lines name.
+pub fn read_headers(
+    t: &[u8; 256],
+    s: &[u8],
+    from: usize,
+    allowance: usize,
+    host: bool,
+    base: usize,
+    out: &mut [u32],
+) -> Section
+    requires { ⌜ (now t ≡ classes) × (from ≤ length (now s)) × (from + allowance < placesEnd) × SectionRoom base (now out) ⌝ }
+    ensures { λ r. ⌜ Sectioned (run (section allowance) from (drop from (now (s .entry)))) true host base (now (out .entry)) (now (out .exit)) r ⌝ }
+{
+    let h = read_section(t, s, from, allowance, host, base, out);
+    match h {
+        Section::More => return Section::More,
+        Section::Refused { number, place } => return Section::Refused { number, place },
+        Section::Done {
+            end,
+            left,
+            kept: count,
+            notes,
+        } => {
+            let kept = drop_named(s, out, true, base, count, notes.connections);
+            return Section::Done {
+                end,
+                left,
+                kept,
+                notes,
+            };
+        }
+    }
 }

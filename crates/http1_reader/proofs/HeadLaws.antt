@@ -1,11 +1,11 @@
 -- A request's head, judged by notes, is judged by its lines.
 use Prim.Native.Nat.{ℕ}
-use mathlib.Core.Path.{_≡_, refl, sym, ap, _∙_, subst}
-use mathlib.Core.List.{List, [], _∷_}
-use mathlib.Core.Bool.{Bool, true, false}
+use mathlib.Core.Path.{_≡_, refl, sym, ap, _∙_}
+use mathlib.Core.List.{List}
+use mathlib.Core.Bool.{true}
 use lib.ListN.{length}
 use Rattle.octets.specs.Refusals.{badHost}
-use Rattle.script.specs.Do.{Piece, piece, Judged, good, wrong}
+use Rattle.script.specs.Do.{Piece, piece, good, wrong}
 use Rattle.messages.specs.Message.{FieldRead}
 use Rattle.messages.specs.Names.{linesOf}
 use Rattle.messages.specs.Notes.{notesOf, hostsFrom, targetNoted, AllLie, bodyAnswer}
@@ -15,15 +15,13 @@ use Rattle.messages.specs.declared.Authority.the-variants.{Found, Wrong}
 use Rattle.messages.specs.declared.Body.{Body}
 use Rattle.messages.specs.declared.BodyAnswer.{BodyAnswer}
 use Rattle.messages.specs.declared.BodyAnswer.the-variants as body
-use Rattle.messages.specs.declared.Hosts.{Hosts}
 use Rattle.messages.specs.declared.Framing.{Framing}
 use Rattle.messages.specs.declared.Kind.the-variants as kind
 use Rattle.messages.specs.declared.Notes.{Notes}
 use Rattle.messages.proofs.Noting.{notes-hosts, notes-framing}
 use Rattle.messages.proofs.Hosting.{target-found, target-wrong}
 use Rattle.messages.proofs.Lengths.{body-read, body-refused}
-use Rattle.http1_reader.specs.Readers.{JudgedSays, HeadJudged, headAnswer}
-use Rattle.http1_reader.specs.declared.HeadAnswer.{HeadAnswer}
+use Rattle.http1_reader.specs.Readers.{HeadJudged, headAnswer}
 use Rattle.http1_reader.specs.declared.HeadAnswer.the-variants as head
 
 -- the answer by its two parts

@@ -1,27 +1,26 @@
 -- A request's head and what stands behind it, put together.
-use Prim.Native.Nat.{ℕ, zero, suc, _+_, _-_, _*_, _<_, _≤_}
+use Prim.Native.Nat.{ℕ, _+_, _-_, _≤_}
 use mathlib.Core.Path.{_≡_, refl, sym, ap, ap₂, _∙_, subst}
-use mathlib.Core.List.{List, [], _∷_, _++_}
-use mathlib.Core.Bool.{Bool, true, false, cond}
+use mathlib.Core.List.{List, [], _++_}
+use mathlib.Core.Bool.{true, false}
 use native.Mathlib.Omega.{arith}
-use lib.ListN.{length, take, drop, length-drop, take-append-drop}
+use lib.ListN.{length, take, drop, length-drop}
 use lib.Seq.{length-take-le}
 use Rattle.octets.specs.Limits.{headMost}
 use Rattle.script.specs.Script.{Answer, accepted, refused, more, Says, run, Every}
-use Rattle.script.specs.Do.{_>>=_, Piece, piece, tell}
+use Rattle.script.specs.Do.{_>>=_, tell}
 use Rattle.script.proofs.Sound.{says, sound, every-any}
 use Rattle.script.proofs.Do.{every-bind, every-tell, every-then}
-use Rattle.messages.specs.Message.{FieldRead, InformationalRead, isResponse, Message}
-use Rattle.messages.specs.Names.{kept, keptTrailers}
-use Rattle.messages.specs.Answers.{fieldsNumbers, chunksNumbers, informationalLines, informationalIn, partAt, partOf, recordOf}
+use Rattle.messages.specs.Message.{isResponse, Message}
+use Rattle.messages.specs.Names.{kept}
+use Rattle.messages.specs.Answers.{fieldsNumbers, informationalLines, informationalIn, partAt, partOf}
 use Rattle.messages.specs.Rules.{targetAuthority, framingOf, requestBody}
 use Rattle.messages.specs.declared.Told.{Told}
 use Rattle.messages.specs.declared.Notes.{Notes}
-use Rattle.messages.specs.declared.Part.{Part}
 use Rattle.messages.specs.declared.Outcome.{Outcome}
 use Rattle.messages.specs.declared.Outcome.the-variants as outcome
 use Rattle.http1.specs.Lines.{RequestRead}
-use Rattle.http1.specs.Read.{Lines, section, content, afterHead, readRequest}
+use Rattle.http1.specs.Read.{Lines, section, content, afterHead}
 use Rattle.sound.specs.Placed.{Each}
 use Rattle.ranges.specs.Ranges.{Stores, OutcomeSays, Outcomed}
 use Rattle.http1_parts.proofs.Outcomes.{linesWith, SectionDone, behind-done}

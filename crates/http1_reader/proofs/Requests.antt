@@ -1,25 +1,21 @@
 -- A request, stage by stage, as the code reads it.
-use Prim.Native.Nat.{ℕ, zero, suc, _+_, _-_, _*_, _<_, _≤_}
+use Prim.Native.Nat.{ℕ, _+_, _-_, _≤_}
 use mathlib.Core.Path.{_≡_, refl, sym, ap, _∙_, subst}
-use mathlib.Core.List.{List, [], _∷_, _++_}
-use mathlib.Core.Bool.{Bool, true, false, cond}
+use mathlib.Core.List.{List}
+use mathlib.Core.Bool.{true, false}
 use native.Mathlib.Omega.{arith}
-use lib.ListN.{length, take, drop, length-drop}
+use lib.ListN.{length, take, drop}
 use lib.Seq.{length-take-le}
-use Rattle.octets.specs.Limits.{headMost, contentMost}
+use Rattle.octets.specs.Limits.{headMost}
 use Rattle.octets.specs.Refusals.{badSyntax, tooLarge, notSupported}
-use Rattle.script.specs.Script.{Answer, accepted, refused, more, Script, done, stop, need, run, lineOf}
-use Rattle.script.specs.Do.{_>>=_, andThen, Piece, piece, word, tell, Judged, good, wrong}
+use Rattle.script.specs.Script.{Answer, accepted, refused, more, done, run, lineOf}
+use Rattle.script.specs.Do.{_>>=_, andThen, Piece, piece, tell, Judged, good, wrong}
 use Rattle.script.specs.declared.Line.the-variants.{Ends, Bad, Long, More}
 use Rattle.script.proofs.Laws.{run-done, run-stop}
 use Rattle.script.proofs.Places.{line-more, line-bad, line-long, line-ends, line-within, run-bind}
-use Rattle.output.specs.Splice.{splice}
 use Rattle.messages.specs.Message.{FieldRead, requestStart, Message, plainMessage}
-use Rattle.messages.specs.Names.{linesOf, kept, keptTrailers}
-use Rattle.messages.specs.Meaning.{contentOf}
-use Rattle.messages.specs.Notes.{notesOf, AllLie}
 use Rattle.messages.specs.Rules.{targetAuthority, framingOf, requestBody}
-use Rattle.messages.specs.Answers.{fieldsNumbers, chunksNumbers, partAt, partOf, recordOf}
+use Rattle.messages.specs.Answers.{recordOf}
 use Rattle.messages.specs.declared.Told.{Told}
 use Rattle.messages.specs.Valid.{isScheme}
 use Rattle.messages.specs.declared.Body.{Body}
@@ -29,7 +25,7 @@ use Rattle.messages.specs.declared.Outcome.{Outcome}
 use Rattle.messages.specs.declared.Outcome.the-variants as outcome
 use Rattle.http1.specs.Lines.{RequestRead, requestLens, requestOf}
 use Rattle.http1.specs.declared.RequestLine.the-variants as line
-use Rattle.http1.specs.Read.{Lines, Content, less, section, content, afterHead, request, readRequest}
+use Rattle.http1.specs.Read.{Lines, Content, section, content, afterHead, request, readRequest}
 use Rattle.http1.proofs.Views.{request-view}
 use Rattle.sound.specs.Placed.{Each}
 use Rattle.sound.proofs.Each.{each-of}

@@ -1,19 +1,19 @@
 -- One head of a response, as the code reads it.
-use Prim.Native.Nat.{ℕ, zero, suc, _+_, _-_, _*_, _<_, _≤_}
-use mathlib.Core.Path.{_≡_, refl, sym, ap, _∙_, subst}
-use mathlib.Core.List.{List, [], _∷_, _++_}
-use mathlib.Core.Bool.{Bool, true, false, cond}
+use Prim.Native.Nat.{ℕ, _+_, _-_, _<_, _≤_}
+use mathlib.Core.Path.{_≡_, refl, sym, ap, _∙_}
+use mathlib.Core.List.{List}
+use mathlib.Core.Bool.{true, false}
 use native.Mathlib.Omega.{arith}
 use lib.ListN.{length, take, drop, length-drop}
 use lib.Seq.{length-take-le}
 use borrow.Author.Tests.{le-leb, lt-leb}
 use Rattle.ranges.specs.Ranges.{AnyHeads, FewHeads, SoManyHeads}
-use Rattle.octets.specs.Limits.{headMost, linesMost, informationalMost}
+use Rattle.octets.specs.Limits.{headMost, informationalMost}
 use Rattle.octets.specs.Refusals.{badSyntax, tooLarge}
-use Rattle.script.specs.Script.{Answer, accepted, refused, more, Script, done, stop, need, run, lineOf}
-use Rattle.script.specs.Do.{_>>=_, andThen, Piece, piece, word, tell, Judged, good, wrong}
+use Rattle.script.specs.Script.{Answer, accepted, refused, more, Script, run, lineOf}
+use Rattle.script.specs.Do.{_>>=_, good, wrong}
 use Rattle.script.specs.declared.Line.the-variants.{Ends, Bad, Long, More}
-use Rattle.script.proofs.Laws.{run-done, run-stop}
+use Rattle.script.proofs.Laws.{run-stop}
 use Rattle.script.proofs.Places.{line-more, line-bad, line-long, line-ends, line-within}
 use Rattle.messages.specs.Message.{InformationalRead, Message}
 use Rattle.messages.specs.Control.{isInformational}
@@ -21,7 +21,6 @@ use Rattle.messages.specs.Notes.{notesOf, bodyAnswer}
 use Rattle.messages.specs.Rules.{framingOf, nothingStated}
 use Rattle.messages.specs.declared.Body.{Body}
 use Rattle.messages.specs.declared.BodyAnswer.the-variants as body
-use Rattle.messages.specs.declared.Framing.{Framing}
 use Rattle.messages.specs.declared.Notes.{Notes}
 use Rattle.messages.proofs.Noting.{notes-framing}
 use Rattle.messages.proofs.Lengths.{body-read, body-refused}
@@ -31,8 +30,8 @@ use Rattle.http1.specs.Read.{Lines, section, afterInformational, afterInformati
 use Rattle.http1_parts.specs.Section.{Sectioned}
 use Rattle.http1_parts.specs.declared.Section.{Section}
 use Rattle.http1_parts.specs.declared.Section.the-variants as section-read
-use Rattle.http1_parts.proofs.Outcomes.{linesWith, SectionDone, section-more, section-refused, section-done, behind-more, behind-refused, behind-done}
-use Rattle.http1_reader.proofs.Facts.{SectionFacts, section-facts}
+use Rattle.http1_parts.proofs.Outcomes.{linesWith, section-more, section-refused, section-done, behind-more, behind-refused, behind-done}
+use Rattle.http1_reader.proofs.Facts.{section-facts}
 use Rattle.http1_reader.specs.Responses.{Onward, HeadStored, HeadSays, Headed}
 use Rattle.http1_reader.specs.declared.HeadRead.{HeadRead}
 use Rattle.http1_reader.specs.declared.HeadRead.the-variants as head

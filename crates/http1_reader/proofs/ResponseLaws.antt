@@ -1,20 +1,20 @@
 -- What stands behind the heads of a response, and the whole of it.
 use Prim.Native.Nat.{ℕ, _+_, _≤_}
 use mathlib.Core.Path.{_≡_, refl, sym, ap, _∙_, subst}
-use mathlib.Core.List.{List, [], _∷_, _++_}
-use mathlib.Core.Bool.{Bool, true, false}
+use mathlib.Core.List.{List, _++_}
+use mathlib.Core.Bool.{true}
 use lib.ListN.{length, drop}
 use Rattle.octets.specs.Limits.{headMost}
-use Rattle.script.specs.Script.{Answer, accepted, refused, more, Says, Script, done, stop, run}
+use Rattle.script.specs.Script.{Answer, accepted, refused, more, Says, Script, done, run}
 use Rattle.script.specs.Do.{_>>=_, andThen, tell, Judged, good, wrong}
 use Rattle.script.proofs.Laws.{run-done, run-stop}
 use Rattle.script.proofs.Places.{run-bind}
 use Rattle.output.specs.Splice.{splice}
-use Rattle.messages.specs.Message.{InformationalRead, responseStart, isResponse, Message, statingMessage}
-use Rattle.messages.specs.Names.{kept, keptTrailers}
-use Rattle.messages.specs.Notes.{notesOf, bodyAnswer}
+use Rattle.messages.specs.Message.{InformationalRead, responseStart, Message, statingMessage}
+use Rattle.messages.specs.Names.{kept}
+use Rattle.messages.specs.Notes.{bodyAnswer}
 use Rattle.messages.specs.Rules.{framingOf, responseBody, statedIn}
-use Rattle.messages.specs.Answers.{fieldsNumbers, chunksNumbers, informationalNumbers, informationalLines, informationalIn, recordOf}
+use Rattle.messages.specs.Answers.{fieldsNumbers, informationalNumbers, informationalLines, recordOf}
 use Rattle.messages.specs.declared.Body.{Body}
 use Rattle.messages.specs.declared.BodyAnswer.the-variants as body
 use Rattle.messages.specs.declared.Notes.{Notes}
@@ -28,7 +28,7 @@ use Rattle.http1.specs.Read.{Lines, Content, content, ResponseCall, responseCal
 use Rattle.http1_sound.proofs.Rules.{response-framed}
 use Rattle.http1_parts.specs.Content.{SizedWithin, ContentSays, Contented}
 use Rattle.http1_parts.specs.declared.ContentRead.{ContentRead}
-use Rattle.ranges.specs.Ranges.{Stores, OutcomeSays, InformationalSays, Responded}
+use Rattle.ranges.specs.Ranges.{Stores, Responded}
 use Rattle.http1_reader.specs.Readers.{RestSays}
 use Rattle.http1_reader.specs.Responses.{HeadsFacts, responseRun, HeadsSays, HeadsTaken, responseOutcome, FinalRead}
 use Rattle.http1_reader.specs.declared.HeadsRead.{HeadsRead}

@@ -1,13 +1,13 @@
 -- The heads of a response one after another, as the code reads them.
-use Prim.Native.Nat.{ℕ, zero, suc, _+_, _-_, _*_, _<_, _≤_}
-use mathlib.Core.Path.{_≡_, refl, sym, ap, _∙_, subst}
+use Prim.Native.Nat.{ℕ, suc, _+_, _-_, _*_, _<_, _≤_}
+use mathlib.Core.Path.{_≡_, refl, ap, _∙_, subst}
 use mathlib.Core.List.{List, [], _∷_, _++_}
-use mathlib.Core.Bool.{Bool, true, false}
+use mathlib.Core.Bool.{true}
 use native.Mathlib.Omega.{arith}
 use lib.ListN.{length, drop, length-append}
 use Rattle.ranges.specs.Ranges.{Stores, SoManyHeads}
 use Rattle.octets.specs.Limits.{headMost, linesMost, informationalMost}
-use Rattle.script.specs.Script.{Answer, accepted, refused, more, run}
+use Rattle.script.specs.Script.{run}
 use Rattle.output.specs.Splice.{splice}
 use Rattle.messages.specs.Message.{InformationalRead}
 use Rattle.messages.specs.Names.{kept}
@@ -17,10 +17,9 @@ use Rattle.messages.proofs.Noting.{kept-few}
 use Rattle.http1.specs.Read.{Lines, informationalRead, BehindHeads, nextHead, headsThen}
 use Rattle.ranges.proofs.Storing.{altered-none, stores-none}
 use Rattle.ranges.proofs.HeadsStored.{lines-snoc, fields-more, numbers-more}
-use Rattle.http1_reader.specs.Responses.{Onward, HeadStored, HeadSays, Headed, HeadsFacts, responseRun, HeadsSays, HeadsTaken}
+use Rattle.http1_reader.specs.Responses.{Onward, HeadStored, HeadSays, Headed, responseRun, HeadsTaken}
 use Rattle.http1_reader.specs.declared.HeadRead.{HeadRead}
 use Rattle.http1_reader.specs.declared.HeadRead.the-variants as head
-use Rattle.http1_reader.specs.declared.HeadsRead.{HeadsRead}
 use Rattle.http1_reader.specs.declared.HeadsRead.the-variants as heads-read
 
 -- what was read of s up to the place i: informational heads whose fields are stored in hs and whose numbers are stored in ns

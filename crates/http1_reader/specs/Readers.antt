@@ -1,9 +1,9 @@
 -- What the code of the request reader promises, in terms of `readRequest` and `afterHead` (http1/specs/Read; 01, "HTTP/1.1 as we take it"; what is judged
 -- after a head: "Numbers a call answers with").
-use Prim.Native.Nat.{ℕ, _+_, _-_, _*_, _≤_}
+use Prim.Native.Nat.{ℕ, _+_, _-_, _≤_}
 use mathlib.Core.Path.{_≡_}
 use mathlib.Core.Bool.{Bool, true, false}
-use mathlib.Core.List.{List, [], _∷_, _++_}
+use mathlib.Core.List.{List}
 use lib.ListN.{length, take, drop}
 use Rattle.octets.specs.Limits.{headMost}
 use Rattle.octets.specs.Refusals.{badHost}

@@ -1,16 +1,15 @@
 -- What the code of the response reader promises, in terms of `nextHead`, `headsThen`, `afterFinal` and `readResponse` (http1/specs/Read; 01, "HTTP/1.1 as we
 -- take it").
-use Prim.Native.Nat.{ℕ, suc, _+_, _-_, _*_, _≤_, _<_}
+use Prim.Native.Nat.{ℕ, suc, _+_, _-_, _*_, _≤_}
 use mathlib.Core.Path.{_≡_}
-use mathlib.Core.Bool.{Bool, true, false}
+use mathlib.Core.Bool.{Bool, true}
 use mathlib.Core.List.{List, [], _∷_, _++_}
 use lib.ListN.{length, drop}
 use Rattle.ranges.specs.Ranges.{Stores, AnyHeads, FewHeads, SoManyHeads}
 use Rattle.octets.specs.Limits.{headMost, linesMost, informationalMost}
-use Rattle.script.specs.Script.{Answer, accepted, refused, more, Script, run}
+use Rattle.script.specs.Script.{Answer, refused, more, Script, run}
 use Rattle.output.specs.Splice.{splice}
 use Rattle.messages.specs.Message.{InformationalRead, Message}
-use Rattle.messages.specs.Room.{sectionRoom}
 use Rattle.messages.specs.Names.{kept}
 use Rattle.messages.specs.Notes.{notesOf}
 use Rattle.messages.specs.Answers.{fieldsNumbers, informationalNumbers, informationalLines, responseRecord}

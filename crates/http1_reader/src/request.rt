@@ -7,7 +7,7 @@ use http1::lines::request_line;
 use http1_parts::ContentRead;
 use http1_parts::Section;
 use http1_parts::content::read_content;
-use http1_parts::lines::read_section;
+use http1_parts::lines::read_headers;
 use messages::Counts;
 use messages::Notes;
 use messages::Outcome;
@@ -133,7 +133,7 @@ fn read_head(
     ensures { λ r. ⌜ BehindLineRead told (now (s .entry)) method target next
         (now (headers .entry)) (now (headers .exit)) (now (chunks .entry)) (now (chunks .exit)) (now (trailers .entry)) (now (trailers .exit)) r ⌝ }
 {
-    let h = read_section(t, s, next, Limits::HEAD - next, true, false, 0, headers);
+    let h = read_headers(t, s, next, Limits::HEAD - next, false, 0, headers);
     match h {
         Section::More => return Outcome::More,
         Section::Refused { number, place } => return Outcome::Refusal { number, place },

@@ -6,7 +6,7 @@ use http1::lines::status_line;
 use http1_parts::ContentRead;
 use http1_parts::Section;
 use http1_parts::content::read_content;
-use http1_parts::lines::read_section;
+use http1_parts::lines::read_headers;
 use messages::BodyAnswer;
 use messages::Counts;
 use messages::Notes;
@@ -53,7 +53,7 @@ fn informational_head(
     requires { ⌜ (now t ≡ classes) × (next ≤ length (now s)) × (next + left ≡ headMost) × SectionRoom base (now headers) ⌝ }
     ensures { λ r. ⌜ InformationalHeaded (now (s .entry)) status next left base (now (headers .entry)) (now (headers .exit)) r ⌝ }
 {
-    let h = read_section(t, s, next, left, true, true, base, headers);
+    let h = read_headers(t, s, next, left, true, base, headers);
     match h {
         Section::More => return HeadRead::More,
         Section::Refused { number, place } => return HeadRead::Refused { number, place },
@@ -91,7 +91,7 @@ fn final_head(
     requires { ⌜ (now t ≡ classes) × (next ≤ length (now s)) × (next + left ≡ headMost) × SectionRoom base (now headers) ⌝ }
     ensures { λ r. ⌜ FinalHeaded (now (s .entry)) status next left base (now (headers .entry)) (now (headers .exit)) r ⌝ }
 {
-    let h = read_section(t, s, next, left, true, true, base, headers);
+    let h = read_headers(t, s, next, left, true, base, headers);
     match h {
         Section::More => return HeadRead::More,
         Section::Refused { number, place } => return HeadRead::Refused { number, place },
