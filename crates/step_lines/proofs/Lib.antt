@@ -1,0 +1,5 @@
+pub mod Tells
+pub mod Opening
+pub mod Fields
+pub mod Moving
+pub mod Counting
