@@ -20,7 +20,6 @@ struct message {
 };
 
 extern struct message small, fields30, connection30, by_length, in_chunks; /* HTTP/1.1 requests */
-extern struct message longest, half_longest;                               /* the same, with long chunk lines and trailers */
 extern struct message example, example_binary;               /* input A of document 01, and the Binary that P5 gives for it */
 extern struct message figure_10, figure_13;                  /* of document 001: an HTTP/1.1 response with two informational heads; Binary */
 

@@ -6,7 +6,7 @@
 
 #include "bench.h"
 
-struct message small, fields30, connection30, by_length, in_chunks, longest, half_longest, example, example_binary, figure_10, figure_13;
+struct message small, fields30, connection30, by_length, in_chunks, example, example_binary, figure_10, figure_13;
 
 uint8_t *room_for_message(void)
 {
@@ -97,46 +97,6 @@ static void make_posts(void)
     add(&in_chunks, "0\r\n\r\n");
 }
 
-/* Field lines of so many octets in all, none of them above 128: how many. */
-static size_t add_fields(struct message *m, size_t octets)
-{
-    size_t count = 0, line;
-    for (; octets > 0; octets -= line, count++) {
-        line = octets < 144 ? octets : 128;
-        add(m, "X-Setting: %0*d\r\n", (int)line - 13, 0);
-    }
-    return count;
-}
-
-/* A request of 106,926 octets or half of them: so many chunks of 128 octets, each behind a line of 256, in a head and trailers that grow with them. */
-static struct message post_in_chunks(size_t chunks)
-{
-    struct message m = begin(0, 0, chunks * 128);
-    m.chunked = true;
-    add(&m, "POST /scans/17 HTTP/1.1\r\nHost: gateway-4.flock.example\r\nTransfer-Encoding: chunked\r\n");
-    m.kept = add_fields(&m, 2903 * chunks / 128 - m.len - 2);
-    m.lines = m.kept + 2;
-    add(&m, "\r\n");
-    m.head = m.len;
-    for (size_t chunk = 0; chunk < chunks; chunk++) {
-        add(&m, "80;%0251d\r\n", 0);
-        add_json(&m, chunk * 128, 128);
-        add(&m, "\r\n");
-    }
-    add(&m, "0;%0*d\r\n", (int)chunks - 4, 0);
-    add_fields(&m, 8 * chunks - 2);
-    add(&m, "\r\n");
-    return m;
-}
-
-static void make_long_posts(void)
-{
-    longest = post_in_chunks(256);
-    half_longest = post_in_chunks(128);
-    check_size("length of the longest request", longest.len, 106926);
-    check_size("length of one half as long", half_longest.len, 53463);
-}
-
 static void make_examples(void)
 {
     example = begin(2, 0, 3);
@@ -172,6 +132,5 @@ static void make_examples(void)
 void make_messages(void)
 {
     make_posts();
-    make_long_posts();
     make_examples();
 }

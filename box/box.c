@@ -1,5 +1,5 @@
-/* The C example, as the box's main program does: feeds HTTP/1.1 requests to the step reader as their fragments arrive on standard input, under http; turns each that has ended into Binary HTTP
- * for the radio hop and, on the other side of it, back into HTTP/1.1 behind what was written before; then takes that stream off again.
+/* The C example, as the box's main program does: takes HTTP/1.1 requests off standard input under http, turns each into Binary HTTP for the radio hop and, on the
+ * other side of it, back into HTTP/1.1 behind what was written before; then takes that stream off again.
  *
  *     target/box/box < file of requests
  *
@@ -12,10 +12,9 @@
 
 #include "ospirnar.h"
 
-enum { STREAM_MOST = 1 << 20, BINARY_MOST = 65536, FRAGMENT = 100 };
+enum { STREAM_MOST = 1 << 20, BINARY_MOST = 65536 };
 
-static uint8_t input[STREAM_MOST], binary[BINARY_MOST], written[STREAM_MOST], room[OSPIRNAR_ROOM];
-static size_t state[OSPIRNAR_STATE], written_len;
+static uint8_t input[STREAM_MOST], binary[BINARY_MOST], written[STREAM_MOST];
 static uint32_t ranges[OSPIRNAR_RANGES_MOST];
 
 static void print_part(const uint8_t *octets, const uint32_t *part)
@@ -46,58 +45,33 @@ static bool take_off(const uint8_t *octets, size_t len, size_t count)
     return taken == count;
 }
 
-/* Turns a request that has ended: judged, turned and measured in one call. */
-static int turn(const uint8_t *octets, size_t len, size_t at, size_t count)
-{
-    size_t binary_len, http1_len, taken, place;
-    uint32_t number = ospirnar_request_to_binary(octets, len, 0, binary, sizeof binary, &binary_len, &taken);
-    if (number != 0)
-        return stop("not turned", number, binary_len, at);
-    number = ospirnar_binary_to_http1(binary, binary_len, 0, 0, 0, 0, written + written_len, sizeof written - written_len, &http1_len);
-    if (number != 0)
-        return stop("not turned back", number, http1_len, 0);
-    printf("%zu: %zu octets, as Binary %zu, turned back %zu", count, taken, binary_len, http1_len);
-    /* whether the sender means to close is no part of the meaning, so a turning does not say it: a box that holds the connection asks the record */
-    if (ospirnar_read_request(octets, len, 0, ranges, OSPIRNAR_RANGES_MOST, &place) == 0 && ranges[19] != 0)
-        printf("; the sender means to close");
-    putchar('\n');
-    written_len += http1_len;
-    return 0;
-}
-
-static struct ospirnar_step_answer begin(void)
-{
-    return ospirnar_begin(state, OSPIRNAR_STATE, room, sizeof room, 0);
-}
-
 int main(void)
 {
-    size_t len = 0, fed = 0, at = 0, count = 0, got; /* octets that have arrived, that were fed, and before the present request */
-    struct ospirnar_step_answer answer = begin();
-    while (len < sizeof input && (got = fread(input + len, 1, len + FRAGMENT < sizeof input ? FRAGMENT : sizeof input - len, stdin)) > 0) {
-        for (len += got; fed < len;) {
-            answer = ospirnar_steps(state, OSPIRNAR_STATE, room, sizeof room, input + fed, len - fed);
-            fed += answer.taken;
-            if (answer.number == 1)
-                continue; /* all that has arrived was taken */
-            if (answer.number != 0)
-                return stop("refused", answer.number, answer.place, at);
-            if (turn(input + at, fed - at, at, ++count) != 0)
-                return 1;
-            at = fed; /* the next request begins behind this one */
-            answer = begin();
-        }
-    }
+    size_t len = fread(input, 1, sizeof input, stdin), at = 0, out = 0, count = 0, taken, binary_len, http1_len, place;
     if (ferror(stdin) || (len == sizeof input && getchar() != EOF)) {
         fprintf(stderr, "box: standard input cannot be read or passes %d octets\n", STREAM_MOST);
         return 2;
     }
-    if (at < len)
-        return stop("more octets are needed", answer.number, len - at, at);
-    if (!take_off(written, written_len, count)) {
+    while (at < len) {
+        /* judged, turned and measured in one call: a box does not read a request before it turns it */
+        uint32_t number = ospirnar_request_to_binary(input + at, len - at, 0, binary, sizeof binary, &binary_len, &taken);
+        if (number != 0) /* 1 is no refusal: a box that reads from a connection would wait for more octets and call again */
+            return stop(number == 1 ? "more octets are needed" : "refused", number, binary_len, at);
+        number = ospirnar_binary_to_http1(binary, binary_len, 0, 0, 0, 0, written + out, sizeof written - out, &http1_len);
+        if (number != 0)
+            return stop("not turned back", number, http1_len, 0);
+        printf("%zu: %zu octets, as Binary %zu, turned back %zu", ++count, taken, binary_len, http1_len);
+        /* whether the sender means to close is no part of the meaning, so a turning does not say it: a box that holds the connection asks the record */
+        if (ospirnar_read_request(input + at, taken, 0, ranges, OSPIRNAR_RANGES_MOST, &place) == 0 && ranges[19] != 0)
+            printf("; the sender means to close");
+        putchar('\n');
+        at += taken; /* the next message begins behind this one */
+        out += http1_len;
+    }
+    if (!take_off(written, out, count)) {
         printf("the written stream is not taken off as it was written\n");
         return 2;
     }
-    printf("end at %zu; %zu requests taken off the %zu octets written\n", at, count, written_len);
+    printf("end at %zu; %zu requests taken off the %zu octets written\n", at, count, out);
     return 0;
 }

@@ -1,11 +1,9 @@
 //! `probe`: speaks the comparing protocol over the proved static library, through the C interface of include/ospirnar.h.
 //!
-//! Build: rustc -O -L native=target/lib -o target/compare/probe compare/probe.rs      (compare/build does it)
+//! Build: rustc -O -L native=target/staticlib -o target/compare/probe compare/probe.rs      (compare/build does it)
 //! Run:   target/compare/probe < commands > answers       (--each: each answer is written out before the next command is read;
 //!                                                         --trips: turnings are read back instead, see `trip`;
-//!                                                         --pairs: turnings into Binary are held beside others, see pairs.rs;
-//!                                                         --tables=CALLS: calls on one buffer and table, see `table::sequences`;
-//!                                                         --steps=CALLS: calls of the step reader, see `steps::sequences`)
+//!                                                         --nights CALLS: calls on one buffer and table, see `table::nights`)
 //!
 //! What it answers is built from the numbers the library left and from the input, and from nothing else. Beside the protocol's answers:
 //!
@@ -14,14 +12,9 @@
 //!   {"error":"room"}       with exactly enough space, or a refusal with none, the call answered something else
 //!   {"error":"range"}      a number that the header rules out: a part outside the input, a count above its size
 //!   {"error":"closes"}     whether the sender of an HTTP/1.1 message means to close, which the protocol can't show, is not what its lines say
-//!   {"error":..}           of the command `steps`: what steps.rs names
 
 #[path = "probe/bundle.rs"]
 mod bundle;
-#[path = "probe/pairs.rs"]
-mod pairs;
-#[path = "probe/steps.rs"]
-mod steps;
 #[path = "probe/table.rs"]
 mod table;
 
@@ -31,7 +24,7 @@ use std::io::{self, BufRead, BufReader, BufWriter, Write};
 
 mod entries {
     //! As in include/ospirnar.h, line for line.
-    #[link(name = "ospirnar", kind = "static")]
+    #[link(name = "capi", kind = "static")]
     extern "C" {
         pub fn ospirnar_read_request(input: *const u8, input_len: usize, scheme: u32, ranges: *mut u32, ranges_len: usize, place: *mut usize) -> u32;
         pub fn ospirnar_read_response(
@@ -220,21 +213,6 @@ fn judge_room<T: Copy + PartialEq>(lent: &Lent<T>, used: usize, answer: Answer, 
         }
     }
     Ok(())
-}
-
-/// Numbers of a sequence that is the same each time, for the calls in sequences.
-struct Random(u64);
-
-impl Random {
-    fn next(&mut self) -> u64 {
-        self.0 ^= self.0 << 13;
-        self.0 ^= self.0 >> 7;
-        self.0 ^= self.0 << 17;
-        self.0
-    }
-    fn below(&mut self, n: usize) -> usize {
-        (self.next() % n as u64) as usize
-    }
 }
 
 // ---------------------------------------------------------------------------------------- the ranges
@@ -690,13 +668,13 @@ fn trip(line: &[u8]) -> Option<Result<(), &'static str>> {
     })())
 }
 
-/// All command lines by a judge that counts what agreed: how many in all, and the last line as the gate wants it.
-fn judge_lines(judge: impl Fn(&[u8]) -> Option<Result<u64, &'static str>>) -> io::Result<bool> {
+/// The trips of all command lines: how many kept the meaning, and the last line as the gate wants it.
+fn trips() -> io::Result<bool> {
     let (mut passed, mut failed) = (0u64, 0u64);
     for line in io::stdin().lock().split(b'\n') {
         let line = line?;
-        match judge(&line) {
-            Some(Ok(count)) => passed += count,
+        match trip(&line) {
+            Some(Ok(())) => passed += 1,
             Some(Err(error)) => {
                 failed += 1;
                 if failed <= 10 {
@@ -838,7 +816,6 @@ fn command(line: &[u8]) -> Option<Result<String, &'static str>> {
             let (name, default, input) = (octets(name)?, octets(default)?, octets(input)?);
             binary_field(&input, told, &name).and_then(|asked| field(input.len(), default.len(), asked))
         }
-        (b"steps", rest) => return steps::command(rest),
         (name, rest) if table::takes_table(name) => return table::command(name, &words[1..words.len() - rest.len()], rest),
         (name, rest) => return bundle::command(name, rest),
     })
@@ -881,18 +858,14 @@ fn serve(each: bool) -> io::Result<()> {
 fn main() {
     let arguments: Vec<String> = std::env::args().skip(1).collect();
     let each = arguments == ["--each"];
-    let good = match arguments.iter().map(String::as_str).collect::<Vec<_>>()[..] {
-        ["--trips"] => Some(judge_lines(|line| Some(trip(line)?.map(|()| 1))).unwrap_or(false)),
-        ["--pairs"] => Some(judge_lines(pairs::pairs).unwrap_or(false)),
-        [word] if word.starts_with("--tables=") => Some(table::sequences(word[9..].parse().unwrap_or(0))),
-        [word] if word.starts_with("--steps=") => Some(steps::sequences(word[8..].parse().unwrap_or(0))),
-        _ => None,
-    };
-    if let Some(good) = good {
-        std::process::exit(if good { 0 } else { 1 });
+    if arguments == ["--trips"] {
+        std::process::exit(if trips().unwrap_or(false) { 0 } else { 1 });
+    }
+    if let ["--nights", calls] = arguments.iter().map(String::as_str).collect::<Vec<_>>()[..] {
+        std::process::exit(if table::nights(calls.parse().unwrap_or(0)) { 0 } else { 1 });
     }
     if !each && !arguments.is_empty() {
-        eprintln!("usage: probe [--each | --trips | --pairs] < commands > answers; probe --tables=CALLS; probe --steps=CALLS");
+        eprintln!("usage: probe [--each | --trips] < commands > answers; probe --nights CALLS");
         std::process::exit(2);
     }
     if serve(each).is_err() {

@@ -12,8 +12,6 @@ AppendAnswer = Struct('AppendAnswer', C, True, [('number', 32), ('place', 64), (
 TableAnswer = Struct('TableAnswer', C, True, [('number', 32), ('place', 64), ('used', 64)])
 Plan = Struct('Plan', 'bundle_edit', False, [('go', 'bool'), ('index', 64), ('size', 32), ('number', 32), ('place', 64), ('used', 64), ('long', 64)])
 Changes = Struct('Changes', 'bundle_edit', False, [('kind', 32), ('number', 32), ('place', 64), ('used', 64), ('counts', 'array')])
-Place = Struct('Place', 'bundle_edit', False, [('at', 64)])
-Flocks = ArrayOf(Flock, 127)
 usize, u32 = ('num', 64), ('num', 32)
 callees = {
     'flock_table::slot_of': Callee('slot_of', 'flock_table', False, [usize, u32], ('struct', Slot), lambda r, a, w: f'{r} ≡ slotOf {a[0]} {a[1]}'),
@@ -23,9 +21,7 @@ callees = {
     'bundle_edit::append': Callee('append', 'bundle_edit', False, [usize, ('mut',), usize, u32, ('shr',)], ('struct', Plan),
         lambda r, a, w: f'({r} ≡ appendPlan {a[0]} {a[1]} {a[2]} {a[3]} {a[4]}) × ({w} ≡ appended {a[0]} {a[1]} {a[2]} {a[3]} {a[4]})'),
     'bundle_edit::tables::rebuild': Callee('rebuild', 'bundle_edit', False, [usize, ('shr',)], ('struct', Changes), lambda r, a, w: f'{r} ≡ rebuildChanges {a[0]} {a[1]}', 'tables'),
-    'bundle_edit::tables::change': Callee('change', 'bundle_edit', False, [('struct', Flock), u32, ('struct', Flock), usize], ('struct', Flock), lambda r, a, w: f'{r} ≡ changedBy {a[1]} {a[2]} {a[3]} {a[0]}', 'tables'),
-    'bundle_edit::tables::records': Callee('records', 'bundle_edit', False, [('struct', Changes)], ('struct', Flocks), lambda r, a, w: f'{r} ≡ recordsOf ({a[0]} .counts)', 'tables'),
-    'bundle_edit::tables::place_of': Callee('place_of', 'bundle_edit', False, [usize], ('struct', Place), lambda r, a, w: f'{r} ≡ placeOf {a[0]}', 'tables'),
+    'bundle_edit::tables::change': Callee('change', 'bundle_edit', False, [('struct', Flock), ('struct', Changes), usize], ('struct', Flock), lambda r, a, w: f'{r} ≡ changed {a[1]} {a[2]} {a[0]}', 'tables'),
     'bundle_edit::delivery::lessen': Callee('lessen', 'bundle_edit', False, [('struct', Flock)], ('struct', Flock), lambda r, a, w: f'{r} ≡ minus {a[0]} oneUndelivered', 'delivery'),
     'bundle_edit::delivery::mark': Callee('mark', 'bundle_edit', False, [usize, ('mut',), usize, usize], ('struct', Plan),
         lambda r, a, w: f'({r} ≡ markPlan {a[0]} {a[1]} {a[2]} {a[3]}) × ({w} ≡ marked {a[0]} {a[1]} {a[2]} {a[3]})', 'delivery'),
@@ -34,15 +30,13 @@ callees = {
     f'{C}::mark_answer': Callee('mark_answer', C, True, [('struct', Plan)], ('struct', TableAnswer), lambda r, a, w: f'{r} ≡ markOf {a[0]}'),
     f'{C}::append_answer': Callee('append_answer', C, True, [('struct', Plan)], ('struct', AppendAnswer), lambda r, a, w: f'{r} ≡ appendOf {a[0]}'),
     f'{C}::outcome': Callee('outcome', C, True, [('struct', Changes)], ('struct', TableAnswer), lambda r, a, w: f'{r} ≡ outcomeOf {a[0]}'),
-    f'{C}::update': Callee('update', C, True, [('mut', Flock), ('struct', Changes)], ('struct', TableAnswer), lambda r, a, w: f'Updated {a[1]} {a[0]} {w} {r}'),
-    f'{C}::update_all': Callee('update_all', C, True, [('mut', Flock), u32, ('struct', Flocks)], ('unit',), lambda r, a, w: f'{w} ≡ changedWith {a[1]} {a[2]} 0 {a[0]}'),
+    f'{C}::update_all': Callee('update_all', C, True, [('mut', Flock), ('struct', Changes)], ('unit',), lambda r, a, w: f'{w} ≡ changedFrom {a[1]} 0 {a[0]}'),
 }
 SPEC = ['use Rattle·flock_table.specs.Table.{none, plus, minus, slotOf, totalsOf, noTotals, totalsAt}',
         'use Rattle·bundle_edit.specs.Append.{appendPlan, appended, newRecord, entered as entering}',
-        'use Rattle·bundle_edit.specs.Changes.{changedBy, recordsOf, placeOf, changedWith, rebuildChanges}',
+        'use Rattle·bundle_edit.specs.Changes.{changed, changedFrom, rebuildChanges}',
         'use Rattle·bundle_edit.specs.Delivery.{oneUndelivered, markPlan, marked, sweepChanges, swept}',
-        f'use Rattle·{C}·specs.specs.Entries.{{appendOf, AppendEntered, outcomeOf, Updated, markOf, MarkEntered, SweepEntered}}',
-        'use Rattle·bundle_edit.proofs.Recording.{place-within, changed-with}',
+        f'use Rattle·{C}·specs.specs.Entries.{{appendOf, AppendEntered, outcomeOf, RebuildEntered, markOf, MarkEntered, SweepEntered}}',
         f'use Rattle·{C}·proofs.proofs.Updating.{{slot-index, append-index, mark-index, taken, left, changedFirst, first-length, first-next, first-all}}']
 all_ = mir_of(C)
 common = dict(crate=C, all=all_, callees=callees, table_size=12, none='none', stays=True)
@@ -61,17 +55,13 @@ functions = [
         index='append-index (length table) buffer used flock message {r} ({e} .0) {yes}',
         proofs=dict(yes=lambda k: f'subst (λ (p : Plan). SaysAt p {k["r"]} (set table ({k["p"]} .index) {k["s"]}) {k["last"][1]}) ({k["e"]} .0) ({k["ans"][C + "::append_answer"][1]}, (ap (λ (z : Flock). set table ({k["p"]} .index) z) {k["es"]} ∙ taken ({k["p"]} .go) {more(k["p"])} yes, {k["e"]} .1))',
                     no=lambda k: f'subst (λ (p : Plan). SaysAt p {k["r"]} table {k["last"][1]}) ({k["e"]} .0) ({k["ans"][C + "::append_answer"][1]}, (left ({k["p"]} .go) {more(k["p"])} no, {k["e"]} .1))'), **common),
-    Loop(name='update_all', params=[('table', 'mut', Flock), ('kind', 'num', 32), ('rs', 'struct', Flocks)], result=('unit',),
-        says=lambda p, r, t, b: f'{t} ≡ changedWith kind rs 0 table', within=lambda a: 'place-within i ' + ' '.join(a['bundle_edit::tables::place_of']),
-        upto_name='changedFirst', upto=lambda i: f'changedFirst kind rs 0 {i} table', upto_length=lambda i: f'(first-length kind rs 0 {i} table)',
-        upto_next=lambda i, l, a: f'ap (λ (z : Flock). set (upTo {i}) {i} z) ({a["bundle_edit::tables::change"][1]} ∙ ap (λ (p : Place). changedBy kind (getD rs (p .at) none) {i} (getD (upTo {i}) {i} none)) {a["bundle_edit::tables::place_of"][1]}) ∙ first-next kind rs {i} table {l}',
-        upto_all='first-all kind rs 0 table', **common),
-    Function(name='update', params=[('table', 'mut', Flock), ('c', 'struct', Changes)], result=('struct', TableAnswer), plan_type='List Flock', plan_text='recordsOf (c .counts)',
-        says=lambda p, r, t, b: f'Updated c table {t} {r}', index='',
-        proofs=dict(end=lambda k: f'({k["ans"][C + "::outcome"][1]}, {k["ans"][C + "::update_all"][1]} ∙ ap (λ (z : List Flock). changedWith (c .kind) z 0 table) {k["e"]} ∙ changed-with c 0 table)'), **dict(common, stays=False)),
+    Loop(name='update_all', params=[('table', 'mut', Flock), ('c', 'struct', Changes)], result=('unit',),
+        says=lambda p, r, t, b: f'{t} ≡ changedFrom c 0 table',
+        upto_name='changedFirst', upto=lambda i: f'changedFirst c 0 {i} table', upto_length=lambda i: f'(first-length c 0 {i} table)',
+        upto_next=lambda i, l, new: f'ap (λ (z : Flock). set (upTo {i}) {i} z) {new[1]} ∙ first-next c {i} table {l}', upto_all='first-all c 0 table', **common),
     Function(name='ospirnar_rebuild', params=[('table', 'mut', Flock), ('input', 'shr', None)], result=('struct', TableAnswer), plan_type='Changes', plan_text='rebuildChanges (length table) input',
-        says=lambda p, r, t, b: f'Updated {p} table {t} {r}', index='',
-        proofs=dict(end=lambda k: f'subst (λ (p : Changes). SaysAt p {k["r"]} {k["last"][0]}) {k["e"]} {k["ans"][C + "::update"][1]}'), **dict(common, stays=False)),
+        says=lambda p, r, t, b: f'RebuildEntered {p} table {t} {r}', index='',
+        proofs=dict(end=lambda k: f'subst (λ (p : Changes). SaysAt p {k["r"]} {k["last"][0]}) {k["e"]} ({k["ans"][C + "::outcome"][1]}, {k["ans"][C + "::update_all"][1]})'), **dict(common, stays=False)),
     Function(name='ospirnar_mark', params=[('table', 'mut', Flock), ('buffer', 'mut', None), ('used', 'num', 64), ('entry', 'num', 64)], result=('struct', TableAnswer),
         plan_type='Plan', plan_text='markPlan (length table) buffer used entry',
         says=lambda p, r, t, b: f'MarkEntered {p} table {t} buffer {b["buffer"]} used entry {r}',
@@ -80,7 +70,7 @@ functions = [
                     no=lambda k: f'subst (λ (p : Plan). SaysAt p {k["r"]} table {k["last"][1]}) ({k["e"]} .0) ({k["ans"][C + "::mark_answer"][1]}, (left ({k["p"]} .go) {less(k["p"])} no, {k["e"]} .1))'), **common),
     Function(name='ospirnar_sweep', params=[('table', 'mut', Flock), ('buffer', 'mut', None), ('used', 'num', 64)], result=('struct', TableAnswer), plan_type='Changes', plan_text='sweepChanges (length table) buffer used',
         says=lambda p, r, t, b: f'SweepEntered {p} table {t} buffer {b["buffer"]} used {r}', index='',
-        proofs=dict(end=lambda k: f'subst (λ (p : Changes). SaysAt p {k["r"]} {k["last"][0]} {k["last"][1]}) ({k["e"]} .0) ({k["ans"][C + "::update"][1]} .0, ({k["ans"][C + "::update"][1]} .1, {k["e"]} .1))'), **dict(common, stays=False)),
+        proofs=dict(end=lambda k: f'subst (λ (p : Changes). SaysAt p {k["r"]} {k["last"][0]} {k["last"][1]}) ({k["e"]} .0) ({k["ans"][C + "::outcome"][1]}, ({k["ans"][C + "::update_all"][1]}, {k["e"]} .1))'), **dict(common, stays=False)),
 ]
 if __name__ == '__main__':
     for f in functions:

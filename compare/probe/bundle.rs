@@ -1,4 +1,4 @@
-//! The commands that read bundles (document 02, items 1 and 12), through the C interface. Those that change one are in table.rs.
+//! The commands that read bundles (document 02, items 1 and 12), over libbundle_capi.a. Those that change one are in table.rs.
 //!
 //!   bundle HEX    flock_list FLOCK ROOM HEX    salvage ROOM HEX    salvage_text HEX
 
@@ -27,7 +27,7 @@ mod entries {
         pub left: usize,
         pub stop: u32,
     }
-    #[link(name = "ospirnar", kind = "static")]
+    #[link(name = "bundle_capi", kind = "static")]
     extern "C" {
         pub fn ospirnar_read_bundle(input: *const u8, input_len: usize, entries: *mut u32, entries_len: usize) -> BundleAnswer;
         pub fn ospirnar_flock_list(input: *const u8, input_len: usize, flock: u32, output: *mut u8, output_len: usize) -> ListAnswer;

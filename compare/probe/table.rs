@@ -1,8 +1,8 @@
-//! The commands that change a bundle and the table beside it, or read the table (document 02, items 1, 6 and 11), through the C interface.
+//! The commands that change a bundle and the table beside it, or read the table (document 02, items 1, 6 and 11), over libbundle_capi.a.
 //!
 //!   append FLOCK USED BUFFER MESSAGE    totals FLOCK    rebuild HEX    mark ENTRY USED BUFFER    sweep USED BUFFER        each with an option table=TABLE
 
-use super::{hex, number, octets, refused, Answer, Random};
+use super::{hex, number, octets, refused, Answer};
 
 mod entries {
     //! As in include/ospirnar.h, line for line.
@@ -34,7 +34,7 @@ mod entries {
         pub place: usize,
         pub used: usize,
     }
-    #[link(name = "ospirnar", kind = "static")]
+    #[link(name = "bundle_capi", kind = "static")]
     extern "C" {
         pub fn ospirnar_append(
             table: *mut Flock, records: usize, buffer: *mut u8, buffer_len: usize, used: usize, flock: u32, message: *const u8, message_len: usize,
@@ -266,19 +266,19 @@ pub fn command(name: &[u8], given: &[&[u8]], words: &[&[u8]]) -> Option<Result<S
     })
 }
 
-// ---------------------------------------------------------------------------------------- calls in sequences
+// ---------------------------------------------------------------------------------------- nights
 
-/// `--tables=CALLS`: sequences of calls on one buffer and one table, each state held against a plain model made here from the papers: entries as a list, the table counted anew (a true one) or
+/// `--nights CALLS`: sequences of calls on one buffer and one table, each state held against a plain model made here from the papers: entries as a list, the table counted anew (a true one) or
 /// changed by the same sums (another). Prints 'N passed, M failed', N the calls that agreed.
-pub fn sequences(calls: usize) -> bool {
+pub fn nights(calls: usize) -> bool {
     let (mut random, mut passed, mut failed) = (Random(20261117), 0, 0);
     while passed + failed < calls {
-        match sequence(&mut random, calls - passed - failed) {
+        match night(&mut random, calls - passed - failed) {
             Ok(count) => passed += count,
             Err((count, what)) => {
                 passed += count;
                 failed += 1;
-                println!("tables: call {count}: {what}");
+                println!("night: call {count}: {what}");
                 if failed == 10 {
                     break;
                 }
@@ -287,6 +287,17 @@ pub fn sequences(calls: usize) -> bool {
     }
     println!("{passed} passed, {failed} failed");
     failed == 0
+}
+
+struct Random(u64);
+
+impl Random {
+    fn below(&mut self, n: usize) -> usize {
+        self.0 ^= self.0 << 13;
+        self.0 ^= self.0 >> 7;
+        self.0 ^= self.0 << 17;
+        (self.0 % n as u64) as usize
+    }
 }
 
 /// An entry of the model.
@@ -325,8 +336,8 @@ fn records(kept: &[Kept], base: &Table) -> Table {
     table
 }
 
-/// One sequence: at most 400 calls, or 900 that sweep nothing and so fill the bundle. `base` is what the table was off the truth at its beginning: nothing in three sequences of four.
-fn sequence(random: &mut Random, most: usize) -> Result<usize, (usize, &'static str)> {
+/// One night: at most 400 calls, or 900 that sweep nothing and so fill the bundle. `base` is what the table was off the truth at its beginning: nothing in three nights of four.
+fn night(random: &mut Random, most: usize) -> Result<usize, (usize, &'static str)> {
     let full = random.below(12) == 0;
     let room = if full { 20_000 } else { [0, 60, 300, 1000, 4000][random.below(5)] };
     let (calls, kinds) = if full { (900, 12) } else { (50 + random.below(350), 20) };

@@ -309,54 +309,38 @@ after_final t form is n h =
       f ← tell (may_state h.end (binary_framing_of h.lines))
       after_headers form true Missing (response_start is n) h f)
 
+-- behind a final status n
+unfoldable pub after_final_status : Told → Form → List InformationalRead → ℕ → Reader Message
+after_final_status t form is n = do
+  h ← header_section form
+  after_final t form is n h
+
 -- an informational head of status n with the lines of the section h
 abbrev pub informational_read : ℕ → Section → InformationalRead
 informational_read n h = record { status = n; lines = h.lines }
 
--- what reads on behind an informational head, by the informational heads so far
-abbrev pub MoreHeads : Type 0
-MoreHeads = List InformationalRead → Reader Message
-
 -- behind the section of an informational head of status n: it states no length, and `others` reads on behind the heads with it
-unfoldable pub after_informational : MoreHeads → List InformationalRead → ℕ → Section → Reader Message
+unfoldable pub after_informational : (List InformationalRead → Reader Message) → List InformationalRead → ℕ → Section → Reader Message
 after_informational others is n h = do
   u ← tell (nothing_stated h.end (binary_framing_of h.lines))
   others (is ++ informational_read n h ∷ [])
 
 -- behind an informational status n: its section stands there in either edition
-unfoldable pub after_informational_status : Form → MoreHeads → List InformationalRead → ℕ → Reader Message
+unfoldable pub after_informational_status : Form → (List InformationalRead → Reader Message) → List InformationalRead → ℕ → Reader Message
 after_informational_status form others is n = do
   h ← section form
   after_informational others is n h
 
--- what is read behind the final head, by the informational heads before it, its status and its section
-abbrev pub BehindHeads : Type 0
-BehindHeads = List InformationalRead → ℕ → Section → Reader Message
-
--- behind a final status n: its section, and what stands behind the head
-unfoldable pub after_final_status : Form → BehindHeads → List InformationalRead → ℕ → Reader Message
-after_final_status form after is n = do
-  h ← header_section form
-  after is n h
-
--- one head behind the informational heads `is`: a fifth is refused at its status. `others` reads on behind an informational head, `after` behind a final one
-unfoldable pub next_head : Form → MoreHeads → BehindHeads → List InformationalRead → Reader Message
-next_head form others after is = do
+-- one head after another, behind the informational heads `is`: a fifth is refused at its status. The number is above how many may come
+unfoldable pub heads : Told → Form → ℕ → List InformationalRead → Reader Message
+heads t form zero is = refuse too_large 0
+heads t form (suc f) is = do
   p ← here
   v ← integer cut_off p
   n ← tell (rule (status_verdict v) p v)
   cond (is_informational n)
-      (cond (leb informational_most (length is)) (refuse too_large p) (after_informational_status form others is n))
-      (after_final_status form after is n)
-
--- one head after another. The number is above how many may come
-unfoldable pub heads_then : Form → BehindHeads → ℕ → List InformationalRead → Reader Message
-heads_then form after zero is = refuse too_large 0
-heads_then form after (suc f) is = next_head form (heads_then form after f) after is
-
--- all heads as a call is told, and what stands behind them
-abbrev pub heads : Told → Form → ℕ → List InformationalRead → Reader Message
-heads t form f is = heads_then form (after_final t form) f is
+      (cond (leb informational_most (length is)) (refuse too_large p) (after_informational_status form (heads t form f) is n))
+      (after_final_status t form is n)
 
 -- a response
 abbrev pub response_message : Told → Form → Reader Message

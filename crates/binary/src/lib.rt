@@ -2,6 +2,8 @@
 
 // What the sections of a message are like, and what its edition allows: whether lengths are known; whether a value may be empty, whether padding may
 // follow, whether the message may end before its final header section.
+#![tactic(auto)]
+
 #[derive(Drop)]
 pub struct Form {
     pub known: bool,

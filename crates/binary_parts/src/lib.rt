@@ -1,4 +1,6 @@
 // Reading Binary HTTP from one whole input: control data, sections, content, padding.
+#![tactic(auto)]
+
 pub mod content;
 pub mod control;
 pub mod lines;

@@ -1,5 +1,5 @@
 -- One head of a response, as the code reads it.
-use Prim.Native.Nat.{ℕ, ◌+◌, ◌*◌, ◌<◌, ◌≤◌}
+use Prim.Native.Nat.{ℕ, suc, ◌+◌, ◌<◌, ◌≤◌}
 use mathlib.Core.Path.{◌≡◌, refl, sym, ap, ◌∙◌}
 use mathlib.Core.List.{List}
 use mathlib.Core.Bool.{true, false}
@@ -8,7 +8,6 @@ use borrow.Author.Tests.{eq-eqb, ne_eqb, le-leb, lt-leb, leb-true, leb-false}
 use lib.Dec.{leb}
 use lib.ListN.{length, drop}
 use Rattle.ranges.specs.Ranges.{AnyHeads, FewHeads, SoManyHeads}
-use Rattle.ranges.proofs.Storing.{altered-none}
 use Rattle.octets.specs.Limits.{informational_most}
 use Rattle.octets.specs.Refusals.{too_large, cut_off}
 use Rattle.numbers.specs.Integer.{read_int}
@@ -22,12 +21,13 @@ use Rattle.messages.specs.Rules.{binary_framing_of, nothing_stated}
 use Rattle.messages.specs.declared.Body.{Body}
 use Rattle.messages.specs.declared.BodyAnswer.TheVariants as body
 use Rattle.messages.specs.declared.Notes.{Notes}
+use Rattle.messages.specs.declared.Told.{Told}
 use Rattle.messages.proofs.Noting.{notes-binary, notes-closes}
 use Rattle.messages.proofs.Lengths.{body-read, body_refused}
 use Rattle.binary.specs.declared.Cursor.{Cursor}
 use Rattle.binary.specs.Reader.{Got, no, cursor, ◌>>=◌}
 use Rattle.binary.specs.declared.Form.{Form}
-use Rattle.binary.specs.Read.{section, header_section, MoreHeads, BehindHeads, after_final_status, after_informational, after_informational_status, next_head}
+use Rattle.binary.specs.Read.{section, header_section, after_final, after_final_status, after_informational, after_informational_status, heads}
 use Rattle.binary_parts.specs.Section.{Sectioned}
 use Rattle.binary_parts.specs.declared.Section as answer
 use Rattle.binary_parts.specs.declared.Section.TheVariants as section-read
@@ -36,7 +36,7 @@ use Rattle.binary_parts.proofs.SectionLines.{section-lines, header-lines}
 use Rattle.binary_reader.specs.Heads.{FinalStatus, HeadStored, HeadSays, Headed}
 use Rattle.binary_reader.specs.declared.HeadRead.{HeadRead}
 use Rattle.binary_reader.specs.declared.HeadRead.TheVariants as head
-use Rattle.binary_reader.proofs.SectionOutcomes.{SectionDone, section-no, section-altered, section-done, behind-no, behind-got}
+use Rattle.binary_reader.proofs.SectionOutcomes.{SectionDone, section-no, section-done, behind-no, behind-got}
 
 pub framing-noted : (n : Notes) (h : Section) → n ≡ notes_of false h.lines → n.framing ≡ binary_framing_of h.lines
 framing-noted n h e = ap (λ (n : Notes). n.framing) e ∙ notes-binary h.lines
@@ -44,12 +44,12 @@ framing-noted n h e = ap (λ (n : Notes). n.framing) e ∙ notes-binary h.lines
 pub closing-noted : (n : Notes) (h : Section) → n ≡ notes_of false h.lines → n.closes ≡ closes h.lines
 closing-noted n h e = ap (λ (n : Notes). n.closes) e ∙ notes-closes false h.lines
 
--- readers that answer alike say the same
-says_same : (is : List InformationalRead) (s : List ℕ) (base : ℕ) (hs hs' : List ℕ) (r : HeadRead) {x y : MoreHeads → BehindHeads → Got Message}
-    → ((u : MoreHeads) (v : BehindHeads) → x u v ≡ y u v) → HeadSays y is s base hs hs' r → HeadSays x is s base hs hs' r
-says_same is s base hs hs' (head.Informational n e k) q d = (d.0, d.1, d.2, λ u v. q u v ∙ d.3 u v)
-says_same is s base hs hs' (head.Final n e k notes) q d = (d.0, d.1, d.2, d.3, λ u v. q u v ∙ d.4 u v)
-says_same is s base hs hs' (head.Refused i p) q d = (d.0, λ u v. q u v ∙ d.1 u v)
+-- an answer that equals another, whatever is told, says the same
+pub says-as : (form : Form) (f : ℕ) (is : List InformationalRead) (s : List ℕ) (base : ℕ) (hs hs' : List ℕ) (r : HeadRead) {x y : Told → Got Message}
+    → ((t : Told) → x t ≡ y t) → HeadSays y form f is s base hs hs' r → HeadSays x form f is s base hs hs' r
+says-as form f is s base hs hs' (head.Informational n e k) q u = (u.0, u.1, u.2, λ t. q t ∙ u.3 t)
+says-as form f is s base hs hs' (head.Final n e k notes) q u = (u.0, u.1, u.2, u.3, λ t. q t ∙ u.4 t)
+says-as form f is s base hs hs' (head.Refused i p) q u = λ t. q t ∙ u t
 
 -- ---- the section behind a status
 
@@ -59,9 +59,9 @@ module _ (s : List ℕ) {base : ℕ} {hs hs' : List ℕ} where
 
 module _ (s : List ℕ) (form : Form) (next : Cursor) (status : ℕ) {base : ℕ} {hs hs' : List ℕ} {r : answer.Section} (w : Sectioned s (section form next (drop next.at s)) true true base hs hs' r) where
   pub informational-no : {i p : ℕ} → r ≡ section-read.Refused i p
-      → Headed FewHeads (λ is u v. after_informational_status form u is status next (drop next.at s)) s base hs hs' (head.Refused i p)
+      → Headed FewHeads (λ f is t. after_informational_status form (heads t form f) is status next (drop next.at s)) form s base hs hs' (head.Refused i p)
   unfolding after_informational_status
-  informational-no e = record { by = λ is z. (section-altered w e, λ u v. behind-no (section form) (after_informational u is status) s next (section-no w e)) }
+  informational-no e = record { by = λ f is z t. behind-no (section form) (after_informational (heads t form f) is status) s next (section-no w e) }
 
   module _ (within : next.at ≤ length s) (few : next.long ≤ next.at) {e : Cursor} {c : ℕ} {n : Notes} (q : r ≡ section-read.Done e c n) where
     done : SectionDone s (section form next (drop next.at s)) true true base hs hs' e c n
@@ -72,88 +72,85 @@ module _ (s : List ℕ) (form : Form) (next : Cursor) (status : ℕ) {base : ℕ
     judged d = rw (d.end, framing-noted n d.read d.noted) refl
 
     pub informational-states : {i p : ℕ} → body_answer (nothing_stated e.at n.framing) ≡ body.Refused i p
-        → Headed FewHeads (λ is u v. after_informational_status form u is status next (drop next.at s)) s base hs hs' (head.Refused i p)
+        → Headed FewHeads (λ f is t. after_informational_status form (heads t form f) is status next (drop next.at s)) form s base hs hs' (head.Refused i p)
     unfolding after_informational_status after_informational ◌>>=◌
     informational-states {i} {p} g =
         let z : nothing_stated done.read.end (binary_framing_of done.read.lines) ≡ wrong i p = sym (judged done) ∙ body_refused _ i p g in
-        record { by = λ is few. (done.stored.altered, λ u v. behind-got (section form) (after_informational u is status) s next done.gives ∙ rw z) }
+        record { by = λ f is few t. behind-got (section form) (after_informational (heads t form f) is status) s next done.gives ∙ rw z }
 
     pub informational-ends : (b : Body) → body_answer (nothing_stated e.at n.framing) ≡ body.Read b
-        → Headed FewHeads (λ is u v. after_informational_status form u is status next (drop next.at s)) s base hs hs' (head.Informational status e c)
+        → Headed FewHeads (λ f is t. after_informational_status form (heads t form f) is status next (drop next.at s)) form s base hs hs' (head.Informational status e c)
     unfolding after_informational_status after_informational ◌>>=◌
     informational-ends b g =
         let z : nothing_stated done.read.end (binary_framing_of done.read.lines) ≡ good b = sym (judged done) ∙ body-read _ b g in
-        record { by = λ is few. (done.read, head-stored s done, few, λ u v. behind-got (section form) (after_informational u is status) s next done.gives ∙ rw z) }
+        record { by = λ f is few. (done.read, head-stored s done, few, λ t. behind-got (section form) (after_informational (heads t form f) is status) s next done.gives ∙ rw z) }
 
 module _ (s : List ℕ) (form : Form) (next : Cursor) (status : ℕ) {base : ℕ} {hs hs' : List ℕ} {r : answer.Section}
     (w : Sectioned s (header_section form next (drop next.at s)) true true base hs hs' r) where
   pub final-no : {i p : ℕ} → r ≡ section-read.Refused i p
-      → Headed AnyHeads (λ is u v. after_final_status form v is status next (drop next.at s)) s base hs hs' (head.Refused i p)
+      → Headed AnyHeads (λ f is t. after_final_status t form is status next (drop next.at s)) form s base hs hs' (head.Refused i p)
   unfolding after_final_status
-  final-no e = record { by = λ is z. (section-altered w e, λ u v. behind-no (header_section form) (v is status) s next (section-no w e)) }
+  final-no e = record { by = λ f is z t. behind-no (header_section form) (after_final t form is status) s next (section-no w e) }
 
   pub final-ends : next.at ≤ length s → next.long ≤ next.at → {e : Cursor} {c : ℕ} {n : Notes} → r ≡ section-read.Done e c n → FinalStatus status
-      → Headed AnyHeads (λ is u v. after_final_status form v is status next (drop next.at s)) s base hs hs' (head.Final status e c n)
+      → Headed AnyHeads (λ f is t. after_final_status t form is status next (drop next.at s)) form s base hs hs' (head.Final status e c n)
   unfolding after_final_status
-  final-ends within few q q' =
+  final-ends within few q u =
       let d = section-done w (header-lines form s next within few) q in
-      record { by = λ is z. (d.read, head-stored s d, d.noted, q', λ u v. behind-got (header_section form) (v is status) s next d.gives) }
+      record { by = λ f is z. (d.read, head-stored s d, d.noted, u, λ t. behind-got (header_section form) (after_final t form is status) s next d.gives) }
 
 -- ---- the status
 
-module _ (s : List ℕ) (form : Form) (i : Cursor) (u : MoreHeads) (v : BehindHeads) (is : List InformationalRead) where
-  status-cut : read_int i.at (drop i.at s) ≡ Cut → next_head form u v is i (drop i.at s) ≡ no cut_off i.at
-  unfolding next_head ◌>>=◌
+module _ (s : List ℕ) (form : Form) (i : Cursor) (f : ℕ) (is : List InformationalRead) (t : Told) where
+  status-cut : read_int i.at (drop i.at s) ≡ Cut → heads t form (suc f) is i (drop i.at s) ≡ no cut_off i.at
+  unfolding heads ◌>>=◌
   status-cut e = rw (integer-cut s i cut_off i.at e)
 
   module _ {n next l : ℕ} (e : read_int i.at (drop i.at s) ≡ Value n next l) where
-    status-wrong : (status_verdict n ≡ 0 → ⊥) → next_head form u v is i (drop i.at s) ≡ no (status_verdict n) i.at
-    unfolding next_head ◌>>=◌
+    status-wrong : (status_verdict n ≡ 0 → ⊥) → heads t form (suc f) is i (drop i.at s) ≡ no (status_verdict n) i.at
+    unfolding heads ◌>>=◌
     status-wrong z = rw (integer-got s i cut_off i.at e, ne_eqb (status_verdict n) 0 z)
 
     module _ (z : status_verdict n ≡ 0) where
-      status-full : is_informational n ≡ true → informational_most ≤ length is → next_head form u v is i (drop i.at s) ≡ no too_large i.at
-      unfolding next_head ◌>>=◌
+      status-full : is_informational n ≡ true → informational_most ≤ length is → heads t form (suc f) is i (drop i.at s) ≡ no too_large i.at
+      unfolding heads ◌>>=◌
       status-full b g = rw (integer-got s i cut_off i.at e, eq-eqb (status_verdict n) 0 z, b, le-leb _ _ g)
 
       status-informational : is_informational n ≡ true → length is < informational_most
-          → next_head form u v is i (drop i.at s) ≡ after_informational_status form u is n (cursor next (i.long + l)) (drop next s)
-      unfolding next_head ◌>>=◌
+          → heads t form (suc f) is i (drop i.at s) ≡ after_informational_status form (heads t form f) is n (cursor next (i.long + l)) (drop next s)
+      unfolding heads ◌>>=◌
       status-informational b g = rw (integer-got s i cut_off i.at e, eq-eqb (status_verdict n) 0 z, b, lt-leb _ _ g)
 
-      status-final : is_informational n ≡ false → next_head form u v is i (drop i.at s) ≡ after_final_status form v is n (cursor next (i.long + l)) (drop next s)
-      unfolding next_head ◌>>=◌
+      status-final : is_informational n ≡ false → heads t form (suc f) is i (drop i.at s) ≡ after_final_status t form is n (cursor next (i.long + l)) (drop next s)
+      unfolding heads ◌>>=◌
       status-final b = rw (integer-got s i cut_off i.at e, eq-eqb (status_verdict n) 0 z, b)
 
-module _ (s : List ℕ) (form : Form) (i : Cursor) (count base : ℕ) (hs : List ℕ) where
+module _ (s : List ℕ) (form : Form) (i : Cursor) (count base : ℕ) (hs hs' : List ℕ) where
   pub next-cut : read_int i.at (drop i.at s) ≡ Cut
-      → Headed (SoManyHeads count) (λ is u v. next_head form u v is i (drop i.at s)) s base hs hs (head.Refused cut_off i.at)
-  next-cut e = record { by = λ is c. (altered-none (base * 4) hs, λ u v. status-cut s form i u v is e) }
+      → Headed (SoManyHeads count) (λ f is t. heads t form (suc f) is i (drop i.at s)) form s base hs hs' (head.Refused cut_off i.at)
+  next-cut e = record { by = λ f is z t. status-cut s form i f is t e }
 
-  module _ {n next l : ℕ} (e : read_int i.at (drop i.at s) ≡ Value n next l) {k : ℕ} (q : k ≡ status_verdict n) where
-    pub next-wrong : (k ≡ 0 → ⊥) → Headed (SoManyHeads count) (λ is u v. next_head form u v is i (drop i.at s)) s base hs hs (head.Refused k i.at)
-    next-wrong z = record { by = λ is c. (altered-none (base * 4) hs, λ u v. status-wrong s form i u v is e (λ y. z (q ∙ y)) ∙ rw q) }
+  module _ {n next l : ℕ} (e : read_int i.at (drop i.at s) ≡ Value n next l) {v : ℕ} (q : v ≡ status_verdict n) where
+    pub next-wrong : (v ≡ 0 → ⊥) → Headed (SoManyHeads count) (λ f is t. heads t form (suc f) is i (drop i.at s)) form s base hs hs' (head.Refused v i.at)
+    next-wrong z = record { by = λ f is c t. status-wrong s form i f is t e (λ u. z (q ∙ u)) ∙ rw q }
 
-    module _ (z : k ≡ 0) where
+    module _ (z : v ≡ 0) where
       pub next-full : is_informational n ≡ true → leb (count + 1) informational_most ≡ false
-          → Headed (SoManyHeads count) (λ is u v. next_head form u v is i (drop i.at s)) s base hs hs (head.Refused too_large i.at)
-      next-full b g =
-          record {
-            by = λ is c.
-                (altered-none (base * 4) hs, λ u v. status-full s form i u v is e (sym q ∙ z) b (omega (arith, leb-false (count + 1) informational_most g, c)));
-          }
+          → Headed (SoManyHeads count) (λ f is t. heads t form (suc f) is i (drop i.at s)) form s base hs hs' (head.Refused too_large i.at)
+      next-full b g = record { by = λ f is c t. status-full s form i f is t e (sym q ∙ z) b (omega (arith, leb-false (count + 1) informational_most g, c)) }
 
-      module _ {hs' : List ℕ} {r : HeadRead} where
+      module _ {r : HeadRead} where
         pub next-informational : is_informational n ≡ true → leb (count + 1) informational_most ≡ true
-            → Headed FewHeads (λ is u v. after_informational_status form u is n (cursor next (i.long + l)) (drop next s)) s base hs hs' r
-            → Headed (SoManyHeads count) (λ is u v. next_head form u v is i (drop i.at s)) s base hs hs' r
+            → Headed FewHeads (λ f is t. after_informational_status form (heads t form f) is n (cursor next (i.long + l)) (drop next s)) form s base hs hs' r
+            → Headed (SoManyHeads count) (λ f is t. heads t form (suc f) is i (drop i.at s)) form s base hs hs' r
         next-informational b g h =
             record {
-              by = λ is c.
+              by = λ f is c.
                   let few : length is < informational_most = omega (arith, leb-true (count + 1) informational_most g, c) in
-                  says_same is s base hs hs' r (λ u v. status-informational s form i u v is e (sym q ∙ z) b few) (h.by is few);
+                  says-as form f is s base hs hs' r (λ t. status-informational s form i f is t e (sym q ∙ z) b few) (h.by f is few);
             }
 
-        pub next-final : is_informational n ≡ false → Headed AnyHeads (λ is u v. after_final_status form v is n (cursor next (i.long + l)) (drop next s)) s base hs hs' r
-            → Headed (SoManyHeads count) (λ is u v. next_head form u v is i (drop i.at s)) s base hs hs' r
-        next-final b h = record { by = λ is c. says_same is s base hs hs' r (λ u v. status-final s form i u v is e (sym q ∙ z) b) (h.by is tt) }
+        pub next-final : is_informational n ≡ false → Headed AnyHeads (λ f is t. after_final_status t form is n (cursor next (i.long + l)) (drop next s)) form s base hs hs' r
+            → Headed (SoManyHeads count) (λ f is t. heads t form (suc f) is i (drop i.at s)) form s base hs hs' r
+        next-final b h =
+            record { by = λ f is c. says-as form f is s base hs hs' r (λ t. status-final s form i f is t e (sym q ∙ z) b) (h.by f is tt) }

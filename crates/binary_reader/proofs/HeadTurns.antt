@@ -12,22 +12,23 @@ use Rattle.messages.specs.Message.{InformationalRead, Section, Message}
 use Rattle.messages.specs.Names.{kept}
 use Rattle.messages.specs.Answers.{fields_numbers, informational_numbers, informational_lines}
 use Rattle.messages.specs.declared.Notes.{Notes}
+use Rattle.messages.specs.declared.Told.{Told}
 use Rattle.messages.proofs.Noting.{kept-few}
-use Rattle.ranges.proofs.Stored.{numbers-length}
-use Rattle.ranges.proofs.Storing.{altered-none, stores-none, stores-behind}
+use Rattle.ranges.proofs.Storing.{altered-none, stores-none}
 use Rattle.ranges.proofs.HeadsStored.{lines_snoc, fields-more, numbers_more}
 use Rattle.binary.specs.declared.Cursor.{Cursor}
 use Rattle.binary.specs.Reader.{Got, cursor}
 use Rattle.binary.specs.declared.Form.{Form}
-use Rattle.binary.specs.Read.{informational_read, MoreHeads, BehindHeads, next_head, heads_then}
-use Rattle.binary_reader.specs.Heads.{HeadStored, HeadSays, Headed, heads_run, HeadsTaken}
+use Rattle.binary.specs.Read.{informational_read, heads, response_message}
+use Rattle.binary_reader.specs.Heads.{HeadStored, HeadSays, Headed, HeadsTaken}
 use Rattle.binary_reader.specs.declared.HeadRead.{HeadRead}
 use Rattle.binary_reader.specs.declared.HeadRead.TheVariants as head
 use Rattle.binary_reader.specs.declared.HeadsRead.TheVariants as heads-read
+use Rattle.binary_reader.proofs.HeadLaws.{says-as}
 
--- what was read of s up to the place i, where the reader of the whole answers x, whatever reads on behind the heads: informational heads whose fields are stored in hs
--- and whose numbers are stored in ns
-pub record HeadsTo (x : BehindHeads → Got Message) (form : Form) (s hs₀ hs ns₀ ns : List ℕ) (i count base longs : ℕ) : Type 0 where
+-- what was read of s up to the place i, where the reader of the whole answers x, whatever is told: informational heads whose fields are stored in hs and whose numbers
+-- are stored in ns
+pub record HeadsTo (x : Told → Got Message) (form : Form) (s hs₀ hs ns₀ ns : List ℕ) (i count base longs : ℕ) : Type 0 where
   pub read : List InformationalRead
   pub counted : length read ≡ count
   pub most : count ≤ informational_most
@@ -35,11 +36,11 @@ pub record HeadsTo (x : BehindHeads → Got Message) (form : Form) (s hs₀ hs n
   pub few : base ≤ count * lines_most
   pub stored : Stores hs₀ 0 (fields_numbers (informational_lines read)) hs
   pub numbers : ns ≡ splice ns₀ 0 (informational_numbers read)
-  pub turn : (v : BehindHeads) → x v ≡ heads_then form v (suc (informational_most - count)) read (cursor i longs) (drop i s)
+  pub turn : (t : Told) → x t ≡ heads t form (suc (informational_most - count)) read (cursor i longs) (drop i s)
   pub long : longs ≤ i
 
 pub heads-start : (form : Form) (s hs ns : List ℕ) (from : Cursor) → from.long ≤ from.at
-    → HeadsTo (heads_run form from s) form s hs hs ns ns from.at 0 0 from.long
+    → HeadsTo (λ t. response_message t form from (drop from.at s)) form s hs hs ns ns from.at 0 0 from.long
 unfolding informational_lines informational_numbers fields_numbers
 heads-start form s hs ns from few =
     record {
@@ -50,34 +51,22 @@ heads-start form s hs ns from few =
       few = omega arith;
       stored = stores-none (altered-none 0 hs) (omega arith);
       numbers = refl;
-      turn = λ v. refl;
+      turn = λ t. refl;
       long = few;
     }
 
-module _ {x : BehindHeads → Got Message} {form : Form} {s hs₀ hs hs' ns₀ ns : List ℕ} {i count base longs : ℕ} (to : HeadsTo x form s hs₀ hs ns₀ ns i count base longs) {r : HeadRead}
-    (w : Headed (SoManyHeads count) (λ is u v. next_head form u v is (cursor i longs) (drop i s)) s base hs hs' r) where
-  says : {q : HeadRead} → r ≡ q → HeadSays (λ u v. next_head form u v to.read (cursor i longs) (drop i s)) to.read s base hs hs' q
-  says e =
-      subst (λ (z : HeadRead). HeadSays (λ u v. next_head form u v to.read (cursor i longs) (drop i s)) to.read s base hs hs' z) e (w.by to.read to.counted)
+module _ {x : Told → Got Message} {form : Form} {s hs₀ hs hs' ns₀ ns : List ℕ} {i count base longs : ℕ} (to : HeadsTo x form s hs₀ hs ns₀ ns i count base longs) {r : HeadRead}
+    (w : Headed (SoManyHeads count) (λ f is t. heads t form (suc f) is (cursor i longs) (drop i s)) form s base hs hs' r) where
+  says : {q : HeadRead} → r ≡ q → HeadSays x form (informational_most - count) to.read s base hs hs' q
+  says {q} e =
+      says-as form (informational_most - count) to.read s base hs hs' q to.turn
+      (subst
+      (λ (z : HeadRead).
+      HeadSays (λ t. heads t form (suc (informational_most - count)) to.read (cursor i longs) (drop i s)) form (informational_most - count) to.read s base hs hs' z)
+      e (w.by (informational_most - count) to.read to.counted))
 
-  -- what reads on behind an informational head: the heads that may still come
-  abbrev onward : BehindHeads → MoreHeads
-  onward v = heads_then form v (informational_most - count)
-
-  turns : (v : BehindHeads) → x v ≡ next_head form (onward v) v to.read (cursor i longs) (drop i s)
-  unfolding heads_then
-  turns v = to.turn v
-
-  few-read : length to.read ≤ informational_most
-  few-read = omega (arith, to.counted, to.most)
-
-  pub heads-refused : {k p : ℕ} → r ≡ head.Refused k p → HeadsTaken x s hs₀ hs' ns₀ ns (heads-read.Refused k p)
-  heads-refused e =
-      let d = says e in
-      let g : 0 + length (fields_numbers (informational_lines to.read)) ≤ base * 4 = omega (arith, numbers-length (informational_lines to.read), to.fields) in
-      record {
-        says = (to.read, record { few = few-read; fields = stores-behind to.stored g d.0; numbers = to.numbers }, λ v. turns v ∙ d.1 (onward v) v);
-      }
+  pub heads-refused : (ns' : List ℕ) {k p : ℕ} → r ≡ head.Refused k p → HeadsTaken x form s hs₀ hs' ns₀ ns' (heads-read.Refused k p)
+  heads-refused ns' e = record { says = says e }
 
   -- the fields of one head more
   stored_more : {e : Cursor} {k : ℕ} {h : Section} → HeadStored s base hs hs' e k h → Stores hs₀ 0 (fields_numbers (informational_lines to.read ++ kept true h.lines)) hs'
@@ -88,7 +77,7 @@ module _ {x : BehindHeads → Got Message} {form : Form} {s hs₀ hs hs' ns₀ n
       pub final-some : base ≤ k
       final-some = omega (arith, (says q).1.count)
 
-      pub heads-final : HeadsTaken x s hs₀ hs' ns₀ ns (heads-read.Done n e count (k - base) notes)
+      pub heads-final : HeadsTaken x form s hs₀ hs' ns₀ ns (heads-read.Done n e count (k - base) notes)
       heads-final =
           let d = says q in
           record {
@@ -96,8 +85,9 @@ module _ {x : BehindHeads → Got Message} {form : Form} {s hs₀ hs hs' ns₀ n
               to.read,
               d.0,
               record { end = d.1.end; within = d.1.within; heads = to.counted; fields = omega (arith, d.1.count); noted = d.2; status = d.3; counted = d.1.counted },
-              record { few = few-read; fields = stored_more d.1; numbers = to.numbers },
-              λ v. turns v ∙ d.4 (onward v) v,
+              d.4,
+              stored_more d.1,
+              to.numbers,
             );
           }
 
@@ -123,6 +113,6 @@ module _ {x : BehindHeads → Got Message} {form : Form} {s hs₀ hs hs' ns₀ n
             few = omega (arith, few, to.few);
             stored = rw (lines_snoc to.read y) (stored_more d.1);
             numbers = numbers_more ns₀ to.read y to.counted to.numbers f stores;
-            turn = λ v. turns v ∙ d.3 (onward v) v ∙ ap (λ (m : ℕ). heads_then form v m (to.read ++ y ∷ []) e (drop e.at s)) g;
+            turn = λ t. d.3 t ∙ ap (λ (m : ℕ). heads t form m (to.read ++ y ∷ []) e (drop e.at s)) g;
             long = d.1.counted;
           }

@@ -1,7 +1,6 @@
 pub mod SectionOutcomes
 pub mod HeadLaws
 pub mod HeadTurns
-pub mod Determined
 pub mod Trailing
 pub mod RestLaws
 pub mod Answered

@@ -26,7 +26,7 @@ use Rattle.messages.proofs.Lengths.{body-read, body_refused, may-state, may-not-
 use Rattle.binary.specs.declared.Cursor.{Cursor}
 use Rattle.binary.specs.Reader.{Got, got, no, ◌>>=◌}
 use Rattle.binary.specs.declared.Form.{Form}
-use Rattle.binary.specs.Read.{after_headers, after_final, BehindHeads, message_answer}
+use Rattle.binary.specs.Read.{after_headers, after_final, message_answer}
 use Rattle.ranges.specs.Ranges.{Responded}
 use Rattle.binary_reader.specs.Heads.{HeadsFacts, HeadsSays, HeadsTaken}
 use Rattle.binary_reader.specs.Rest.{RestSays, Rested}
@@ -118,13 +118,12 @@ module _ (t : Told) (s : List ℕ) (form : Form) (status : ℕ) (e : Cursor) (c 
 
 -- ---- the whole
 
-module _ {x : BehindHeads → Got Message} {s hs hs' ns ns' : List ℕ} {r : HeadsRead} (w : HeadsTaken x s hs hs' ns ns' r) where
-  taken : {o : HeadsRead} → r ≡ o → HeadsSays x s hs hs' ns ns' o
-  taken q = subst (λ (z : HeadsRead). HeadsSays x s hs hs' ns ns' z) q w.says
+module _ {x : Told → Got Message} {form : Form} {s hs hs' ns ns' : List ℕ} {r : HeadsRead} (w : HeadsTaken x form s hs hs' ns ns' r) where
+  taken : {o : HeadsRead} → r ≡ o → HeadsSays x form s hs hs' ns ns' o
+  taken q = subst (λ (z : HeadsRead). HeadsSays x form s hs hs' ns ns' z) q w.says
 
-  pub responded-no : (t : Told) (form : Form) {cs cs' ts ts' : List ℕ} {i p : ℕ} → r ≡ heads-read.Refused i p
-      → Responded (message_answer (x (after_final t form))) hs hs' ns ns' cs cs' ts ts' (outcome.Refusal i p)
-  responded-no t form q = answered-no ((taken q).2 (after_final t form))
+  pub responded-no : (t : Told) {cs cs' ts ts' : List ℕ} {i p : ℕ} → r ≡ heads-read.Refused i p → Responded (message_answer (x t)) hs hs' ns ns' cs cs' ts ts' (outcome.Refusal i p)
+  responded-no t q = answered-no (taken q t)
 
   module _ {n : ℕ} {e : Cursor} {c k : ℕ} {notes : Notes} (q : r ≡ heads-read.Done n e c k notes) where
     pub final-within : e.at ≤ length s
@@ -133,9 +132,7 @@ module _ {x : BehindHeads → Got Message} {s hs hs' ns ns' : List ℕ} {r : Hea
     pub final-few : e.long ≤ e.at
     final-few = (taken q).2.counted
 
-    pub responded-final : (t : Told) {form : Form} {cs cs' ts ts' : List ℕ} {o : Outcome} → FinalRead t s form n e c k notes cs cs' ts ts' o
-        → Responded (message_answer (x (after_final t form))) hs hs' ns ns' cs cs' ts ts' o
-    responded-final t {form} f =
+    pub responded-final : (t : Told) {cs cs' ts ts' : List ℕ} {o : Outcome} → FinalRead t s form n e c k notes cs cs' ts ts' o → Responded (message_answer (x t)) hs hs' ns ns' cs cs' ts ts' o
+    responded-final t f =
         let d = taken q in
-        answered-as (d.4 (after_final t form))
-        (with-headers (after_final t form d.0 n d.1 e (drop e.at s)) d.3.fields d.3.numbers (f.by d.0 d.1 d.2))
+        answered-as (d.3 t) (with-headers (after_final t form d.0 n d.1 e (drop e.at s)) d.4 d.5 (f.by d.0 d.1 d.2))

@@ -13,7 +13,7 @@ use Rattle.messages.specs.declared.Notes.{Notes}
 use Rattle.binary.specs.declared.Cursor.{Cursor}
 use Rattle.binary.specs.Reader.{Got, got, no, Reader, ◌>>=◌}
 use Rattle.binary_sound.proofs.Lines.{LinesAt}
-use Rattle.ranges.specs.Ranges.{AlteredFrom, Stores}
+use Rattle.ranges.specs.Ranges.{Stores}
 use Rattle.binary_parts.specs.Section.{Onward, SectionSays, Sectioned}
 use Rattle.binary_parts.specs.declared.Section as answer
 use Rattle.binary_parts.specs.declared.Section.TheVariants.{Done, Refused}
@@ -41,13 +41,6 @@ module _ {s : List ℕ} {x : Got Section} {headers host : Bool} {k : ℕ} {o o' 
       go : (y : Got Section) → SectionSays s y headers host k o o' r → y ≡ no n p
       go (got a i l) q = clash (sym q.0 ∙ e)
       go (no j m) q = let z : Refused j m ≡ Refused n p = sym q.0 ∙ e in cc
-
-  pub section-altered : {n p : ℕ} → r ≡ Refused n p → AlteredFrom (k * 4) o o'
-  section-altered {n} {p} e = go x h.says
-    where
-      go : (y : Got Section) → SectionSays s y headers host k o o' r → AlteredFrom (k * 4) o o'
-      go (got a i l) q = clash (sym q.0 ∙ e)
-      go (no j m) q = q.1
 
   pub section-done : {e : Cursor} {c : ℕ} {n : Notes} → InLines s x → r ≡ Done e c n → SectionDone s x headers host k o o' e c n
   section-done {e} {c} {n} w d = go x w h.says

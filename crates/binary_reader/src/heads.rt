@@ -1,12 +1,12 @@
 // The heads of a response.
-ghost use Rattle.std.specs.Prelude.{◌≡◌, ◌+◌, ◌*◌, ◌≤◌, ◌<◌, length, drop};
+ghost use Rattle.std.specs.Prelude.{◌≡◌, suc, ◌+◌, ◌*◌, ◌≤◌, ◌<◌, length, drop};
 ghost use Rattle.ranges.specs.Ranges.{AnyHeads, FewHeads, SoManyHeads};
 ghost use Rattle.octets.specs.Table.{classes};
 ghost use Rattle.octets.specs.Limits.{informational_most};
 ghost use Rattle.ranges.specs.Ranges.{places_end};
-ghost use Rattle.binary.specs.Read.{after_final_status, after_informational_status, next_head};
+ghost use Rattle.binary.specs.Read.{after_final_status, after_informational_status, heads, response_message};
 ghost use Rattle.messages.specs.Room.{section_room, heads_room, informational_room};
-ghost use Rattle.binary_reader.specs.Heads.{FinalStatus, Headed, heads_run, HeadsTaken};
+ghost use Rattle.binary_reader.specs.Heads.{FinalStatus, Headed, HeadsTaken};
 
 use crate::{HeadRead, HeadsRead};
 use binary::{Cursor, Form};
@@ -31,8 +31,8 @@ fn after_informational_status(
 ) -> HeadRead
     requires { (t.now ≡ classes) × (next.at ≤ length s.now) × (length s.now < places_end) × (base * 4 + section_room ≤ length headers.old)
         × (next.long ≤ next.at) }
-    ensures { Headed FewHeads (λ is others after. after_informational_status form others is status next (drop next.at s.now))
-        s.now base headers.old headers.new result }
+    ensures { Headed FewHeads (λ f is told. after_informational_status form (heads told form f) is status next (drop next.at s.now))
+        form s.now base headers.old headers.new result }
 {
     let h = read_section(t, s, next, form, true, true, base, headers);
     match h {
@@ -60,8 +60,8 @@ fn after_final_status(
 ) -> HeadRead
     requires { (t.now ≡ classes) × (next.at ≤ length s.now) × (length s.now < places_end) × (base * 4 + section_room ≤ length headers.old)
         × FinalStatus status × (next.long ≤ next.at) }
-    ensures { Headed AnyHeads (λ is others after. after_final_status form after is status next (drop next.at s.now))
-        s.now base headers.old headers.new result }
+    ensures { Headed AnyHeads (λ f is told. after_final_status told form is status next (drop next.at s.now))
+        form s.now base headers.old headers.new result }
 {
     let h = header_section(t, s, next, form, true, base, headers);
     match h {
@@ -87,8 +87,8 @@ pub(crate) fn next_head(
 ) -> HeadRead
     requires { (t.now ≡ classes) × (length s.now < places_end) × (base * 4 + section_room ≤ length headers.old) × (count ≤ informational_most)
         × (i.long ≤ i.at) }
-    ensures { Headed (SoManyHeads count) (λ is others after. next_head form others after is i (drop i.at s.now))
-        s.now base headers.old headers.new result }
+    ensures { Headed (SoManyHeads count) (λ f is told. heads told form (suc f) is i (drop i.at s.now))
+        form s.now base headers.old headers.new result }
 {
     let at = i.at;
     let n = read_int(s, at);
@@ -136,7 +136,7 @@ pub(crate) fn read_heads(
 ) -> HeadsRead
     requires { (t.now ≡ classes) × (length s.now < places_end)
         × (heads_room ≤ length headers.old) × (informational_room ≤ length informational.old) × (from.long ≤ from.at) }
-    ensures { HeadsTaken (heads_run form from s.now) s.now
+    ensures { HeadsTaken (λ told. response_message told form from (drop from.at s.now)) form s.now
         headers.old headers.new informational.old informational.new result }
 {
     let mut i = from.at;

@@ -1,4 +1,6 @@
 // The reader of Binary HTTP: whole messages, from control data to padding.
+#![tactic(auto)]
+
 mod heads;
 mod request;
 mod response;

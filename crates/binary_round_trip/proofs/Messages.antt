@@ -31,7 +31,7 @@ use Rattle.messages.proofs.Stating.{fields-ok, stated-lines, framing_for, stated
 use Rattle.messages.proofs.ValidLines.{content-back}
 use Rattle.binary.specs.Reader.{rule, integer}
 use Rattle.binary.specs.Read.{rfc9292, known_content, content, content_agrees, content_rule, trailers_agree, trailer_rule, trailers, padding, after_content, after_headers, after_head, after_control}
-use Rattle.binary.specs.Read.{header_section, request_message, after_final, after_final_status, after_informational, after_informational_status, next_head, heads_then, heads}
+use Rattle.binary.specs.Read.{header_section, request_message, after_final, after_final_status, after_informational, after_informational_status, heads}
 use Rattle.binary_writer.specs.Write.{counted, fields_bytes, section_bytes, scheme_bytes, informational_bytes}
 use Rattle.binary_round_trip.specs.RoundTrip.{counted_at, lines_at, section_at, head_at, heads_at, header_of, placed_from}
 use Rattle.binary_round_trip.proofs.Judgement.{Reads, reads_none, reads-give, reads_here, reads-longs, reads-ended, reads-tell, reads-integer, reads-bind, before, behind, reads_as}
@@ -183,7 +183,7 @@ module _ (t : Told) (w : Meaning) (hs : List Informational) (n : ℕ) (c : w.con
 
 reads-final : (t : Told) (w : Meaning) (hs : List Informational) (is : List InformationalRead) (n at : ℕ) → w.control ≡ response hs n → Suited t n w
     → (b : Bool) → ends_at_head t n ≡ b → TailOk true (not b) w
-    → Reads (after_final_status (rfc9292 true) (after_final t (rfc9292 true)) is n) at (tail_bytes w) [] (placed_from (response_start is n) at w)
+    → Reads (after_final_status t (rfc9292 true) is n) at (tail_bytes w) [] (placed_from (response_start is n) at w)
 unfolding after_final_status after_final placed_from
 reads-final t w hs is n at c s true e ok =
     reads-bind _ (reads-header true false w ok at _)
@@ -206,7 +206,7 @@ pub reads-response : (t : Told) (w : Meaning) (all : List Informational) (n : �
     → length is + length hs ≤ informational_most → length (informational_bytes hs) ≤ binary_most
     → Reads (heads t (rfc9292 true) f is) at (informational_bytes hs ++ (int_bytes n ++ tail_bytes w)) []
     (placed_from (response_start (is ++ heads_at at hs) n) (at + length (informational_bytes hs ++ int_bytes n)) w)
-unfolding heads_then next_head after_informational_status after_informational informational_bytes heads_at
+unfolding heads after_informational_status after_informational informational_bytes heads_at
 reads-response t w all n c s e late ok [] zero at is v h g k = absurd (omega arith)
 reads-response t w all n c s e late ok (x ∷ hs) zero at is v h g k = absurd (omega arith)
 reads-response t w all n c s e late ok [] (suc f) at is v h g k =

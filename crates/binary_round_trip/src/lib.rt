@@ -1,1 +1,3 @@
 // The round trip of Binary HTTP: definitions and laws, no code.
+
+#![tactic(auto)]

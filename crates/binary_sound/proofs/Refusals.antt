@@ -30,7 +30,7 @@ use Rattle.binary.specs.declared.Form.{Form}
 use Rattle.binary.specs.declared.Cursor.{Cursor}
 use Rattle.binary.specs.Read.{part, part_within, ruled_part, scheme_of, scheme_part, after_scheme, request_control, is_line_value, judged_line, cut_number, cut_place, after_name_length, known_line, known_lines, on_body, body_lines, known_section, open_lines, section, header_section}
 use Rattle.binary.specs.Read.{known_content, open_chunks, content, content_agrees, content_rule, trailers_agree, trailer_rule, trailers, padding, after_content, after_headers}
-use Rattle.binary.specs.Read.{after_head, after_control, request_message, after_final, after_final_status, after_informational, after_informational_status, next_head, heads_then, heads}
+use Rattle.binary.specs.Read.{after_head, after_control, request_message, after_final, after_final_status, after_informational, after_informational_status, heads}
 use Rattle.binary.specs.Read.{after_indicator, message, message_answer, read_sized, read_binary}
 use Rattle.sound.specs.Placed.{Each, Lying}
 use Rattle.sound.specs.Refusal.{is_one_of, Refusal}
@@ -317,7 +317,7 @@ module _ {s : List ℕ} {e : ℕ} where
       stops-after form true Missing _ h f))
 
 module _ (t : Told) {s : List ℕ} {e : ℕ} where
-  stops-final : {at : Cursor} (form : Form) (hs : List InformationalRead) (n : ℕ) → Refusing s e (λ i m. Unit {0}) at (after_final_status form (after_final t form) hs n)
+  stops-final : {at : Cursor} (form : Form) (hs : List InformationalRead) (n : ℕ) → Refusing s e (λ i m. Unit {0}) at (after_final_status t form hs n)
   unfolding after_final_status after_final
   stops-final form hs n =
       stops_then _ (stops-header form) λ j h g.
@@ -329,7 +329,7 @@ module _ (t : Told) {s : List ℕ} {e : ℕ} where
       stops-after form true Missing _ h v))
 
   stops-response : (f : ℕ) {at : Cursor} (form : Form) (hs : List InformationalRead) → Refusing s e (λ i m. Unit {0}) at (heads t form f hs)
-  unfolding heads_then next_head after_informational_status after_informational
+  unfolding heads after_informational_status after_informational
   stops-response zero form hs = stops-refuse (too-large (omega arith))
   stops-response (suc f) form hs =
       stops-bind _ (stops-here λ p.

@@ -37,7 +37,7 @@ use Rattle.binary.specs.Reader.{Got, got, no, cursor, ◌>>=◌, integer}
 use Rattle.binary.specs.declared.Form.{Form}
 use Rattle.binary.specs.declared.Cursor.{Cursor}
 use Rattle.binary.specs.Read.{RequestControl, after_head, after_control, request_message, after_final, after_final_status, after_informational}
-use Rattle.binary.specs.Read.{after_informational_status, next_head, heads_then, heads, after_indicator, message, message_answer, read_sized, read_binary}
+use Rattle.binary.specs.Read.{after_informational_status, heads, after_indicator, message, message_answer, read_sized, read_binary}
 use Rattle.sound.specs.Placed.{Each, Lying}
 use Rattle.sound.specs.Sound.{StatesLength, ResponseLength}
 use Rattle.sound.proofs.Each.{each_snoc}
@@ -215,7 +215,7 @@ module _ (t : Told) {s : List ℕ} {e : ℕ} (within : e ≤ binary_most) where
       every-after form true Missing _ h f λ x y z u cs ts d. (request-at t s z (omega (arith, u, within)) q h a f cs ts c l o (may-state h.end _ f g).0 d, (y, u))))
 
   every-final : {at : Cursor} (form : Form) (hs : List InformationalRead) (n : ℕ) → HeadsIn s hs → status_verdict n ≡ 0 → is_informational n ≡ false
-      → Every s e (λ i m. MessageAt t s m × ((i.at ≡ e) × (m.long ≤ e))) at (after_final_status form (after_final t form) hs n)
+      → Every s e (λ i m. MessageAt t s m × ((i.at ≡ e) × (m.long ≤ e))) at (after_final_status t form hs n)
   unfolding after_final_status after_final response
   every-final form hs n a v i =
       stops_then _ (every-header form) λ j h l.
@@ -229,7 +229,7 @@ module _ (t : Told) {s : List ℕ} {e : ℕ} (within : e ≤ binary_most) where
 
   every-response : (f : ℕ) {at : Cursor} (form : Form) (hs : List InformationalRead) → HeadsIn s hs
       → Every s e (λ i m. MessageAt t s m × ((i.at ≡ e) × (m.long ≤ e))) at (heads t form f hs)
-  unfolding heads_then next_head after_informational_status after_informational
+  unfolding heads after_informational_status after_informational
   every-response zero form hs a = every-refuse
   every-response (suc f) form hs a =
       stops-bind _ (every_here (stops-bind _ (every-integer _ _ λ i n.

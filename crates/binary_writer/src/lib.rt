@@ -1,4 +1,6 @@
 // Writing Binary HTTP (RFC 9292).
+#![tactic(auto)]
+
 mod measure; // measure.rt: sizes by numbers
 mod put; // put.rt: the parts of a message
 

@@ -1,1 +1,3 @@
 // laws alone: the C entries under the demands
+
+#![tactic(auto)]

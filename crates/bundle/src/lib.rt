@@ -1,4 +1,6 @@
 // The night's bundle: its reader, and the list of one flock. Here and nowhere else: what an entry's head says and when its message is in form.
+#![tactic(auto)]
+
 pub mod entry; // entry.rt: one entry: its head, its message
 pub mod list; // list.rt: the list of one flock
 pub mod reader; // reader.rt: the walk over a bundle

@@ -15,8 +15,9 @@ use Rattle.flock_table.specs.declared.Flock.{Flock}
 use Rattle.flock_table.specs.declared.Slot.{Slot}
 use Rattle.flock_table.proofs.Counted.{flock-least}
 use Rattle.bundle_edit.specs.Append.{append_plan}
-use Rattle.bundle_edit.specs.Changes.{changed_by, place_of, changed_with}
+use Rattle.bundle_edit.specs.Changes.{changed, changed_from}
 use Rattle.bundle_edit.specs.declared.Plan.{Plan}
+use Rattle.bundle_edit.specs.declared.Changes.{Changes}
 use Rattle.bundle_edit.specs.Delivery.{mark_plan}
 use Rattle.bundle_edit.proofs.Appends as appends
 use Rattle.bundle_edit.proofs.Sweeping as sweeping
@@ -57,41 +58,35 @@ mark-index n b used i r e h = rw e (sweeping.mark-index n b used i (rw e at (is_
 
 -- ---- the first m records changed, the k-th being the first of the list: what a loop has done after m turns
 
--- the k-th record, changed with one of the list rs
-abbrev changed_at : ℕ → List Flock → ℕ → Flock → Flock
-changed_at kind rs k r = changed_by kind (get_or rs (place_of k).at none) k r
+unfoldable pub changed_first : Changes → ℕ → ℕ → List Flock → List Flock
+changed_first c k zero l = l
+changed_first c k (suc m) [] = []
+changed_first c k (suc m) (r ∷ rs) = changed c k r ∷ changed_first c (k + 1) m rs
 
-unfoldable pub changed_first : ℕ → List Flock → ℕ → ℕ → List Flock → List Flock
-changed_first kind rs k zero l = l
-changed_first kind rs k (suc m) [] = []
-changed_first kind rs k (suc m) (r ∷ l) = changed_at kind rs k r ∷ changed_first kind rs (k + 1) m l
+pub first-length : (c : Changes) (k m : ℕ) (l : List Flock) → length (changed_first c k m l) ≡ length l
+unfolding changed_first
+first-length c k zero l = refl
+first-length c k (suc m) [] = refl
+first-length c k (suc m) (r ∷ rs) = ap suc (first-length c (k + 1) m rs)
 
-module _ (kind : ℕ) (rs : List Flock) where
-  pub first-length : (k m : ℕ) (l : List Flock) → length (changed_first kind rs k m l) ≡ length l
-  unfolding changed_first
-  first-length k zero l = refl
-  first-length k (suc m) [] = refl
-  first-length k (suc m) (r ∷ l) = ap suc (first-length (k + 1) m l)
+pub first-all : (c : Changes) (k : ℕ) (l : List Flock) → changed_first c k (length l) l ≡ changed_from c k l
+unfolding changed_first changed_from
+first-all c k [] = refl
+first-all c k (r ∷ rs) = ap (λ (l : List Flock). changed c k r ∷ l) (first-all c (k + 1) rs)
 
-  pub first-all : (k : ℕ) (l : List Flock) → changed_first kind rs k (length l) l ≡ changed_with kind rs k l
-  unfolding changed_first changed_with
-  first-all k [] = refl
-  first-all k (r ∷ l) = ap (λ (l : List Flock). changed_at kind rs k r ∷ l) (first-all (k + 1) l)
+first_step : (c : Changes) (k m : ℕ) (l : List Flock) → m < length l
+    → set (changed_first c k m l) m (changed c (k + m) (get_or (changed_first c k m l) m none)) ≡ changed_first c k (suc m) l
+unfolding changed_first
+first_step c k m [] h = absurd (omega (arith, h))
+first_step c k zero (r ∷ rs) h = ap (λ (i : ℕ). changed c i r ∷ rs) (add-zero k)
+first_step c k (suc m) (r ∷ rs) h =
+    ap (λ (l : List Flock). changed c k r ∷ l)
+    (ap (λ (i : ℕ). set (changed_first c (k + 1) m rs) m (changed c i (get_or (changed_first c (k + 1) m rs) m none))) (omega arith)
+    ∙ first_step c (k + 1) m rs (omega (arith, h)))
 
-  first_step : (k m : ℕ) (l : List Flock) → m < length l
-      → set (changed_first kind rs k m l) m (changed_at kind rs (k + m) (get_or (changed_first kind rs k m l) m none)) ≡ changed_first kind rs k (suc m) l
-  unfolding changed_first
-  first_step k m [] h = absurd (omega (arith, h))
-  first_step k zero (r ∷ l) h = ap (λ (i : ℕ). changed_at kind rs i r ∷ l) (add-zero k)
-  first_step k (suc m) (r ∷ l) h =
-      let e : k + suc m ≡ k + 1 + m = omega arith in
-      ap (λ (l : List Flock). changed_at kind rs k r ∷ l)
-      (ap (λ (i : ℕ). set (changed_first kind rs (k + 1) m l) m (changed_at kind rs i (get_or (changed_first kind rs (k + 1) m l) m none))) e
-      ∙ first_step (k + 1) m l (omega (arith, h)))
-
-  -- one turn more
-  pub first_next : (m : ℕ) (l : List Flock) → m < length l
-      → set (changed_first kind rs 0 m l) m (changed_at kind rs m (get_or (changed_first kind rs 0 m l) m none)) ≡ changed_first kind rs 0 (m + 1) l
-  first_next m l h =
-      ap (λ (i : ℕ). set (changed_first kind rs 0 m l) m (changed_at kind rs i (get_or (changed_first kind rs 0 m l) m none))) (sym (zero-add m))
-      ∙ first_step 0 m l h ∙ ap (λ (i : ℕ). changed_first kind rs 0 i l) (omega arith)
+-- one turn more
+pub first_next : (c : Changes) (m : ℕ) (l : List Flock) → m < length l
+    → set (changed_first c 0 m l) m (changed c m (get_or (changed_first c 0 m l) m none)) ≡ changed_first c 0 (m + 1) l
+first_next c m l h =
+    ap (λ (i : ℕ). set (changed_first c 0 m l) m (changed c i (get_or (changed_first c 0 m l) m none))) (sym (zero-add m))
+    ∙ first_step c 0 m l h ∙ ap (λ (i : ℕ). changed_first c 0 i l) (omega arith)

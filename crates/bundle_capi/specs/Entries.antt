@@ -56,9 +56,9 @@ AppendEntered p t t' b b' used f m r = (r ≡ append_of p) × ((t' ≡ entered p
 abbrev pub outcome_of : Changes → TableAnswer
 outcome_of c = record { number = c.number; place = c.place; used = c.used }
 
--- the promise of a change of all records, as a rebuild is one, that was lent the table t
-abbrev pub Updated : Changes → List Flock → List Flock → TableAnswer → Type 0
-Updated c t t' r = (r ≡ outcome_of c) × (t' ≡ changed_from c 0 t)
+-- the promise of a rebuild by these changes, that was lent the table t
+abbrev pub RebuildEntered : Changes → List Flock → List Flock → TableAnswer → Type 0
+RebuildEntered c t t' r = (r ≡ outcome_of c) × (t' ≡ changed_from c 0 t)
 
 -- of a mark's plan what C sees (02, item 11)
 abbrev pub mark_of : Plan → TableAnswer

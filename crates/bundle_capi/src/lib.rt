@@ -1,4 +1,6 @@
 // The entries for C on bundles: answers by value. A refusal alters nothing that is lent.
+#![tactic(auto)]
+
 ghost use Rattle.std.specs.Prelude.{◌≡◌, ◌+◌, ◌≤◌, length};
 ghost use Rattle.output.specs.Splice.{splice, part};
 ghost use Rattle.bundle.specs.Bundle.{walk, flock_list};
@@ -7,15 +9,15 @@ ghost use Rattle.salvaging.specs.Answers.{Salvages};
 ghost use Rattle.salvaging.specs.Line.{salvage_line};
 ghost use Rattle.flock_table.specs.Table.{totals_answer};
 ghost use Rattle.bundle_edit.specs.Append.{append_plan};
-ghost use Rattle.bundle_edit.specs.Changes.{changed_with, rebuild_changes};
+ghost use Rattle.bundle_edit.specs.Changes.{changed_from, rebuild_changes};
 ghost use Rattle.bundle_edit.specs.Delivery.{mark_plan, sweep_changes};
-ghost use Rattle.bundle_capi.specs.Entries.{BundleEntered, list_of, ListEntered, append_of, AppendEntered, outcome_of, Updated};
+ghost use Rattle.bundle_capi.specs.Entries.{BundleEntered, list_of, ListEntered, append_of, AppendEntered, outcome_of, RebuildEntered};
 ghost use Rattle.bundle_capi.specs.Entries.{mark_of, MarkEntered, SweepEntered};
 
 use bundle::list::flock_list;
 use bundle::reader::read_bundle;
 use bundle_edit::delivery::{lessen, mark, sweep};
-use bundle_edit::tables::{change, place_of, rebuild, records};
+use bundle_edit::tables::{change, rebuild};
 use bundle_edit::{Changes, Plan, append, enter};
 use flock_table::{Flock, Totals, no_totals, slot_of, totals_of};
 use octets::Refusals;
@@ -183,29 +185,17 @@ fn mark_answer(p: Plan) -> TableAnswer
 
 // From here on each function takes the lent table; its proof is written by tools/walks_bundle.py. All judging and all arithmetic is in what they call.
 
-// Every record, by a change of all: what is done to each, and the records it is done with.
-fn update_all(table: &mut [Flock], kind: u32, rs: [Flock; 127])
-    ensures { table.new ≡ changed_with kind rs 0 table.old }
+// Every record, by a change of all.
+fn update_all(table: &mut [Flock], c: Changes)
+    ensures { table.new ≡ changed_from c 0 table.old }
 {
     let mut i = 0;
     while i < table.len() {
         let old = table[i];
-        let p = place_of(i);
-        let k = p.at;
-        let s = rs[k];
-        let new = change(old, kind, s, i);
+        let new = change(old, c, i);
         table[i] = new;
         i += 1;
     }
-}
-
-// Every record by a change of all, and what C sees of it.
-fn update(table: &mut [Flock], c: Changes) -> TableAnswer
-    ensures { Updated c table.old table.new result }
-{
-    let rs = records(c);
-    update_all(table, c.kind, rs);
-    outcome(c)
 }
 
 // The totals of one flock: its one record.
@@ -252,11 +242,12 @@ pub extern "C" fn ospirnar_append(
 // The table of a bundle.
 #[unsafe(no_mangle)]
 pub extern "C" fn ospirnar_rebuild(table: &mut [Flock], input: &[u8]) -> TableAnswer
-    ensures { Updated (rebuild_changes (length table.old) input.now) table.old table.new result }
+    ensures { RebuildEntered (rebuild_changes (length table.old) input.now) table.old table.new result }
 {
     let n = table.len();
     let c = rebuild(n, input);
-    update(table, c)
+    update_all(table, c);
+    outcome(c)
 }
 
 // An entry is delivered from now on, and its flock has one undelivered entry less.
@@ -291,5 +282,6 @@ pub extern "C" fn ospirnar_sweep(table: &mut [Flock], buffer: &mut [u8], used: u
 {
     let n = table.len();
     let c = sweep(n, buffer, used);
-    update(table, c)
+    update_all(table, c);
+    outcome(c)
 }

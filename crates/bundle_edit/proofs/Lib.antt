@@ -1,4 +1,3 @@
 pub mod Appends
 pub mod Counting
 pub mod Sweeping
-pub mod Recording

@@ -1,13 +1,12 @@
 -- What is done to all records of a table at once (02, item 6, "Add a rebuild from any accepted bundle"): the answer of such a call, flat, and each record
 -- afterwards.
-use Rattle.std.specs.Prelude.{ℕ, zero, suc, ◌+◌, ◌*◌, ◌-◌, Bool, true, cond, List, [], ◌∷◌, ◌++◌, ltb, eqb, length, get_or, replicate}
+use Rattle.std.specs.Prelude.{ℕ, ◌+◌, ◌*◌, ◌-◌, Bool, true, cond, List, [], ◌∷◌, ◌++◌, ltb, eqb, length, get_or, replicate}
 use Rattle.octets.specs.Limits.{flocks_most}
 use Rattle.bundle.specs.Bundle.{delivered_of, length_of, Entry, walk}
-use Rattle.flock_table.specs.Table.{is_delivered, table_of, none, minus}
+use Rattle.flock_table.specs.Table.{is_delivered, table_of, minus}
 use Rattle.flock_table.specs.declared.Flock.{Flock}
 use Rattle.bundle_edit.specs.Calls.{beside_table, of_bundle}
 use Rattle.bundle_edit.specs.declared.Changes.{Changes}
-use Rattle.bundle_edit.specs.declared.Place.{Place}
 
 -- ---- a table as numbers: three a record, in order
 
@@ -42,37 +41,17 @@ puts = 1
 abbrev pub takes_off : ℕ
 takes_off = 2
 
--- the k-th record afterwards, which is changed with s
-abbrev pub changed_by : ℕ → Flock → ℕ → Flock → Flock
-changed_by kind s k r = cond (ltb k flocks_most) (cond (eqb kind puts) s (cond (eqb kind takes_off) (minus r s) r)) r
-
 -- the k-th record afterwards
 unfoldable pub changed : Changes → ℕ → Flock → Flock
-changed c k r = changed_by c.kind (record_at c.counts k) k r
+changed c k r =
+    cond (ltb k flocks_most)
+    (cond (eqb c.kind puts) (record_at c.counts k) (cond (eqb c.kind takes_off) (minus r (record_at c.counts k)) r))
+    r
 
 -- the records from the k-th on
 unfoldable pub changed_from : Changes → ℕ → List Flock → List Flock
 changed_from c k [] = []
 changed_from c k (r ∷ rs) = changed c k r ∷ changed_from c (k + 1) rs
-
--- ---- the code: the records that a change is done with, as a list
-
--- n records of such numbers, from the k-th on
-unfoldable pub records_from : List ℕ → ℕ → ℕ → List Flock
-records_from ns k zero = []
-records_from ns k (suc n) = record_at ns k ∷ records_from ns (k + 1) n
-
-abbrev pub records_of : List ℕ → List Flock
-records_of ns = records_from ns 0 flocks_most
-
--- where the record stands that the k-th one is changed with
-unfoldable pub place_of : ℕ → Place
-place_of k = cond (ltb k flocks_most) (record { at = k }) (record { at = 0 })
-
--- the records from the k-th on, changed with those of the list rs
-unfoldable pub changed_with : ℕ → List Flock → ℕ → List Flock → List Flock
-changed_with kind rs k [] = []
-changed_with kind rs k (r ∷ t) = changed_by kind (get_or rs (place_of k).at none) k r ∷ changed_with kind rs (k + 1) t
 
 -- ---- the calls
 

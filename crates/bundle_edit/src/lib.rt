@@ -1,5 +1,7 @@
 // Changing a bundle, and what that is to do to the table beside it. Everything is judged before the first octet is written, so that a refused call alters
 // nothing.
+#![tactic(auto)]
+
 pub mod delivery; // delivery.rt: marking an entry as delivered, and the sweep
 pub mod tables; // tables.rt: all records of a table at once: the rebuild
 
@@ -47,12 +49,6 @@ pub struct Changes {
     pub place: usize,
     pub used: usize,
     pub counts: [u32; 381],
-}
-
-// Where among the records of a change the one stands that a record is changed with.
-#[derive(Drop)]
-pub struct Place {
-    pub at: usize,
 }
 
 // What is done to each record: it is left, put, or taken off.

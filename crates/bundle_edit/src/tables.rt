@@ -3,9 +3,9 @@ ghost use Rattle.std.specs.Prelude.{◌≡◌, cond, true, ◌+◌, ◌-◌, ◌
 ghost use Rattle.output.specs.Splice.{splice};
 ghost use Rattle.bundle.specs.Bundle.{flock_of, delivered_of, is_flock, walk};
 ghost use Rattle.flock_table.specs.Table.{picked, table_of, plus as plus_of};
-ghost use Rattle.bundle_edit.specs.Changes.{record_numbers, table_numbers, record_at, head_record, is_counted, changed_by, records_of, place_of, refused_changes, rebuild_changes};
+ghost use Rattle.bundle_edit.specs.Changes.{record_numbers, table_numbers, record_at, head_record, is_counted, changed, refused_changes, rebuild_changes};
 
-use crate::{Changes, Kinds, Place};
+use crate::{Changes, Kinds};
 use bundle::Head;
 use bundle::entry::word_at;
 use bundle::reader::read_bundle;
@@ -138,47 +138,20 @@ pub fn rebuild(n: usize, s: &[u8]) -> Changes
     }
 }
 
-// The records that a change is done with.
-pub fn records(c: Changes) -> [Flock; 127]
-    ensures { result ≡ records_of c.counts }
+// The k-th record afterwards.
+pub fn change(old: Flock, c: Changes, k: usize) -> Flock
+    ensures { result ≡ changed c k old }
 {
-    let none = Flock {
-        entries: 0,
-        bytes: 0,
-        undelivered: 0,
-    };
-    let mut all = [none; 127];
-    let mut k = 0;
-    while k < 127 {
-        all[k] = Flock {
+    if k < 127 {
+        let s = Flock {
             entries: c.counts[k * 3],
             bytes: c.counts[k * 3 + 1],
             undelivered: c.counts[k * 3 + 2],
         };
-        k += 1;
-    }
-    all
-}
-
-// Where the record stands that the k-th one is changed with; past the last it is any.
-pub fn place_of(k: usize) -> Place
-    ensures { result ≡ place_of k }
-{
-    if k < 127 {
-        return Place { at: k };
-    }
-    Place { at: 0 }
-}
-
-// The k-th record afterwards, which is changed with s.
-pub fn change(old: Flock, kind: u32, s: Flock, k: usize) -> Flock
-    ensures { result ≡ changed_by kind s k old }
-{
-    if k < 127 {
-        if kind == Kinds::PUTS {
+        if c.kind == Kinds::PUTS {
             return s;
         }
-        if kind == Kinds::TAKES_OFF {
+        if c.kind == Kinds::TAKES_OFF {
             return minus(old, s);
         }
         return old;

@@ -174,7 +174,7 @@ http1-replies t s =
     (http1-reply t (length s) (read_binary t s))
 
 -- a valid meaning that goes on the connection and fits is read back by the reader of its kind
-pub http1-meanings : (t : Told) (m : Meaning) (c : Control) → m.control ≡ c → valid m ≡ true → suits t m ≡ true → on_connection t c ≡ true → http1_fits t m ≡ true
+http1-meanings : (t : Told) (m : Meaning) (c : Control) → m.control ≡ c → valid m ≡ true → suits t m ≡ true → on_connection t c ≡ true → http1_fits t m ≡ true
     → (rest : List ℕ) → means meaning (http1_reader t c (http1_of t m ++ rest)) ≡ accepted (length (http1_of t m)) m
 http1-meanings t m (request x s a p) e v u g f rest = request-meanings t m (v, f, rw e g) rest
 http1-meanings t m (response hs s) e v u g f rest = response-meanings t m (v, f, rw e refl, u) rest

@@ -2,5 +2,4 @@ pub mod Accepting
 pub mod Demand2
 pub mod Demand1
 pub mod Demand3
-pub mod Same
 pub mod Samples

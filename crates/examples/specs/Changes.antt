@@ -7,7 +7,7 @@ use Rattle.messages.specs.Answers.{part_at}
 use Rattle.messages.specs.declared.PathPrefix.TheVariants as prefix
 use Rattle.messages.specs.declared.StatedLength.TheVariants.{Missing, Of}
 use Rattle.messages.specs.declared.Told.{Told}
-use Rattle.examples.specs.Examples.{http, Example, integer, http1, http1_reply, binary_reply, states, reply_becomes, goes_as, binary, becomes, anew_as, turned_away, counted, longs, http1_as, aims, closes_after, binary_closes, not_anew, post_binary, figure13, hex, AllHold}
+use Rattle.examples.specs.Examples.{http, Example, integer, http1, http1_reply, binary_reply, states, reply_becomes, goes_as, binary, becomes, anew_as, turned_away, counted, longs, http1_as, aims, closes_after, binary_closes, figure13, hex, AllHold}
 
 -- item 4: the sample integers of RFC 9000, appendix A.1, one of each width, the last in a form that is not the shortest
 unfoldable pub widths : List Example
@@ -359,49 +359,6 @@ named =
     ∷ binary_closes (get_binary ++ hex "11 0a" ++ ascii "connection" ++ hex "05" ++ ascii "close" ++ hex "00 00") true
     ∷ []
 
--- an informational head of one field, whose section has 8,185 octets
-unfoldable pub early_head : List ℕ
-early_head = hex "4064 5ff9 0178 5ff5" ++ replicate 8181 97
-
--- a response of this status behind four such heads, of 65,535 octets in all, without its trailers
-abbrev pub full_of : List ℕ → List ℕ
-full_of status = hex "01" ++ early_head ++ early_head ++ early_head ++ early_head ++ status ++ hex "03 016100 80008000" ++ replicate 32768 97
-
--- P5's request as we write it in HTTP/1.1
-unfoldable pub post_written : List ℕ
-post_written = ascii "POST /s HTTP/1.1\r\nhost: a\r\ncontent-length: 3\r\n\r\nabc"
-
--- P5's request under https, as Binary
-unfoldable pub post_secure : List ℕ
-post_secure = hex "00 04504f5354 056874747073 0161 022f73 00 03616263 00"
-
--- a response that states a length of 0, and as Binary
-unfoldable pub zero_text : List ℕ
-zero_text = ascii "HTTP/1.1 200 \r\ncontent-length: 0\r\n\r\n"
-
-unfoldable pub zero_binary : List ℕ
-zero_binary = hex "01 40c8 11 0e" ++ ascii "content-length" ++ hex "0130 00 00"
-
--- item 14 (demands/Same): for each hypothesis what comes of it where it does not hold
-unfoldable pub pairs : List Example
-pairs =
-    -- neither is writable as Binary, for its trailers' length is one octet too many: the same comes of both, but they differ in meaning
-    not_anew (full_of (hex "40c8")) 200 8 0
-    ∷ not_anew (full_of (hex "40c9")) 201 8 0
-    -- Binary that is accepted but not as we write it does not come back
-    ∷ goes_as http long_post post_written
-    ∷ becomes post_written post_binary
-    -- a HEAD's reply comes back by the same remark; where it is written or read without, another does
-    ∷ reply_becomes to_head zero_text zero_binary
-    ∷ goes_as to_head zero_binary zero_text
-    ∷ goes_as http zero_binary zero_text
-    ∷ reply_becomes http zero_text (hex "01 40c8 00 00 00")
-    -- under another scheme than its own a request is not written, and another comes back
-    ∷ turned_away http post_secure 14 0
-    ∷ goes_as (plain 1) post_secure post_written
-    ∷ becomes post_written post_binary
-    ∷ []
-
 -- the statement: every row holds
 pub record Statement : Type 0 where
   pub item2 : AllHold targets
@@ -412,4 +369,3 @@ pub record Statement : Type 0 where
   pub item8 : AllHold forms
   pub item9 : AllHold empties
   pub item10 : AllHold closings
-  pub item14 : AllHold pairs

@@ -7,12 +7,11 @@ use Rattle.numbers.specs.Digits.{digit_of}
 use Rattle.numbers.specs.Integer.{read_int}
 use Rattle.numbers.specs.declared.Integer.{Integer}
 use Rattle.numbers.specs.declared.Integer.TheVariants.{Value, Cut}
-use Rattle.script.specs.Script.{Answer, accepted, refused, more}
+use Rattle.script.specs.Script.{Answer}
 use Rattle.messages.specs.Told.{plain}
 use Rattle.messages.specs.declared.Told.{Told}
 use Rattle.messages.specs.Message.{Message}
-use Rattle.messages.specs.Answers.{record_of, reading_of, number_of, place_of}
-use Rattle.messages.specs.Meaning.{meaning}
+use Rattle.messages.specs.Answers.{reading_of, number_of, place_of}
 use Rattle.messages.specs.declared.Part.{Part}
 use Rattle.messages.specs.declared.PathPrefix.{PathPrefix}
 use Rattle.messages.specs.declared.Record.{Record}
@@ -21,7 +20,6 @@ use Rattle.messages.specs.declared.Outcome.{Outcome}
 use Rattle.messages.specs.declared.Outcome.TheVariants as outcome
 use Rattle.http1.specs.Read.{read_request, read_response}
 use Rattle.binary.specs.Read.{read_binary}
-use Rattle.binary_writer.specs.Write.{to_binary}
 use Rattle.turn.specs.Turn.{request_to_binary, response_to_binary, binary_to_binary, binary_to_http1}
 use Rattle.output.specs.Reply.{Reply, writes, refuses}
 
@@ -85,8 +83,6 @@ pub data Example : Type 0 where
   -- an accepted HTTP/1.1 request under http says whether its sender means to close; so does a Binary message
   closes_after : List ℕ → Bool → Example
   binary_closes : List ℕ → Bool → Example
-  -- an accepted Binary message is a response of this status, and is not written anew: number and place
-  not_anew : List ℕ → ℕ → ℕ → ℕ → Example
 
 -- a call told http, that its message answers no HEAD, and that the connection is open
 abbrev pub http : Told
@@ -131,12 +127,6 @@ Closes (outcome.Message r) b = r.closes ≡ b
 Closes (outcome.Refusal k p) b = ⊥
 Closes outcome.More b = ⊥
 
--- an accepted message is a response of this status, and this is what is written of it as Binary
-abbrev pub Written : Answer Message → ℕ → Reply → Type 0
-Written (accepted n m) status y = ((record_of n m).status ≡ status) × (to_binary (meaning m) ≡ y)
-Written (refused k p) status y = ⊥
-Written more status y = ⊥
-
 -- what a row says of the definitions
 abbrev pub Holds : Example → Type 0
 Holds (integer s v) = uncounted (read_int 0 s) ≡ Value v (length s) 0
@@ -159,7 +149,6 @@ Holds (http1_as t s k p) = Answers s (read_request t s) k p
 Holds (aims s a x p) = Aims (reading_of (read_request http s)).outcome a x p
 Holds (closes_after s b) = Closes (reading_of (read_request http s)).outcome b
 Holds (binary_closes s b) = Closes (reading_of (read_binary http s)).outcome b
-Holds (not_anew s status k p) = Written (read_binary http s) status (refuses k p)
 
 -- each row of a list holds
 abbrev pub AllHold : List Example → Type 0

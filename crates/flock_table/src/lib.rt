@@ -1,4 +1,6 @@
 // A table of flock records that the caller lends, one for each flock: the arithmetic on one record, and where a flock's record stands.
+#![tactic(auto)]
+
 ghost use Rattle.std.specs.Prelude.{◌≡◌, eqb};
 ghost use Rattle.octets.specs.Limits.{flocks_most};
 ghost use Rattle.flock_table.specs.Table as spec;

@@ -13,16 +13,11 @@ use Rattle.octets.specs.Limits.{chunk_line_most, chunks_most, content_most}
 use Rattle.octets.specs.Refusals.{bad_syntax, too_large}
 use Rattle.script.specs.Script.{Answer, accepted, refused, more, Script, done, stop, need, run, line_of}
 use Rattle.script.specs.Do.{◌>>=◌, Piece, piece, word, tell, Judged, good, wrong}
-use Rattle.script.specs.declared.Line.{Line}
 use Rattle.script.specs.declared.Line.TheVariants.{Ends, Bad, Long, More}
 use Rattle.script.proofs.Laws.{run-stop}
 use Rattle.script.proofs.Places.{line-more, line-bad, line-long, line-ends, line-within, octets-more, octets-in}
 use Rattle.http1.specs.Lines.{chunk_lens, chunk_of}
-use Rattle.http1.specs.declared.ChunkLine.{ChunkLine}
 use Rattle.http1.specs.declared.ChunkLine.TheVariants as line
-use Rattle.http1.specs.declared.NextChunk.{NextChunk}
-use Rattle.http1.specs.declared.NextChunk.TheVariants as size
-use Rattle.http1.specs.Next.{of_chunk, on_chunk_line, next_chunk}
 use Rattle.http1.specs.Read.{Content, trailer_section, chunk_data, after_chunk_line, chunks_from}
 use Rattle.http1_parts.specs.Chunk.{ChunkSays, DataRead, DataLies, ChunkLies, Chunked}
 use Rattle.http1_parts.specs.declared.ChunkRead.{ChunkRead}
@@ -69,20 +64,20 @@ module _ (s : List ℕ) (start n : ℕ) (within : start ≤ length s) where
 -- ---- the line
 
 module _ (s : List ℕ) (i count total : ℕ) where
-  chunk-more : line_of (drop i s) chunk_line_most i 0 ≡ More → Chunked s i count total read.More
+  pub chunk-more : line_of (drop i s) chunk_line_most i 0 ≡ More → Chunked s i count total read.More
   unfolding chunks_from ◌>>=◌
   chunk-more e = record { says = λ f cs c. line-more _ _ _ _ s i e; lies = tt }
 
-  chunk-bad : line_of (drop i s) chunk_line_most i 0 ≡ Bad → Chunked s i count total (read.Refused bad_syntax i)
+  pub chunk-bad : line_of (drop i s) chunk_line_most i 0 ≡ Bad → Chunked s i count total (read.Refused bad_syntax i)
   unfolding chunks_from ◌>>=◌
   chunk-bad e = record { says = λ f cs c. line-bad _ _ _ _ s i e; lies = tt }
 
-  chunk-long : line_of (drop i s) chunk_line_most i 0 ≡ Long → Chunked s i count total (read.Refused too_large i)
+  pub chunk-long : line_of (drop i s) chunk_line_most i 0 ≡ Long → Chunked s i count total (read.Refused too_large i)
   unfolding chunks_from ◌>>=◌
   chunk-long e = record { says = λ f cs c. line-long _ _ _ _ s i e; lies = tt }
 
   module _ (next : ℕ) (e : line_of (drop i s) chunk_line_most i 0 ≡ Ends next) where
-    chunk-wrong : chunk_lens (take (next - 2 - i) (drop i s)) ≡ line.Bad → Chunked s i count total (read.Refused bad_syntax i)
+    pub chunk-wrong : chunk_lens (take (next - 2 - i) (drop i s)) ≡ line.Bad → Chunked s i count total (read.Refused bad_syntax i)
     unfolding chunks_from ◌>>=◌ chunk_of
     chunk-wrong q = record { says = λ f cs c. line-ends _ _ _ _ s i next e ∙ rw (q, run-stop); lies = tt }
 
@@ -130,27 +125,3 @@ module _ (s : List ℕ) (i count total : ℕ) where
                   says = λ f cs c. subst (λ (x : Answer Content). ChunkSays s f cs total x r) (sym (to-data f cs c)) (d.says f cs total);
                   lies = lies_so r d.lies;
                 }
-
--- ---- by the next chunk line: what its answer tells
-
-module _ (s : List ℕ) (i count total : ℕ) where
-  abbrev pub LineSays : NextChunk → Type 0
-  LineSays (size.Of n next) = (line_of (drop i s) chunk_line_most i 0 ≡ Ends next) × (chunk_lens (take (next - 2 - i) (drop i s)) ≡ line.Of n)
-  LineSays size.Bad = Chunked s i count total (read.Refused bad_syntax i)
-  LineSays size.Long = Chunked s i count total (read.Refused too_large i)
-  LineSays size.More = Chunked s i count total read.More
-
-  judged : (next : ℕ) → line_of (drop i s) chunk_line_most i 0 ≡ Ends next → (c : ChunkLine) → chunk_lens (take (next - 2 - i) (drop i s)) ≡ c
-      → LineSays (of_chunk next c)
-  judged next e (line.Of n) q = (e, q)
-  judged next e line.Bad q = chunk-wrong s i count total next e q
-
-  by_end : (l : Line) → line_of (drop i s) chunk_line_most i 0 ≡ l → LineSays (on_chunk_line s i l)
-  by_end (Ends next) e = judged next e (chunk_lens (take (next - 2 - i) (drop i s))) refl
-  by_end Bad e = chunk-bad s i count total e
-  by_end Long e = chunk-long s i count total e
-  by_end More e = chunk-more s i count total e
-
-  pub line-says : {r x : NextChunk} → r ≡ next_chunk s i → r ≡ x → LineSays x
-  unfolding next_chunk
-  line-says q e = subst LineSays (sym q ∙ e) (by_end (line_of (drop i s) chunk_line_most i 0) refl)

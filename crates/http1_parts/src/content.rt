@@ -12,12 +12,13 @@ ghost use Rattle.http1_parts.specs.Chunk.{DataRead, Chunked, Trailed, SizedRead,
 
 use crate::lines::read_section;
 use crate::{ChunkRead, ContentRead, Section};
-use http1::NextChunk;
-use http1::lines::next_chunk_line;
+use http1::ChunkLine;
+use http1::lines::chunk_line;
 use messages::Body;
 use messages::sections::are_trailers;
 use octets::{Limits, Refusals};
 use ranges::store;
+use script::{Line, line_end};
 
 // The trailer section from `from` on, behind `count` chunks of `total` octets.
 fn read_trailers(
@@ -83,34 +84,44 @@ fn next_chunk(t: &[u8; 256], s: &[u8], i: usize, count: usize, total: usize) -> 
     requires { (t.now ≡ classes) × (i ≤ length s.now) × (total ≤ content_most) }
     ensures { Chunked s.now i count total result }
 {
-    let l = next_chunk_line(t, s, i);
+    let l = line_end(s, i, Limits::CHUNK_LINE);
     match l {
-        NextChunk::More => return ChunkRead::More,
-        NextChunk::Bad => return ChunkRead::Refused {
+        Line::More => return ChunkRead::More,
+        Line::Bad => return ChunkRead::Refused {
             number: Refusals::BAD_SYNTAX,
             place: i,
         },
-        NextChunk::Long => return ChunkRead::Refused {
+        Line::Long => return ChunkRead::Refused {
             number: Refusals::TOO_LARGE,
             place: i,
         },
-        NextChunk::Of { size, next } => {
-            if size == 0 {
-                return ChunkRead::Last { end: next };
-            }
-            if Limits::is_full(count, Limits::CHUNKS) {
-                return ChunkRead::Refused {
-                    number: Refusals::TOO_LARGE,
+        Line::Ends(next) => {
+            let e = next - 2;
+            let c = chunk_line(t, &s[i..e]);
+            match c {
+                ChunkLine::Bad => return ChunkRead::Refused {
+                    number: Refusals::BAD_SYNTAX,
                     place: i,
-                };
-            }
-            if Limits::fits(total + size, Limits::CONTENT) {
-                return chunk_data(s, next, size);
-            } else {
-                return ChunkRead::Refused {
-                    number: Refusals::TOO_LARGE,
-                    place: i,
-                };
+                },
+                ChunkLine::Of { size } => {
+                    if size == 0 {
+                        return ChunkRead::Last { end: next };
+                    }
+                    if Limits::is_full(count, Limits::CHUNKS) {
+                        return ChunkRead::Refused {
+                            number: Refusals::TOO_LARGE,
+                            place: i,
+                        };
+                    }
+                    if Limits::fits(total + size, Limits::CONTENT) {
+                        return chunk_data(s, next, size);
+                    } else {
+                        return ChunkRead::Refused {
+                            number: Refusals::TOO_LARGE,
+                            place: i,
+                        };
+                    }
+                }
             }
         }
     }

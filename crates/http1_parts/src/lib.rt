@@ -1,4 +1,6 @@
 // Reading HTTP/1.1 from a stream: sections, chunks, requests and responses.
+#![tactic(auto)]
+
 pub mod content;
 pub mod lines;
 

@@ -1,4 +1,6 @@
 // The readers of HTTP/1.1: the first request, the first response of a stream.
+#![tactic(auto)]
+
 mod heads;
 pub mod request;
 pub mod response;

@@ -5,4 +5,3 @@ pub mod Sections
 pub mod Closing
 pub mod Sound
 pub mod Refusals
-pub mod Sizes

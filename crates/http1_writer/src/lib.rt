@@ -1,4 +1,6 @@
 // Writing HTTP/1.1.
+#![tactic(auto)]
+
 mod sections; // sections.rt: field lines
 mod lengths; // lengths.rt: the length line
 mod heads; // heads.rt: start lines and heads

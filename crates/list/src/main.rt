@@ -1,6 +1,6 @@
 // Prints the listing of the request stream on standard input.
+#![tactic(auto)]
+
 fn main() {
-    if programs::is_alone() {
-        lister::go(0);
-    }
+    lister::go(0);
 }

@@ -1,4 +1,6 @@
 // Prints the name and the listing of each of its arguments, a file.
+#![tactic(auto)]
+
 use libc::STDOUT_FILENO;
 
 fn one(k: usize) -> bool {

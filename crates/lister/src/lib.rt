@@ -1,10 +1,13 @@
 // Reads a stream to its end, up to the octet that makes it too large, and prints its listing.
+#![tactic(auto)]
+
 ghost use Rattle.std.specs.Prelude.{◌≡◌, length};
 ghost use Rattle.io.specs.Counts.{IsPrefixLen};
 ghost use Rattle.output.specs.Reply.{writes, written_of, lent_after};
 ghost use Rattle.listing.specs.Listing.{listing_of};
 ghost use Rattle.lister.specs.Printed.{printed_of};
 
+use libc::STDOUT_FILENO;
 use listing::listing;
 use output::Written;
 
@@ -24,13 +27,10 @@ fn fill(stream: &[u8], out: &mut [u8]) -> usize
     }
 }
 
-// Where reading fails nothing is printed.
 pub fn go(fd: i32) {
     let mut stream = [0u8; 65537];
     let mut out = [0u8; 131072];
     let n = io::read_full(fd, &mut stream);
-    if programs::is_whole(fd, n, 65537) {
-        let k = fill(&stream[..n], &mut out);
-        programs::print(&out[..k]);
-    }
+    let k = fill(&stream[..n], &mut out);
+    io::write_all(STDOUT_FILENO, &out[..k]);
 }

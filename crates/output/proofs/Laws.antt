@@ -2,13 +2,13 @@
 -- Assumes nothing.
 use mathlib.Core.Logic.{◌≢◌}
 use mathlib.Core.Path.{◌≡◌, refl, sym, ap, ◌∙◌}
-use mathlib.Core.List.{List, [], ◌∷◌, ◌++◌, append-nil}
+use mathlib.Core.List.{List, [], ◌∷◌, ◌++◌}
 use Prim.Native.Nat.{ℕ, zero, suc, ◌+◌, ◌-◌, ◌≤◌, ◌<◌}
 use native.Mathlib.Nat.{add-zero}
 use native.Mathlib.Numerals.{add-one}
 use native.Mathlib.Omega.{arith}
-use lib.ListN.{length, get_or, set, take, drop, length-set, length-append, take-append-drop, drop_of_length-le}
-use lib.Seq.{drop-cons, take-length, drop-set-add, take-set-le, set_comm, set-set, sets, sets-eq}
+use lib.ListN.{length, get_or, set, take, drop, length-set, length-append, take-append-drop}
+use lib.Seq.{drop-cons, take-length, drop-set-add, take-set-le, set_comm, sets, sets-eq}
 use Rattle.output.specs.Splice.{splice, elements, part, Put, Left}
 
 pub splice-length : (o : List ℕ) (at : ℕ) (bs : List ℕ) → length (splice o at bs) ≡ length o
@@ -53,14 +53,6 @@ module _ {A : Type 0} (d : A) where
       let lt : from < length l = omega arith in
       let k : from + 1 + n ≤ length l = omega arith in
       rw (drop-cons l from d, ← add-one from, elements-take l (from + 1) n k)
-
-  -- the first m, then the others
-  pub elements-append : (l : List A) (from m n : ℕ) → elements d l from (m + n) ≡ elements d l from m ++ elements d l (from + m) n
-  elements-append l from zero n = let e : from + 0 ≡ from = omega arith in let z : 0 + n ≡ n = omega arith in rw (e, z)
-  elements-append l from (suc m) n =
-      let e : from + suc m ≡ from + 1 + m = omega arith in
-      let z : suc m + n ≡ suc (m + n) = omega arith in
-      rw (e, z, elements-append l (from + 1) m n)
 
 pub part-whole : (s : List ℕ) → part s 0 (length s) ≡ s
 part-whole s = elements-take 0 s 0 (length s) (omega arith) ∙ take-length s
@@ -156,58 +148,3 @@ splice-is o at bs h = splice-sets o at bs ∙ sets-eq bs o at h
 -- nothing is written
 pub put-none : (o : List ℕ) (at : ℕ) → Put o at [] 0 o at
 put-none o at = record { next = omega arith; size = refl; all = refl }
-
--- ---- copies by blocks
-
--- octets that are written again, with others behind them
-again : (o : List ℕ) (at : ℕ) (a b : List ℕ) → splice (splice o at a) at (a ++ b) ≡ splice o at (a ++ b)
-again o at [] b = refl
-again o at (x ∷ a) b =
-    let h : at < at + 1 = omega arith in
-    let e : set (splice (set o at x) (at + 1) a) at x ≡ splice (set o at x) (at + 1) a
-    = set-splice (set o at x) (at + 1) at x a h ∙ ap (λ (y : List ℕ). splice y (at + 1) a) (set-set o at x x) in
-    ap (λ (z : List ℕ). splice z (at + 1) (a ++ b)) e ∙ again (set o at x) (at + 1) a b
-
-module _ (o s : List ℕ) (at from i m w : ℕ) where
-  -- the first i octets of a source are written, and then w octets of it from the place m on, which is among them
-  over : m ≤ i → i ≤ m + w → splice (splice o at (part s from i)) (at + m) (part s (from + m) w) ≡ splice o at (part s from (m + w))
-  over h g =
-      let ei : i ≡ m + (i - m) = omega arith in
-      let ew : w ≡ i - m + (w - (i - m)) = omega arith in
-      let x = part s from m in
-      let y = part s (from + m) (i - m) in
-      let all : part s from i ≡ x ++ y = ap (part s from) ei ∙ elements-append 0 s from m (i - m) in
-      let last : part s (from + m) w ≡ y ++ part s (from + m + (i - m)) (w - (i - m))
-      = ap (part s (from + m)) ew ∙ elements-append 0 s (from + m) (i - m) (w - (i - m)) in
-      let q : at + length x ≡ at + m = ap (λ (k : ℕ). at + k) (elements-length 0 s from m) in
-      let begun : splice o at (part s from i) ≡ splice (splice o at x) (at + m) y
-      = ap (splice o at) all ∙ sym (splice-append o at x y) ∙ ap (λ (k : ℕ). splice (splice o at x) k y) q in
-      ap (λ (z : List ℕ). splice z (at + m) (part s (from + m) w)) begun
-      ∙ ap (splice (splice (splice o at x) (at + m) y) (at + m)) last
-      ∙ again (splice o at x) (at + m) y _
-      ∙ ap (splice (splice o at x) (at + m)) (sym last)
-      ∙ ap (λ (k : ℕ). splice (splice o at x) k (part s (from + m) w)) (sym q)
-      ∙ splice-append o at x (part s (from + m) w)
-      ∙ ap (splice o at) (sym (elements-append 0 s from m w))
-
-  -- a last block, which ends where all ends
-  pub put-over : {o₁ o₂ : List ℕ} {len r : ℕ} → m ≤ i → i ≤ len → m + w ≡ len → o₁ ≡ splice o at (part s from i)
-      → Put o₁ (at + m) (part s (from + m) w) w o₂ r → Put o at (part s from len) len o₂ r
-  put-over {o₁} {o₂} {len} {r} h g e p q =
-      record {
-        next = omega (arith, q.next);
-        size = elements-length 0 s from len;
-        all =
-            q.all
-            ∙ ap (λ (z : List ℕ). splice z (at + m) (part s (from + m) w)) p
-            ∙ over h (omega arith)
-            ∙ ap (λ (k : ℕ). splice o at (part s from k)) e;
-      }
-
--- octets that went through a block as long as they are
-pub put-through : {o o' b b' bs : List ℕ} {at n r r' : ℕ} → length b ≡ n → Put b 0 bs n b' r' → Put o at (part b' 0 n) n o' r → Put o at bs n o' r
-put-through {o} {o'} {b} {b'} {bs} {at} {n} z p q =
-    let l : length bs ≡ n = p.size in
-    let m : length b ≤ 0 + length bs = omega arith in
-    let e : b' ≡ bs = p.all ∙ splice-is b 0 bs (omega arith) ∙ rw (drop_of_length-le b m) (append-nil bs) in
-    put_as (sym (ap (λ (k : ℕ). part b' 0 k) (sym l ∙ ap length (sym e)) ∙ part-whole b' ∙ e), refl) q

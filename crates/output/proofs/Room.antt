@@ -5,12 +5,9 @@ use mathlib.Core.Bool.{Bool, true, false, cond}
 use mathlib.Core.List.{List, [], ◌∷◌, ◌++◌}
 use Prim.Native.Nat.{ℕ, ◌+◌, ◌-◌, ◌≤◌, ◌<◌}
 use native.Mathlib.Omega.{arith}
-use native.Mathlib.Nat.{add-zero, mod-eq_of_lt}
-use borrow.Author.Tests.{lt-ltb, le-leb, lt-leb, leb-true, leb-false}
+use borrow.Author.Tests.{le-leb, lt-leb, leb-true, leb-false}
 use lib.Dec.{leb}
 use lib.ListN.{length}
-use Rattle.numbers.specs.Places.{push}
-use Rattle.numbers.specs.Integer.{int_len, tag_of, int_bytes}
 use Rattle.output.specs.Splice.{lies_within, Put, PutIf, Puts}
 use Rattle.output.proofs.Laws.{splice-length, put_then}
 
@@ -70,17 +67,3 @@ puts_then {o} {o₁} {o₂} {a} {b} {at} {m} {n} {r₁} p q h =
     let f = p (omega arith) in
     let e : length o₁ ≡ length o = rw f.all (splice-length o at a) in
     put_then f (q (omega (arith, f.next)))
-
--- ---- an integer of one octet
-
-module _ (v : ℕ) (h : v < 64) where
-  one-length : int_len v ≡ 1
-  unfolding int_len
-  one-length = rw (lt-ltb v 64 h)
-
-  one-octet : int_bytes v ≡ v ∷ []
-  unfolding int_bytes push tag_of
-  one-octet = let g : v < 256 = omega arith in rw (one-length, lt-ltb v 64 h, add-zero v, mod-eq_of_lt g)
-
-  pub put_one : {o o' : List ℕ} {at r : ℕ} → PutIf (lies_within o at 1) o at (v ∷ []) 1 o' r → PutIf (lies_within o at (int_len v)) o at (int_bytes v) (int_len v) o' r
-  put_one p = rw (one-length, one-octet) p

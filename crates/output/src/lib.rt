@@ -1,4 +1,6 @@
 // Writers into lent octets. Each writes all or nothing, and answers with the place behind what it wrote.
+#![tactic(auto)]
+
 ghost use Rattle.std.specs.Prelude.{◌≡◌, [], ◌∷◌, map, ◌+◌, ◌≤◌, ◌<◌, leb, length};
 ghost use Rattle.octets.specs.Text.{lower_of};
 ghost use Rattle.numbers.specs.Integer.{integer_end, int_len, int_bytes};
@@ -27,8 +29,8 @@ fn digit_char(d: usize) -> u8
     }
 }
 
-// So many octets of the source, from a place on, where both have them, one by one.
-fn copy_octets(out: &mut [u8], at: usize, src: &[u8], from: usize, len: usize) -> usize
+// So many octets of the source, from a place on, where both have them.
+fn copy_part(out: &mut [u8], at: usize, src: &[u8], from: usize, len: usize) -> usize
     requires len_in_bounds { at + len ≤ length out.old }
     requires len_in_bounds_2 { from + len ≤ length src.now }
     ensures { Put out.old at (part src.now from len) len out.new result }
@@ -39,72 +41,6 @@ fn copy_octets(out: &mut [u8], at: usize, src: &[u8], from: usize, len: usize) -
         i += 1;
     }
     at + len
-}
-
-// 4 octets of the source, through octets of its own: so the compiler loads them all before it stores one.
-fn copy_4(out: &mut [u8], at: usize, src: &[u8], from: usize) -> usize
-    requires { (at + 4 ≤ length out.old) × (from + 4 ≤ length src.now) }
-    ensures { Put out.old at (part src.now from 4) 4 out.new result }
-{
-    let mut block = [0u8; 4];
-    copy_octets(&mut block, 0, src, from, 4);
-    copy_octets(out, at, &block, 0, 4)
-}
-
-// 8 octets of the source, through octets of its own: so the compiler loads them all before it stores one.
-fn copy_8(out: &mut [u8], at: usize, src: &[u8], from: usize) -> usize
-    requires { (at + 8 ≤ length out.old) × (from + 8 ≤ length src.now) }
-    ensures { Put out.old at (part src.now from 8) 8 out.new result }
-{
-    let mut block = [0u8; 8];
-    copy_octets(&mut block, 0, src, from, 8);
-    copy_octets(out, at, &block, 0, 8)
-}
-
-// 16 octets of the source, through octets of its own: so the compiler loads them all before it stores one.
-fn copy_16(out: &mut [u8], at: usize, src: &[u8], from: usize) -> usize
-    requires { (at + 16 ≤ length out.old) × (from + 16 ≤ length src.now) }
-    ensures { Put out.old at (part src.now from 16) 16 out.new result }
-{
-    let mut block = [0u8; 16];
-    copy_octets(&mut block, 0, src, from, 16);
-    copy_octets(out, at, &block, 0, 16)
-}
-
-// 16 octets at least, by blocks: the last one begins where it ends with them, and may write again what is written.
-fn copy_blocks(out: &mut [u8], at: usize, src: &[u8], from: usize, len: usize) -> usize
-    requires { (at + len ≤ length out.old) × (from + len ≤ length src.now) × (16 ≤ len) }
-    ensures { Put out.old at (part src.now from len) len out.new result }
-{
-    let mut i = 0;
-    while 16 <= len - i {
-        copy_16(out, at + i, src, from + i);
-        i += 16;
-    }
-    let last = len - 16;
-    copy_16(out, at + last, src, from + last)
-}
-
-// So many octets, by the blocks that they have.
-fn copy_part(out: &mut [u8], at: usize, src: &[u8], from: usize, len: usize) -> usize
-    requires len_in_bounds { at + len ≤ length out.old }
-    requires len_in_bounds_2 { from + len ≤ length src.now }
-    ensures { Put out.old at (part src.now from len) len out.new result }
-{
-    if len < 4 {
-        return copy_octets(out, at, src, from, len);
-    }
-    if len < 8 {
-        copy_4(out, at, src, from);
-        let last = len - 4;
-        return copy_4(out, at + last, src, from + last);
-    }
-    if len < 16 {
-        copy_8(out, at, src, from);
-        let last = len - 8;
-        return copy_8(out, at + last, src, from + last);
-    }
-    copy_blocks(out, at, src, from, len)
 }
 
 // The same in lower case.
@@ -222,13 +158,10 @@ pub fn put_text(out: &mut [u8], at: usize, text: &[u8]) -> usize
     at
 }
 
-// The shortest form of an integer; nothing where it has none. Most are of one octet.
+// The shortest form of an integer; nothing where it has none.
 pub fn put_int(out: &mut [u8], at: usize, v: usize) -> usize
     ensures { PutIf (lies_within out.old at (int_len v)) out.old at (int_bytes v) (int_len v) out.new result }
 {
-    if v < 64 {
-        return put_octet(out, at, v as u8);
-    }
     let n = int_len(v);
     if n == 0 {
         return at;

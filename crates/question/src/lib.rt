@@ -1,4 +1,6 @@
 // The field question: the first kept header value of a name, of the final head in a response, as a part of the message; else the default.
+#![tactic(auto)]
+
 ghost use Rattle.std.specs.Prelude.{◌≡◌, map, ◌+◌, ◌*◌, ◌≤◌, length};
 ghost use Rattle.octets.specs.Text.{lower_of, same_text};
 ghost use Rattle.ranges.specs.Entries.{field_in, EntryWithin, FieldsWithin};

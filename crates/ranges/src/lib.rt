@@ -1,4 +1,6 @@
 // Ranges of messages in lent arrays of numbers: what every reader stores and every writer finds.
+#![tactic(auto)]
+
 pub mod named; // named.rt: fields that Connection lines name are dropped
 
 ghost use Rattle.std.specs.Prelude.{◌≡◌, [], ◌∷◌, cond, ◌+◌, ◌*◌, ◌≤◌, ◌<◌, length, get_or};

@@ -1,6 +1,6 @@
 // Prints what is kept of the octets on standard input.
+#![tactic(auto)]
+
 fn main() {
-    if programs::is_alone() {
-        salvager::go(0);
-    }
+    salvager::go(0);
 }

@@ -1,4 +1,6 @@
 // Prints the name of each of its arguments, a file, and what is kept of it.
+#![tactic(auto)]
+
 use libc::STDOUT_FILENO;
 
 fn one(k: usize) -> bool {

@@ -1,8 +1,11 @@
 // Reads octets to their end, up to the one that makes them too many, and prints the line that says what is kept of them.
+#![tactic(auto)]
+
 ghost use Rattle.std.specs.Prelude.{◌≡◌, ◌≤◌, length, take};
 ghost use Rattle.io.specs.Counts.{IsPrefixLen};
 ghost use Rattle.salvaging.specs.Line.{line_most, salvage_line};
 
+use libc::STDOUT_FILENO;
 use output::Written;
 use salvaging::salvage_line;
 
@@ -22,13 +25,10 @@ fn fill(input: &[u8], out: &mut [u8]) -> usize
     }
 }
 
-// Where reading fails nothing is printed.
 pub fn go(fd: i32) {
     let mut input = [0u8; 65537];
     let mut out = [0u8; 128];
     let n = io::read_full(fd, &mut input);
-    if programs::is_whole(fd, n, 65537) {
-        let k = fill(&input[..n], &mut out);
-        programs::print(&out[..k]);
-    }
+    let k = fill(&input[..n], &mut out);
+    io::write_all(STDOUT_FILENO, &out[..k]);
 }

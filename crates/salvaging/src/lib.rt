@@ -1,4 +1,6 @@
 // What came through the radio: the front of whole entries kept of whatever octets, and the line that says how much that is. Knows nothing of what an entry is.
+#![tactic(auto)]
+
 ghost use Rattle.std.specs.Prelude.{◌≡◌, ◌≤◌, length};
 ghost use Rattle.output.specs.Splice.{Put, Puts};
 ghost use Rattle.output.specs.Reply.{writes, Served};

@@ -26,14 +26,9 @@ use Rattle.http1.specs.Lines.{field_lens}
 use Rattle.http1.specs.declared.FieldLine.TheVariants as field
 use Rattle.http1.proofs.Views.{field-view}
 use Rattle.step_lines.proofs.Fields.{field_at}
-use Rattle.step_lines.specs.Entries.{host_mark, connection_mark, kept_text, text_of, entries, names_it, named_in, is_list, ListsFrom, is_name, worth, count_in, PlainLine, AllPlain}
+use Rattle.step_lines.specs.Entries.{host_mark, connection_mark, kept_text, text_of, entries, names_it, named_in, is_name, worth, count_in, PlainLine, AllPlain}
 
 -- ---- as the code finds them
-
-no-list : (n e : List ℕ) → is_list e ≡ false → names_it n e ≡ false
-unfolding is_list names_it
-no-list n [] h = refl
-no-list n (b ∷ v) h = rw h
 
 entry-on : (w rest : List ℕ) → all (is_other 10) w ≡ true → entries (w ++ 10 ∷ rest) ≡ w ∷ entries rest
 unfolding entries all is_other
@@ -93,10 +88,6 @@ module _ (t : List ℕ) (i : ℕ) {e : ℕ} (q : e ≡ i + span_len (is_other 10
     unfolding named_in
     named_more x = inv ∙ rw (entry-from, ← y, x)
 
-  pub lists-more : ((n : List ℕ) → named_in (entries t) n ≡ named_in (entries (drop i t)) n) → {r : Bool} → r ≡ is_list (take (e - i) (drop i t)) → r ≡ false
-      → (n : List ℕ) → named_in (entries t) n ≡ named_in (entries (drop (e + 1) t)) n
-  lists-more inv y x n = named_more n (inv n) refl (no-list n (take (e - i) (drop i t)) (sym y ∙ x))
-
   module _ (es : List (List ℕ)) {w : ℕ} (n : ℕ) (inv : w ≡ n + count_in es (entries (drop i t))) {r : ℕ} (y : r ≡ worth es (take (e - i) (drop i t))) where
     pub count-more : w ≡ (n + r) + count_in es (entries (drop (e + 1) t))
     unfolding count_in
@@ -105,9 +96,6 @@ module _ (t : List ℕ) (i : ℕ) {e : ℕ} (q : e ≡ i + span_len (is_other 10
 pub named_none : (t : List ℕ) (i : ℕ) (n : List ℕ) {w : Bool} → length t ≤ i → w ≡ named_in (entries (drop i t)) n → false ≡ w
 unfolding named_in
 named_none t i n h inv = sym (inv ∙ rw (entries_none t i h))
-
-pub lists-none : (t : List ℕ) (i : ℕ) → length t ≤ i → ((n : List ℕ) → named_in (entries t) n ≡ named_in (entries (drop i t)) n) → ListsFrom t (length t)
-lists-none t i h inv = record { within = omega arith; same = λ n. sym (named_none t i n h (inv n)) ∙ named_none t (length t) n (omega arith) refl }
 
 pub count_none : (t : List ℕ) (i : ℕ) (es : List (List ℕ)) {w : ℕ} (n : ℕ) → length t ≤ i → w ≡ n + count_in es (entries (drop i t)) → n ≡ w
 unfolding count_in
@@ -131,21 +119,6 @@ module _ (n : List ℕ) where
   does-other [] h x = refl
   does-other (b ∷ v) h x = rw (ne_eqb b connection_mark x)
 
-pub list-none : (e : List ℕ) → length e ≡ 0 → false ≡ is_list e
-unfolding is_list
-list-none [] h = refl
-list-none (b ∷ v) h = absurd (omega arith)
-
-pub list-some : (e : List ℕ) → (length e ≡ 0 → ⊥) → get_or e 0 0 ≡ connection_mark → true ≡ is_list e
-unfolding is_list
-list-some [] h x = absurd (h refl)
-list-some (b ∷ v) h x = rw (eq-eqb b connection_mark x)
-
-pub list-other : (e : List ℕ) → (length e ≡ 0 → ⊥) → (get_or e 0 0 ≡ connection_mark → ⊥) → false ≡ is_list e
-unfolding is_list
-list-other [] h x = refl
-list-other (b ∷ v) h x = rw (ne_eqb b connection_mark x)
-
 pub name-none : (e : List ℕ) → length e ≡ 0 → false ≡ is_name e
 unfolding is_name
 name-none [] h = refl
@@ -165,13 +138,6 @@ pub name-some : (e : List ℕ) → (length e ≡ 0 → ⊥) → (get_or e 0 0 �
 unfolding is_name
 name-some [] h x y = absurd (h refl)
 name-some (b ∷ v) h x y = rw (ne_eqb b connection_mark x, ne_eqb b host_mark y)
-
--- by the entries from the first value of Connection on
-pub worth-from : {t : List ℕ} {r x : ℕ} (e : List ℕ) → ListsFrom t r → x ≡ worth (entries (take (length t - r) (drop r t))) e → x ≡ worth (entries t) e
-unfolding worth
-worth-from {t} {r} {x} e h y =
-    y ∙ ap (λ (l : List ℕ). cond (is_name e) (cond (named_in (entries l) e) 0 1) 0) (take_all (length t - r) (drop r t) (omega (arith, length-drop r t)))
-    ∙ ap (λ (z : Bool). cond (is_name e) (cond z 0 1) 0) (sym (h.same e))
 
 module _ (es : List (List ℕ)) (e : List ℕ) {p : Bool} (i : p ≡ is_name e) where
   pub worth-none : p ≡ false → 0 ≡ worth es e

@@ -1,6 +1,6 @@
 -- What lent room keeps of the lines of a head (02, item 13): of a line that may travel its name in lower case, of Host and Connection the value, of others
 -- nothing. One entry stands behind another, each with LF behind it. No value has LF; a mark that begins no name stands before a value.
-use Rattle.std.specs.Prelude.{ℕ, ◌+◌, ◌≤◌, ◌≡◌, Bool, true, false, cond, not, List, [], ◌∷◌, ◌++◌, map, eqb, length, drop}
+use Rattle.std.specs.Prelude.{ℕ, ◌+◌, ◌≤◌, ◌≡◌, Bool, true, false, cond, not, List, [], ◌∷◌, ◌++◌, map, eqb, length}
 use Rattle.octets.specs.Class.{has_class, token}
 use Rattle.octets.specs.Text.{all, lower_of}
 use Rattle.script.specs.Script.{free}
@@ -47,16 +47,6 @@ names_it n (b ∷ v) = cond (eqb b connection_mark) (any_member n (members v)) f
 unfoldable pub named_in : List (List ℕ) → List ℕ → Bool
 named_in [] n = false
 named_in (e ∷ es) n = cond (names_it n e) true (named_in es n)
-
--- whether an entry is a value of Connection
-unfoldable pub is_list : List ℕ → Bool
-is_list [] = false
-is_list (b ∷ v) = eqb b connection_mark
-
--- all values of Connection in a text stand from the place r on
-pub record ListsFrom (t : List ℕ) (r : ℕ) : Type 0 where
-  pub within : r ≤ length t
-  pub same : (n : List ℕ) → named_in (entries t) n ≡ named_in (entries (drop r t)) n
 
 -- whether an entry is a name
 unfoldable pub is_name : List ℕ → Bool

@@ -1,5 +1,7 @@
 // Lines that come one octet at a step: what an octet says of its line, and what lent room keeps of the lines of a head.
 // Here and nowhere else: how kept names and values stand in the room. Nothing here knows of a whole request.
+#![tactic(auto)]
+
 pub mod octet; // octet.rt: one octet of a line
 pub mod room; // room.rt: what is kept of a line, moved down in the room
 pub mod names; // names.rt: the kept names, counted

@@ -1,6 +1,6 @@
 // The kept names of a head, counted at its end: those that no Connection value names.
 ghost use Rattle.std.specs.Prelude.{◌≡◌, ◌≤◌};
-ghost use Rattle.step_lines.specs.Entries.{entries, names_it, named_in, is_list, ListsFrom, is_name, worth, count_in};
+ghost use Rattle.step_lines.specs.Entries.{entries, names_it, named_in, is_name, worth, count_in};
 
 use messages::lists::has_member;
 
@@ -32,34 +32,6 @@ fn is_named(text: &[u8], name: &[u8]) -> bool
     false
 }
 
-// Whether an entry is a value of Connection.
-fn is_list(entry: &[u8]) -> bool
-    ensures { result ≡ is_list entry.now }
-{
-    if entry.len() == 0 {
-        return false;
-    }
-    if entry[0] == b',' {
-        return true;
-    }
-    false
-}
-
-// Where the first value of Connection stands in a text, or its end.
-fn first_list(text: &[u8]) -> usize
-    ensures { ListsFrom text.now result }
-{
-    let mut i = 0;
-    while i < text.len() {
-        let e = octets::find(text, i, b'\n');
-        if is_list(&text[i..e]) {
-            return i;
-        }
-        i = e + 1;
-    }
-    text.len()
-}
-
 // Whether an entry is a name: a value has a mark in front.
 fn is_name(entry: &[u8]) -> bool
     ensures { result ≡ is_name entry.now }
@@ -89,16 +61,15 @@ fn worth_of(text: &[u8], entry: &[u8]) -> usize
     0
 }
 
-// How many names of a text none of its entries names. Without a value of Connection none is looked for.
+// How many names of a text none of its entries names.
 pub fn count(text: &[u8]) -> usize
     ensures { result ≡ count_in (entries text.now) (entries text.now) }
 {
-    let from = first_list(text);
     let mut i = 0;
     let mut n = 0;
     while i < text.len() {
         let e = octets::find(text, i, b'\n');
-        n += worth_of(&text[from..], &text[i..e]);
+        n += worth_of(text, &text[i..e]);
         i = e + 1;
     }
     n

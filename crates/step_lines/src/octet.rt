@@ -6,7 +6,7 @@ ghost use Rattle.step_lines.specs.Stepping.{line_step};
 use crate::LineStep;
 
 // What is known of a line with an octet more that is no LF.
-pub fn after_octet(cr: u32, b: u8) -> u32
+fn after_octet(cr: u32, b: u8) -> u32
     ensures { result ≡ cr_state cr b }
 {
     if cr == 0 {

@@ -1,6 +1,13 @@
 pub mod Picks
 pub mod Rooms
 pub mod Turns
+pub mod Lines
+pub mod Starting
+pub mod Heading
+pub mod Settling
+pub mod Contents
+pub mod Trailing
+pub mod Taking
+pub mod Claims
 pub mod Passing
-pub mod Lining
 pub mod Running

@@ -1,23 +1,25 @@
--- The loop over many octets.
+-- The loop over many octets; and that it takes the steps one by one.
 use Prim.Native.Nat.{ℕ, zero, suc, ◌+◌, ◌-◌, ◌<◌, ◌≤◌}
 use mathlib.Core.Path.{◌≡◌, refl, sym, ap, ◌∙◌}
 use mathlib.Core.Bool.{Bool, true, false, cond}
+use mathlib.Core.Logic.{◌⊎◌, inl, inr}
 use mathlib.Core.List.{List, [], ◌∷◌}
 use native.Mathlib.Omega.{arith}
 use native.Mathlib.Numerals.{add-one}
-use lib.ListN.{length, get_or, drop, drop_of_length-le, length-drop}
+use lib.ListN.{length, get_or, take, drop, drop_of_length-le, length-drop}
 use lib.Seq.{drop-cons, drop-drop}
 use Rattle.octets.specs.Limits.{head_most}
-use Rattle.steps.specs.States.{Held, held, Gives, reading}
+use Rattle.octets.proofs.Kit.{either, no_true}
+use Rattle.steps.specs.States.{Held, held, Gives}
 use Rattle.steps.specs.Steps.{taken, answer_in, small_room}
 use Rattle.steps.specs.Runs.{is_settled, ran_held, ran_count, passed, MayPass, Runs}
 use Rattle.steps.specs.declared.Answer.{Answer}
 use Rattle.steps.specs.declared.Answer.TheVariants as says
 use Rattle.steps.specs.declared.Phase.{Phase}
+use Rattle.steps.specs.declared.Phase.TheVariants as phase
 use Rattle.steps.specs.declared.State.{State}
-use Rattle.steps.specs.Lines.{lined_up}
 use Rattle.steps.proofs.Passing.{pass_all}
-use Rattle.steps.proofs.Lining.{lined-along, lined-few}
+use Rattle.steps.proofs.Claims.{after_octets, settled-all}
 
 pub settled-as : {x : Phase} {r : Bool} (y : Phase) → x ≡ y → r ≡ is_settled y → r ≡ is_settled x
 settled-as y e f = rw e f
@@ -73,26 +75,6 @@ module _ {st : State} {room₀ s : List ℕ} {x : State} {room : List ℕ} {i : 
         count-is = q.count-is ∙ ap (λ (w : ℕ). i + w) (a.1 ∙ ap (λ (w : List ℕ). n + ran_count (held (passed x n) room) w) d) ∙ omega arith;
       })
 
-  -- octets that go on with a line, in one go
-  pub run-line : {y : State} {o : List ℕ} {n j : ℕ} → i ≤ length s → length o ≡ length room → Gives (lined_up x room (drop i s)) y o → n ≡ y.present.have - x.present.have → j ≡ i + n
-      → Running st room₀ s y o j
-  run-line {y} {o} {n} {j} h l g c k =
-      let u = lined_up x room (drop i s) in
-      let z = lined-along x room (drop i s) in
-      let f = lined-few x room (drop i s) in
-      let m = length-drop i s in
-      let e : n ≡ u.state.present.have - x.present.have = rw (← g.state) c in
-      let d : drop n (drop i s) ≡ drop (i + n) s = drop-drop n i s in
-      let w : held y o ≡ held (reading x x.phase u.state.present) u.room = rw (g.state, g.room) (ap (λ (a : State). held a u.room) z.1) in
-      let b : ran_held (held x room) (drop i s) ≡ ran_held (held y o) (drop (i + n) s) = z.0.held-is ∙ rw (← e, ← w) (ap (ran_held (held y o)) d) in
-      let r : ran_count (held x room) (drop i s) ≡ n + ran_count (held y o) (drop (i + n) s) = z.0.count-is ∙ rw (← e, ← w) (ap (λ (a : List ℕ). n + ran_count (held y o) a) d) in
-      rw k (record { few = omega (arith, e, f.1); space = l ∙ q.space; held-is = q.held-is ∙ b; count-is = q.count-is ∙ ap (λ (a : ℕ). i + a) r ∙ omega arith })
-
-  -- where none went on, the same octet is still to come
-  pub run-line-none : {y : State} {o : List ℕ} {n : ℕ} → i ≤ length s → length o ≡ length room → Gives (lined_up x room (drop i s)) y o → n ≡ y.present.have - x.present.have → n ≡ 0
-      → Running st room₀ s y o i
-  run-line-none h l g c z = run-line h l g c (omega (arith, z))
-
   -- settled, or all octets taken
   pub run_settled : {a : Answer} {r : Bool} → head_most ≤ length room₀ → i < length s → r ≡ is_settled x.phase → r ≡ true → a ≡ answer_in x
       → Runs st room₀ s (record { state = x; taken = i; answer = a }) room
@@ -121,11 +103,37 @@ module _ {st : State} {room₀ s : List ℕ} {x : State} {room : List ℕ} {i : 
         answers = λ y. a ∙ ap (λ (w : Held). answer_in w.state) (sym k);
       }
 
-pub line-more : (x : State) (room t : List ℕ) {y : State} {o : List ℕ} → Gives (lined_up x room t) y o → (x.present.have ≤ y.present.have) × (y.present.have - x.present.have ≤ length t)
-line-more x room t g = let f = lined-few x room t in rw g.state (f.0, omega (arith, f.1))
-
-pub line-settled : (x : State) (room t : List ℕ) {y : State} {o : List ℕ} {r : Bool} → Gives (lined_up x room t) y o → r ≡ is_settled x.phase → r ≡ is_settled y.phase
-line-settled x room t g e = e ∙ ap (λ (z : State). is_settled z.phase) (sym (lined-along x room t).1 ∙ sym g.state)
-
 pub run_small : (st : State) (room s : List ℕ) → length room < head_most → Runs st room s (record { state = st; taken = 0; answer = says.Refusal small_room 0 }) room
 run_small st room s h = record { small = λ y. (refl, refl, refl, refl); ran = λ y. absurd (omega arith); count = λ y. absurd (omega arith); answers = λ y. absurd (omega arith) }
+
+-- ---- they are the steps one by one
+
+settled-which : (x : Phase) → is_settled x ≡ true → (x ≡ phase.Ended) ⊎ (x ≡ phase.Refused)
+settled-which phase.RequestLine e = absurd (no_true e)
+settled-which phase.FieldLine e = absurd (no_true e)
+settled-which phase.Content e = absurd (no_true e)
+settled-which phase.ChunkLine e = absurd (no_true e)
+settled-which phase.Chunk e = absurd (no_true e)
+settled-which phase.TrailerLine e = absurd (no_true e)
+settled-which phase.Ended e = inl refl
+settled-which phase.Refused e = inr refl
+
+pub run-steps : (h : Held) (s : List ℕ) → ran_held h s ≡ after_octets h s
+unfolding ran_held after_octets
+run-steps h [] = refl
+run-steps h (b ∷ s) = either (λ (z : Held). z ≡ after_octets (taken h.state h.room b) s) (is_settled h.state.phase) h (ran_held (taken h.state h.room b) s)
+    (λ e. sym (settled-all h (b ∷ s) (settled-which h.state.phase e)))
+    (λ e. run-steps (taken h.state h.room b) s)
+
+-- the octets that it took suffice
+pub run-takes : (h : Held) (s : List ℕ) → (ran_count h s ≤ length s) × (ran_held h s ≡ after_octets h (take (ran_count h s) s))
+unfolding ran_held ran_count after_octets
+run-takes h [] = (omega arith, refl)
+run-takes h (b ∷ s) = pick (is_settled h.state.phase) (run-takes (taken h.state h.room b) s)
+  where
+    pick : (z : Bool) → (ran_count (taken h.state h.room b) s ≤ length s)
+        × (ran_held (taken h.state h.room b) s ≡ after_octets (taken h.state h.room b) (take (ran_count (taken h.state h.room b) s) s))
+        → (cond z 0 (suc (ran_count (taken h.state h.room b) s)) ≤ suc (length s))
+        × (cond z h (ran_held (taken h.state h.room b) s) ≡ after_octets h (take (cond z 0 (suc (ran_count (taken h.state h.room b) s))) (b ∷ s)))
+    pick true ih = (omega arith, refl)
+    pick false ih = (omega (arith, ih.0), ih.1)

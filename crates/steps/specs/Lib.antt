@@ -2,5 +2,6 @@ pub mod States
 pub mod Heads
 pub mod Bodies
 pub mod Steps
+pub mod Standing
+pub mod Claim
 pub mod Runs
-pub mod Lines

@@ -130,10 +130,6 @@ is_line l e =
     false)
     false
 
--- how many octets are in: the place of a call for more, as the first reader's is the input's length
-unfoldable pub octets_in : Present → ℕ
-octets_in l = cond (leb l.at place_most) (cond (leb l.have place_most) (l.at + l.have) 0) 0
-
 -- of other octets
 pub record SaneData (l : Present) : Type 0 where
   pub place : l.at ≤ place_most

@@ -8,7 +8,7 @@ use Rattle.messages.specs.declared.PathPrefix.TheVariants as prefix
 use Rattle.step_lines.specs.Stepping.{line_step, line_text, fresh, one_more}
 use Rattle.step_lines.specs.declared.LineStep.{LineStep}
 use Rattle.step_lines.specs.declared.LineStep.TheVariants.{Goes, Whole, Bad, Long}
-use Rattle.steps.specs.States.{Held, held, Gives, refuse, reading, octets_in, is_line, is_data, is_counted}
+use Rattle.steps.specs.States.{Held, held, Gives, refuse, reading, is_line, is_data, is_counted}
 use Rattle.steps.specs.Heads.{request_in, field_in}
 use Rattle.steps.specs.Bodies.{content_octet, chunk_in, chunk_octet, trailer_in}
 use Rattle.steps.specs.declared.Answer.{Answer}
@@ -80,12 +80,12 @@ taken st room b = taken_by st.phase st room b
 -- ---- answers
 
 abbrev pub answer_by : Phase → State → Answer
-answer_by phase.RequestLine st = says.More (octets_in st.present)
-answer_by phase.FieldLine st = says.More (octets_in st.present)
-answer_by phase.Content st = says.More (octets_in st.present)
-answer_by phase.ChunkLine st = says.More (octets_in st.present)
-answer_by phase.Chunk st = says.More (octets_in st.present)
-answer_by phase.TrailerLine st = says.More (octets_in st.present)
+answer_by phase.RequestLine st = says.More
+answer_by phase.FieldLine st = says.More
+answer_by phase.Content st = says.More
+answer_by phase.ChunkLine st = says.More
+answer_by phase.Chunk st = says.More
+answer_by phase.TrailerLine st = says.More
 answer_by phase.Ended st = says.End st.place st.tally.headers st.tally.content st.tally.trailers
 answer_by phase.Refused st = says.Refusal st.number st.place
 

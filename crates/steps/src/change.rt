@@ -2,7 +2,7 @@
 ghost use Rattle.std.specs.Prelude.{◌≡◌, ◌+◌, ◌-◌, ◌<◌, ◌≤◌};
 ghost use Rattle.step_lines.specs.Stepping.{fresh, one_more, next_present};
 ghost use Rattle.step_lines.specs.declared.Present.{Present};
-ghost use Rattle.steps.specs.States.{refuse, finish, reading, in_section, with_control, with_tally, begins, SaneLine, SaneData, octets_in, is_line, is_data, is_tally, is_counted, place_most};
+ghost use Rattle.steps.specs.States.{refuse, finish, reading, in_section, with_control, with_tally, begins, SaneLine, SaneData, is_line, is_data, is_tally, is_counted, place_most};
 
 use crate::{Control, Phase, State, Tally};
 use messages::Notes;
@@ -176,18 +176,6 @@ pub(crate) fn is_line(l: Present, end: usize) -> bool
         }
     }
     false
-}
-
-// How many octets are in.
-pub(crate) fn octets_in(l: Present) -> usize
-    ensures { result ≡ octets_in l }
-{
-    if l.at <= 1048576 {
-        if l.have <= 1048576 {
-            return l.at + l.have;
-        }
-    }
-    0
 }
 
 // Whether the numbers are those of other octets.

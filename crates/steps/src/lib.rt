@@ -1,5 +1,7 @@
 // A request of HTTP/1.1 that is read one octet at a step: its state, and the ends of lines and of content.
 // Here and nowhere else: what a state says of the octets so far. Lines are judged by the first reader's own functions.
+#![tactic(auto)]
+
 use messages::{Notes, PathPrefix};
 use step_lines::Present;
 
@@ -7,7 +9,6 @@ pub mod change; // change.rt: small changes of a state
 pub mod head; // head.rt: the end of a request line, of a field line, of the head
 pub mod body; // body.rt: content, chunks, trailers
 pub mod reader; // reader.rt: beginning and step
-mod lines; // lines.rt: octets of a line in one go
 pub mod many; // many.rt: the steps of many octets
 
 // What is read: the request line; a field line; content of a stated length; a chunk line; a chunk with its CR LF; a trailer line; or nothing more.
@@ -61,13 +62,11 @@ pub struct State {
     pub place: usize,
 }
 
-// What a step answers: more octets than the so many that are in are needed; a refusal; or the end, with the message's length, its kept header lines, the octets of its content and
+// What a step answers: more octets are needed; a refusal; or the end, with the message's length, its kept header lines, the octets of its content and
 // its kept trailer lines.
 #[derive(Drop)]
 pub enum Answer {
-    More {
-        place: usize,
-    },
+    More,
     Refusal {
         number: u32,
         place: usize,

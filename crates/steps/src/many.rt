@@ -4,7 +4,6 @@ ghost use Rattle.steps.specs.States.{is_data, is_counted, SaneData};
 ghost use Rattle.steps.specs.Runs.{is_settled, passed, MayPass, Runs};
 
 use crate::change::{is_counted, is_data, onward};
-use crate::lines::take_along;
 use crate::reader::{answer, take_octet};
 use crate::{Answer, Phase, Ran, State};
 use octets::Limits;
@@ -112,16 +111,8 @@ fn pass(st: State, n: usize) -> State
     onward(st, x, l)
 }
 
-// How many octets more are in.
-fn gained(x: State, y: State) -> usize
-    requires { x.present.have ≤ y.present.have }
-    ensures { result ≡ y.present.have - x.present.have }
-{
-    y.present.have - x.present.have
-}
-
 // The place n octets further, which is not behind a length.
-pub(crate) fn further(i: usize, n: usize, len: usize) -> usize
+fn further(i: usize, n: usize, len: usize) -> usize
     requires { i + n ≤ len }
     ensures { result ≡ i + n }
 {
@@ -155,16 +146,9 @@ pub fn run(st: State, room: &mut [u8], s: &[u8]) -> Ran
         }
         let n = may_pass(x, s.len() - i);
         if n == 0 {
-            let y = take_along(x, room, s, i);
-            let k = gained(x, y);
-            if k == 0 {
-                let b = s[i];
-                x = take_octet(y, room, b);
-                i = further(i, 1, s.len());
-            } else {
-                x = y;
-                i = further(i, k, s.len());
-            }
+            let b = s[i];
+            x = take_octet(x, room, b);
+            i = further(i, 1, s.len());
         } else {
             x = pass(x, n);
             i = further(i, n, s.len());

@@ -8,7 +8,7 @@ ghost use Rattle.steps.specs.Steps.{whole_by, line_octet, line_taken, data_by, d
 
 use crate::body::{chunk_in, chunk_octet, content_octet, trailer_in};
 use crate::change::{
-    fresh_word, is_counted, is_data, is_line, octets_in, one_more, onward, refused, text_len,
+    fresh_word, is_counted, is_data, is_line, one_more, onward, refused, text_len,
 };
 use crate::head::{field_in, request_in};
 use crate::{Answer, Control, Phase, State, Stepped, Tally};
@@ -149,14 +149,13 @@ pub fn answer(st: State) -> Answer
     ensures { result ≡ answer_in st }
 {
     let phase = st.phase;
-    let place = octets_in(st.present);
     match phase {
-        Phase::RequestLine => Answer::More { place },
-        Phase::FieldLine => Answer::More { place },
-        Phase::Content => Answer::More { place },
-        Phase::ChunkLine => Answer::More { place },
-        Phase::Chunk => Answer::More { place },
-        Phase::TrailerLine => Answer::More { place },
+        Phase::RequestLine => Answer::More,
+        Phase::FieldLine => Answer::More,
+        Phase::Content => Answer::More,
+        Phase::ChunkLine => Answer::More,
+        Phase::Chunk => Answer::More,
+        Phase::TrailerLine => Answer::More,
         Phase::Ended => Answer::End {
             length: st.place,
             headers: st.tally.headers,

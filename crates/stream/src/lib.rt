@@ -1,1 +1,3 @@
 // Streams of messages: definitions and laws, no code.
+
+#![tactic(auto)]

@@ -1,1 +1,3 @@
 // Turning messages from one form into the other.
+
+#![tactic(auto)]

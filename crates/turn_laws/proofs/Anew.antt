@@ -1,4 +1,4 @@
--- Writing Binary anew: from demand 2, item 14 of 02, soundness of the Binary reader, and its round trip. Assumes nothing.
+-- Writing Binary anew: from demand 2, soundness of the Binary reader, and its round trip. Assumes nothing.
 use Prim.Native.Nat.{ℕ}
 use mathlib.Core.Path.{◌≡◌, sym, ap, ◌∙◌}
 use mathlib.Core.Bool.{true}
@@ -14,10 +14,9 @@ use Rattle.output.specs.Reply.{writes}
 use Rattle.turn.specs.Turn.{binary_to_binary}
 use Rattle.binary_sound.proofs.Sound.{binary-sound}
 use Rattle.binary_round_trip.proofs.Back.{round_trip, round-trip-of-meanings}
+use Rattle.binary_round_trip.proofs.Apart.{unique}
 use Rattle.demands.specs.Demand2.{binary_anew, Kept}
-use Rattle.demands.specs.Same.{binary_message}
-use Rattle.demands.proofs.Demand2.{demand2}
-use Rattle.demands.proofs.Same.{same}
+use Rattle.demands.proofs.Demand2.{binary-valid, demand2}
 use Rattle.turn_laws.specs.Anew.{Anew}
 
 kept : (t : Told) (s b : List ℕ) → binary_to_binary t s ≡ writes b → Kept (binary_anew t) s b
@@ -41,10 +40,22 @@ anew-once t s b e =
     let z : b ≡ binary_of w = k.written in
     rw z (written_of (in_edition 0 t) (binary_of w) _ _ r.0 ∙ ap to_binary r.1 ∙ fits-written w k.fits)
 
+anew-apart : (t u : Told) (r s b : List ℕ) (k n : ℕ) (l m : Message) → read_binary t r ≡ accepted k l → read_binary u s ≡ accepted n m
+    → binary_to_binary t r ≡ writes b → binary_to_binary u s ≡ writes b → meaning l ≡ meaning m
+anew-apart t u r s b k n l m p q e f =
+    let x = kept t r b e in
+    let y = kept u s b f in
+    let c : x.message ≡ l = cc (p, x.read) in
+    let d : y.message ≡ m = cc (q, y.read) in
+    let v = binary-valid t r x.long x.message x.read in
+    let w = binary-valid u s y.long y.message y.read in
+    let z = unique (meaning x.message) (meaning y.message) v x.fits w y.fits (sym x.written ∙ y.written) in
+    sym (ap meaning c) ∙ z ∙ ap meaning d
+
 pub anew : Anew
 anew = record {
   reads = λ t s n m e f. let h = binary-sound t s n m e in round-trip-of-meanings t (meaning m) h.sound.valid h.suits f;
   once = anew-once;
   alike = λ t u r s k n l m p q e. written_of t r k l p ∙ ap to_binary e ∙ sym (written_of u s n m q);
-  apart = λ t u r s b k n l m p q e f. (same.same (binary_message t r) (binary_message u s) k n l m b p q e).1 f;
+  apart = anew-apart;
 }

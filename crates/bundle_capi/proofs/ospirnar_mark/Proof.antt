@@ -9,7 +9,7 @@ use lib.Dec.{T as Holds, lit<}
 use lib.ListN.{length, get_or, set, length-set}
 use seplogic.Ra.Ura.{Ura}
 use seplogic.Ra.TreeShare.{full_share}
-use mir.Syntax.{named, imm, mut, w8, w32, w64, ty_array, ty_ptr, ty_bool}
+use mir.Syntax.{named, imm, mut, w8, w32, w64, ty_ptr, ty_bool}
 use mir.Val.{Val, vint, vptr, vbool, vunit}
 use base.Logic.{SProp, ent, sep, emp, via, fst∗, snd∗, ex_e, id⊢}
 use base.Fml.{Lft, GName, Share, Fml, ftrue, fsep, fat, flft, fobs, fbor}
@@ -31,7 +31,6 @@ use denote.Laws.{Is, shows}
 use denote.Plain.{uint_vals, uint_Tells, uint_Makes, Nothing-Lawful}
 use denote.Builtin.{u8, u32, usize, unit}
 use denote.Ref.{MutBor}
-use denote.Array.{Array, array_vals, Array-Tells, Array-Makes, Array-Lawful}
 use denote.Slice.{slice_val, MutSlice, ShrSlice, shr_slice_Tells, shr_slice_copy, heres, Room, mut_slice_vals, mut_slice_Tells, mut_slice_at, coded_holeys, finally}
 use denote.Lend.{Held}
 use denote.Index.{place_is, elem_out, elem_back, elem_put, opens_slice, closes_slice, looks_slice, shuts_slice}
@@ -69,10 +68,9 @@ use Rattle.bundle_capi.proofs.mark_answer.Symbol.{name as #bundle_capi·mark-ans
 use Rattle.bundle_capi.proofs.mark_answer.Met as mark-answer-thm
 use Rattle.flock_table.specs.Table.{none, plus, minus, slot_of, totals_of, no_totals, totals_at}
 use Rattle.bundle_edit.specs.Append.{append_plan, appended, new_record, entered as entering}
-use Rattle.bundle_edit.specs.Changes.{changed_by, records_of, place_of, changed_with, rebuild_changes}
+use Rattle.bundle_edit.specs.Changes.{changed, changed_from, rebuild_changes}
 use Rattle.bundle_edit.specs.Delivery.{one_undelivered, mark_plan, marked, sweep_changes, swept}
-use Rattle.bundle_capi.specs.Entries.{append_of, AppendEntered, outcome_of, Updated, mark_of, MarkEntered, SweepEntered}
-use Rattle.bundle_edit.proofs.Recording.{place-within, changed-with}
+use Rattle.bundle_capi.specs.Entries.{append_of, AppendEntered, outcome_of, RebuildEntered, mark_of, MarkEntered, SweepEntered}
 use Rattle.bundle_capi.proofs.Updating.{slot-index, append-index, mark-index, taken, left, changed_first, first-length, first_next, first-all}
 use Rattle.bundle_capi.specs.contracts.ospirnar_mark.Key.{name as #bundle_capi·ospirnar-mark}
 use Rattle.bundle_capi.specs.contracts.ospirnar_mark as f
@@ -209,7 +207,7 @@ module _ {M : Type 1} {𝓤 : Ura M} (𝓛 : Logic 𝓤) (mem : Memory → SProp
         split ! $
         move ! (1 ∷ []) $
         facts ! PlanT.the_row (Is PlanT.the_row) (shows 𝓛 PlanT.the_row) r1 (u1 ∷ []) (λ is1.
-        let told1 : u1 ∷ [] ≡ (LL.vals PlanT.the_type PlanL.the_laws) r1 = (LL.tells PlanT.the_type PlanL.the_laws) r1 (u1 ∷ []) is1 in
+        let told1 : u1 ∷ [] ≡ (LL.vals PlanT.the_type PlanL.the_laws) r1 = LL.tells PlanT.the_type PlanL.the_laws r1 (u1 ∷ []) is1 in
         let made1 : Is PlanT.the_row r1 ((LL.vals PlanT.the_type PlanL.the_laws) r1) = subst (λ (vs : List Val). Is PlanT.the_row r1 vs) told1 is1 in
         land ! (from ! (stop !)) (init ! 26 refl ((LL.lawful PlanT.the_type PlanL.the_laws 𝓛).typed r1 _ is1).0) $
         rewrite ! 26 (λ (w : Val). ‵ (fat full_share PlanL.mir l₆ 0 w)) (ap only told1) refl $
@@ -240,7 +238,7 @@ module _ {M : Type 1} {𝓤 : Ura M} (𝓛 : Logic 𝓤) (mem : Memory → SProp
         split ! $
         move ! (1 ∷ []) $
         facts ! FlockT.the_row (Is FlockT.the_row) (shows 𝓛 FlockT.the_row) r2 (u2 ∷ []) (λ is2.
-        let told2 : u2 ∷ [] ≡ (LL.vals FlockT.the_type FlockL.the_laws) r2 = (LL.tells FlockT.the_type FlockL.the_laws) r2 (u2 ∷ []) is2 in
+        let told2 : u2 ∷ [] ≡ (LL.vals FlockT.the_type FlockL.the_laws) r2 = LL.tells FlockT.the_type FlockL.the_laws r2 (u2 ∷ []) is2 in
         let made2 : Is FlockT.the_row r2 ((LL.vals FlockT.the_type FlockL.the_laws) r2) = subst (λ (vs : List Val). Is FlockT.the_row r2 vs) told2 is2 in
         land ! (from ! (stop !)) (init ! 26 refl ((LL.lawful FlockT.the_type FlockL.the_laws 𝓛).typed r2 _ is2).0) $
         rewrite ! 26 (λ (w : Val). ‵ (fat full_share FlockL.mir l₉ 0 w)) (ap only told2) refl $

@@ -20,7 +20,7 @@ enum_told : tie.Need-enum-told
 enum_told c = search rules
 
 returns : tie.Need-returns
-returns c = next-cut c.before.before.before.before.before.args.s.now _ c.before.before.before.before.before.args.i _ _ _ (sym c.before.before.read_int.ensures.0 ∙ c.enum_told.given.1)
+returns c = next-cut c.before.before.before.before.before.args.s.now _ c.before.before.before.before.before.args.i _ _ _ _ (sym c.before.before.read_int.ensures.0 ∙ c.enum_told.given.1)
 
 add-t16 : tie.Need-overflow-add-t16
 add-t16 c = omega (arith, integer-few c.before.before.before.before.before.before.before.args.s.now c.before.before.before.before.before.before.before.args.i c.before.before.before.before.before.before.before.requires.4 (sym c.before.before.before.before.read_int.ensures.0 ∙ c.before.before.n.given.1), int-within c.before.before.before.before.before.before.before.args.s.now c.before.before.before.before.before.before.before.args.i.at (sym c.before.before.before.before.read_int.ensures.0 ∙ c.before.before.n.given.1), c.before.before.before.before.before.before.before.requires.1)
@@ -47,10 +47,10 @@ same_length : tie.Need-same-length
 same_length c = search rules
 
 returns-2 : tie.Need-returns-2
-returns-2 c = next-informational c.before.before.before.before.before.before.before.before.before.before.before.before.before.before.before.before.before.args.s.now _ c.before.before.before.before.before.before.before.before.before.before.before.before.before.before.before.before.before.args.i _ _ _ (sym c.before.before.before.before.before.before.before.before.before.before.before.before.before.before.read_int.ensures.0 ∙ c.before.before.before.before.before.before.before.before.before.before.before.before.n.given.1) c.before.before.before.before.before.before.before.before.before.status-verdict.ensures c.before.before.before.before.before.before.before.before.if1.true (sym c.before.before.before.before.before.before.before.is-informational.ensures ∙ c.before.before.before.before.before.before.if2.true) (sym c.before.before.before.before.before.fits2.ensures ∙ c.before.before.before.before.if3.true) c.before.before.after-informational-status.ensures
+returns-2 c = next-informational c.before.before.before.before.before.before.before.before.before.before.before.before.before.before.before.before.before.args.s.now _ c.before.before.before.before.before.before.before.before.before.before.before.before.before.before.before.before.before.args.i _ _ _ _ (sym c.before.before.before.before.before.before.before.before.before.before.before.before.before.before.read_int.ensures.0 ∙ c.before.before.before.before.before.before.before.before.before.before.before.before.n.given.1) c.before.before.before.before.before.before.before.before.before.status-verdict.ensures c.before.before.before.before.before.before.before.before.if1.true (sym c.before.before.before.before.before.before.before.is-informational.ensures ∙ c.before.before.before.before.before.before.if2.true) (sym c.before.before.before.before.before.fits2.ensures ∙ c.before.before.before.before.if3.true) c.before.before.after-informational-status.ensures
 
 returns-3 : tie.Need-returns-3
-returns-3 c = next-full c.before.before.before.before.before.before.before.before.before.before.before.before.before.args.s.now _ c.before.before.before.before.before.before.before.before.before.before.before.before.before.args.i _ _ _ (sym c.before.before.before.before.before.before.before.before.before.before.read_int.ensures.0 ∙ c.before.before.before.before.before.before.before.before.n.given.1) c.before.before.before.before.before.status-verdict.ensures c.before.before.before.before.if1.true (sym c.before.before.before.is-informational.ensures ∙ c.before.before.if2.true) (sym c.before.fits2.ensures ∙ c.if3.false)
+returns-3 c = next-full c.before.before.before.before.before.before.before.before.before.before.before.before.before.args.s.now _ c.before.before.before.before.before.before.before.before.before.before.before.before.before.args.i _ _ _ _ (sym c.before.before.before.before.before.before.before.before.before.before.read_int.ensures.0 ∙ c.before.before.before.before.before.before.before.before.n.given.1) c.before.before.before.before.before.status-verdict.ensures c.before.before.before.before.if1.true (sym c.before.before.before.is-informational.ensures ∙ c.before.before.if2.true) (sym c.before.fits2.ensures ∙ c.if3.false)
 
 after-final-status-requires : tie.Need-after-final-status-requires
 after-final-status-requires c κs = (c.before.before.before.before.before.before.before.before.before.before.before.before.requires.0, (int-within c.before.before.before.before.before.before.before.before.before.before.before.before.args.s.now c.before.before.before.before.before.before.before.before.before.before.before.before.args.i.at (sym c.before.before.before.before.before.before.before.before.before.read_int.ensures.0 ∙ c.before.before.before.before.before.before.before.n.given.1)).1, c.before.before.before.before.before.before.before.before.before.before.before.before.requires.1, c.before.before.before.before.before.before.before.before.before.before.before.before.requires.2, record { verdict = sym c.before.before.before.before.status-verdict.ensures ∙ c.before.before.before.if1.true; last = sym c.before.before.is-informational.ensures ∙ c.before.if2.false }, integer-few c.before.before.before.before.before.before.before.before.before.before.before.before.args.s.now c.before.before.before.before.before.before.before.before.before.before.before.before.args.i c.before.before.before.before.before.before.before.before.before.before.before.before.requires.4 (sym c.before.before.before.before.before.before.before.before.before.read_int.ensures.0 ∙ c.before.before.before.before.before.before.before.n.given.1))
@@ -59,10 +59,10 @@ same-length-2 : tie.Need-same-length-2
 same-length-2 c = search rules
 
 returns-4 : tie.Need-returns-4
-returns-4 c = next-final c.before.before.before.before.before.before.before.before.before.before.before.before.before.before.before.args.s.now _ c.before.before.before.before.before.before.before.before.before.before.before.before.before.before.before.args.i _ _ _ (sym c.before.before.before.before.before.before.before.before.before.before.before.before.read_int.ensures.0 ∙ c.before.before.before.before.before.before.before.before.before.before.n.given.1) c.before.before.before.before.before.before.before.status-verdict.ensures c.before.before.before.before.before.before.if1.true (sym c.before.before.before.before.before.is-informational.ensures ∙ c.before.before.before.before.if2.false) c.before.before.after-final-status.ensures
+returns-4 c = next-final c.before.before.before.before.before.before.before.before.before.before.before.before.before.before.before.args.s.now _ c.before.before.before.before.before.before.before.before.before.before.before.before.before.before.before.args.i _ _ _ _ (sym c.before.before.before.before.before.before.before.before.before.before.before.before.read_int.ensures.0 ∙ c.before.before.before.before.before.before.before.before.before.before.n.given.1) c.before.before.before.before.before.before.before.status-verdict.ensures c.before.before.before.before.before.before.if1.true (sym c.before.before.before.before.before.is-informational.ensures ∙ c.before.before.before.before.if2.false) c.before.before.after-final-status.ensures
 
 returns-5 : tie.Need-returns-5
-returns-5 c = next-wrong c.before.before.before.before.before.before.before.before.before.args.s.now _ c.before.before.before.before.before.before.before.before.before.args.i _ _ _ (sym c.before.before.before.before.before.before.read_int.ensures.0 ∙ c.before.before.before.before.n.given.1) c.before.status-verdict.ensures c.if1.false
+returns-5 c = next-wrong c.before.before.before.before.before.before.before.before.before.args.s.now _ c.before.before.before.before.before.before.before.before.before.args.i _ _ _ _ (sym c.before.before.before.before.before.before.read_int.ensures.0 ∙ c.before.before.before.before.n.given.1) c.before.status-verdict.ensures c.if1.false
 
 pub next-head-spec : {M : Type 1} → statement M
 next-head-spec =

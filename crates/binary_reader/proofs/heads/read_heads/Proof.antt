@@ -4,7 +4,7 @@ use mathlib.Core.Path.{◌≡◌, refl, sym, ◌∙◌}
 use lib.ListN.{length, drop}
 use Rattle.octets.specs.Table.{classes}
 use Rattle.binary.specs.Reader.{cursor}
-use Rattle.binary_reader.specs.Heads.{heads_run}
+use Rattle.binary.specs.Read.{response_message}
 use Rattle.binary_reader.proofs.HeadTurns.{HeadsTo, heads-start, heads-refused, heads-final, final-some, informational-some, heads-next}
 use Rattle.binary_reader.proofs.heads.read_heads.Statement.{statement}
 use Rattle.binary_reader.proofs.heads.read_heads.Tie as tie
@@ -15,7 +15,7 @@ use Rattle.ranges.proofs.store.Reads as store-reads
 
 abbrev invariant-loop : tie.invariant-loop
 invariant-loop t s form headers₀ informational₀ i₀ count₀ base₀ longs₀ headers informational i count base longs =
-    (t ≡ classes) × (length headers ≡ length headers₀) × (length informational ≡ length informational₀) × HeadsTo (heads_run form (cursor i₀ longs₀) s) form s headers₀ headers informational₀ informational i count base longs
+    (t ≡ classes) × (length headers ≡ length headers₀) × (length informational ≡ length informational₀) × HeadsTo (λ told. response_message told form (cursor i₀ longs₀) (drop i₀ s)) form s headers₀ headers informational₀ informational i count base longs
 
 abbrev decreases-loop : tie.decreases-loop
 decreases-loop t s form headers₀ informational₀ i₀ count₀ base₀ longs₀ headers informational i count base longs =
@@ -43,7 +43,7 @@ same-length-2 c = omega arith
 
 -- src/heads.rt:157:52
 returns : tie.Need-returns invariant-loop decreases-loop
-returns c = heads-refused c.before.before.before.before.before.before.before.loop.invariant.3 c.before.before.before.before.before.next-head.ensures c.before.h.given.1
+returns c = heads-refused c.before.before.before.before.before.before.before.loop.invariant.3 c.before.before.before.before.before.next-head.ensures _ c.before.h.given.1
 
 -- src/heads.rt:159:17
 enum-known-h-2 : tie.Need-enum-known-h-2 invariant-loop decreases-loop

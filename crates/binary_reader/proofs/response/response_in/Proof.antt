@@ -19,7 +19,7 @@ same-length-2 : tie.Need-same-length-2
 same-length-2 c = search rules
 
 returns : tie.Need-returns
-returns c = responded-no c.before.before.before.before.before.before.before.read-heads.ensures c.before.before.before.before.before.before.before.before.before.before.before.before.before.before.before.args.told c.before.before.before.before.before.before.before.before.before.before.before.before.before.before.before.args.form c.before.h.given.1
+returns c = responded-no c.before.before.before.before.before.before.before.read-heads.ensures c.before.before.before.before.before.before.before.before.before.before.before.before.before.before.before.args.told c.before.h.given.1
 
 enum-known-h-2 : tie.Need-enum-known-h-2
 enum-known-h-2 c = search rules

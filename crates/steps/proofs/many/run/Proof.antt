@@ -1,8 +1,8 @@
 use borrow.Author.Rules.{rules}
 use native.Mathlib.Omega.{arith}
 use Prim.Native.Nat.{◌-◌}
-use lib.ListN.{length, length-drop, drop}
-use Rattle.steps.proofs.Running.{Running, run-start, run-again, run-pass, run-line, run-line-none, line-more, line-settled, run_settled, run_end, run_small}
+use lib.ListN.{length}
+use Rattle.steps.proofs.Running.{Running, run-start, run-again, run-pass, run_settled, run_end, run_small}
 use Rattle.steps.proofs.many.run.Statement.{statement}
 use Rattle.steps.proofs.many.run.Tie as tie
 use Rattle.steps.proofs.many.run.Reads as reads
@@ -38,47 +38,32 @@ sub-may-pass c = search rules
 may-pass-requires : tie.Need-may-pass-requires invariant-loop decreases-loop
 may-pass-requires c κs = search rules
 
-take-along-requires : tie.Need-take-along-requires invariant-loop decreases-loop
-take-along-requires c κs = omega (arith, c.before.before.before.before.before.before.loop.invariant.space, c.before.before.before.before.before.before.before.if1.false)
-
-gained-requires : tie.Need-gained-requires invariant-loop decreases-loop
-gained-requires c κs = (line-more c.before.before.before.before.before.before.before.before.before.loop.x c.before.before.before.before.before.before.before.before.before.loop.room (drop c.before.before.before.before.before.before.before.before.before.loop.i c.before.before.before.before.before.before.before.before.before.before.before.before.before.args.s.now) c.before.before.take-along.ensures).0
-
 shared-slice-read-b : tie.Need-shared-slice-read-b invariant-loop decreases-loop
 shared-slice-read-b c = search rules
 
 take-octet-requires : tie.Need-take-octet-requires invariant-loop decreases-loop
-take-octet-requires c κs = omega (arith, c.before.before.before.before.before.before.before.before.before.before.before.before.before.loop.invariant.space, c.before.before.before.before.before.before.before.before.before.before.before.before.before.before.if1.false)
+take-octet-requires c κs = omega (arith, c.before.before.before.before.before.before.before.loop.invariant.space, c.before.before.before.before.before.before.before.before.if1.false)
 
 further-requires : tie.Need-further-requires invariant-loop decreases-loop
-further-requires c κs = omega (arith, c.before.before.before.before.before.before.before.before.before.before.before.before.before.before.before.loop-test.true)
+further-requires c κs = omega (arith, c.before.before.before.before.before.before.before.before.before.loop-test.true)
 
 loop-less : tie.Need-loop-smaller invariant-loop decreases-loop
-loop-less c = omega (arith, c.before.before.before.before.before.before.before.before.before.before.before.before.before.before.before.before.loop-test.true, c.further.ensures)
+loop-less c = omega (arith, c.before.before.before.before.before.before.before.before.before.before.loop-test.true, c.further.ensures)
 
 loop-again : tie.Need-loop-preserved invariant-loop decreases-loop
-loop-again c = run-again (run-line-none c.before.before.before.before.before.before.before.before.before.before.before.before.before.before.before.before.before.loop.invariant c.before.before.before.before.before.before.before.before.before.before.before.before.before.before.before.before.before.loop.invariant.few (search rules) c.before.before.before.before.before.before.before.before.before.before.take-along.ensures c.before.before.before.before.before.before.before.gained.ensures c.before.before.before.before.before.before.if4.true) c.before.before.before.before.before.before.before.before.before.before.before.before.before.before.before.before.loop-test.true (line-settled c.before.before.before.before.before.before.before.before.before.before.before.before.before.before.before.before.before.loop.x c.before.before.before.before.before.before.before.before.before.before.before.before.before.before.before.before.before.loop.room _ c.before.before.before.before.before.before.before.before.before.before.take-along.ensures c.before.before.before.before.before.before.before.before.before.before.before.before.before.before.before.is-settled.ensures) c.before.before.before.before.before.before.before.before.before.before.before.before.before.before.if2.false (search rules) c.before.before.before.take-octet.ensures c.further.ensures
-
-further-requires-2 : tie.Need-further-requires-2 invariant-loop decreases-loop
-further-requires-2 c κs = let l = length-drop c.before.before.before.before.before.before.before.before.before.before.before.loop.i c.before.before.before.before.before.before.before.before.before.before.before.before.before.before.before.args.s.now in omega (arith, l, c.before.before.before.before.before.before.before.before.before.before.loop-test.true, c.before.gained.ensures, (line-more c.before.before.before.before.before.before.before.before.before.before.before.loop.x c.before.before.before.before.before.before.before.before.before.before.before.loop.room (drop c.before.before.before.before.before.before.before.before.before.before.before.loop.i c.before.before.before.before.before.before.before.before.before.before.before.before.before.before.before.args.s.now) c.before.before.before.before.take-along.ensures).1)
-
-loop-less-2 : tie.Need-loop-smaller-2 invariant-loop decreases-loop
-loop-less-2 c = let l = length-drop c.before.before.before.before.before.before.before.before.before.before.before.before.loop.i c.before.before.before.before.before.before.before.before.before.before.before.before.before.before.before.before.args.s.now in omega (arith, l, c.before.before.before.before.before.before.before.before.before.before.before.loop-test.true, c.further2.ensures, c.before.if4.false, c.before.before.gained.ensures, (line-more c.before.before.before.before.before.before.before.before.before.before.before.before.loop.x c.before.before.before.before.before.before.before.before.before.before.before.before.loop.room (drop c.before.before.before.before.before.before.before.before.before.before.before.before.loop.i c.before.before.before.before.before.before.before.before.before.before.before.before.before.before.before.before.args.s.now) c.before.before.before.before.before.take-along.ensures).1)
-
-loop-again-2 : tie.Need-loop-preserved-2 invariant-loop decreases-loop
-loop-again-2 c = run-line c.before.before.before.before.before.before.before.before.before.before.before.before.loop.invariant c.before.before.before.before.before.before.before.before.before.before.before.before.loop.invariant.few (search rules) c.before.before.before.before.before.take-along.ensures c.before.before.gained.ensures c.further2.ensures
+loop-again c = run-again c.before.before.before.before.before.before.before.before.before.before.before.loop.invariant c.before.before.before.before.before.before.before.before.before.before.loop-test.true c.before.before.before.before.before.before.before.before.before.is-settled.ensures c.before.before.before.before.before.before.before.before.if2.false (search rules) c.before.before.before.take-octet.ensures c.further.ensures
 
 pass-requires : tie.Need-pass-requires invariant-loop decreases-loop
 pass-requires c κs = (c.before.may-pass.ensures.may c.if3.false).short
 
-further-requires-3 : tie.Need-further-requires-3 invariant-loop decreases-loop
-further-requires-3 c κs = omega (arith, c.before.before.before.before.before.loop-test.true, c.before.before.may-pass.ensures.few)
+further-requires-2 : tie.Need-further-requires-2 invariant-loop decreases-loop
+further-requires-2 c κs = omega (arith, c.before.before.before.before.before.loop-test.true, c.before.before.may-pass.ensures.few)
 
-loop-less-3 : tie.Need-loop-smaller-3 invariant-loop decreases-loop
-loop-less-3 c = omega (arith, c.before.before.before.before.before.before.loop-test.true, c.further3.ensures, c.before.before.before.may-pass.ensures.few, c.before.before.if3.false)
+loop-less-2 : tie.Need-loop-smaller-2 invariant-loop decreases-loop
+loop-less-2 c = omega (arith, c.before.before.before.before.before.before.loop-test.true, c.further2.ensures, c.before.before.before.may-pass.ensures.few, c.before.before.if3.false)
 
-loop-again-3 : tie.Need-loop-preserved-3 invariant-loop decreases-loop
-loop-again-3 c = run-pass c.before.before.before.before.before.before.before.loop.invariant c.before.before.before.before.before.before.loop-test.true c.before.before.before.may-pass.ensures c.before.before.if3.false c.before.pass.ensures c.further3.ensures
+loop-again-2 : tie.Need-loop-preserved-2 invariant-loop decreases-loop
+loop-again-2 c = run-pass c.before.before.before.before.before.before.before.loop.invariant c.before.before.before.before.before.before.loop-test.true c.before.before.before.may-pass.ensures c.before.before.if3.false c.before.pass.ensures c.further2.ensures
 
 answer-requires-2 : tie.Need-answer-requires-2 invariant-loop decreases-loop
 answer-requires-2 c κs = search rules
@@ -103,20 +88,15 @@ run_spec =
     returns-2
     sub-may-pass
     may-pass-requires
-    take-along-requires
-    gained-requires
     shared-slice-read-b
     take-octet-requires
     further-requires
     loop-less
     loop-again
+    pass-requires
     further-requires-2
     loop-less-2
     loop-again-2
-    pass-requires
-    further-requires-3
-    loop-less-3
-    loop-again-3
     answer-requires-2
     same-length-2
     returns-3)

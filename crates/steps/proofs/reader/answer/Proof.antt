@@ -1,15 +1,11 @@
 use borrow.Author.Rules.{rules}
 use native.Mathlib.Omega.{arith}
 use mathlib.Core.Path.{◌≡◌, refl, sym, ap, ◌∙◌}
-use Rattle.steps.specs.declared.Answer.TheVariants as says
 use Rattle.steps.proofs.Turns.{answer-as}
 use Rattle.steps.proofs.reader.answer.Statement.{statement}
 use Rattle.steps.proofs.reader.answer.Tie as tie
 use Rattle.steps.proofs.reader.answer.Reads as reads
 use Rattle.steps.proofs.reader.answer.Lts as lts
-
-octets-in-requires : tie.Need-octets-in-requires
-octets-in-requires c κs = search rules
 
 enum_told : tie.Need-enum-told
 enum_told c = search rules
@@ -36,34 +32,33 @@ enum-told-8 : tie.Need-enum-told-8
 enum-told-8 c = search rules
 
 returns : tie.Need-returns
-returns c = answer-as c.before.before.before.args.st _ c.enum_told.given.1 (ap says.More c.before.before.octets-in.ensures)
+returns c = answer-as c.before.before.args.st _ c.enum_told.given.1 refl
 
 returns-2 : tie.Need-returns-2
-returns-2 c = answer-as c.before.before.before.args.st _ c.enum-told2.given.1 (ap says.More c.before.before.octets-in.ensures)
+returns-2 c = answer-as c.before.before.args.st _ c.enum-told2.given.1 refl
 
 returns-3 : tie.Need-returns-3
-returns-3 c = answer-as c.before.before.before.args.st _ c.enum-told3.given.1 (ap says.More c.before.before.octets-in.ensures)
+returns-3 c = answer-as c.before.before.args.st _ c.enum-told3.given.1 refl
 
 returns-4 : tie.Need-returns-4
-returns-4 c = answer-as c.before.before.before.args.st _ c.enum-told4.given.1 (ap says.More c.before.before.octets-in.ensures)
+returns-4 c = answer-as c.before.before.args.st _ c.enum-told4.given.1 refl
 
 returns-5 : tie.Need-returns-5
-returns-5 c = answer-as c.before.before.before.args.st _ c.enum-told5.given.1 (ap says.More c.before.before.octets-in.ensures)
+returns-5 c = answer-as c.before.before.args.st _ c.enum-told5.given.1 refl
 
 returns-6 : tie.Need-returns-6
-returns-6 c = answer-as c.before.before.before.args.st _ c.enum-told6.given.1 (ap says.More c.before.before.octets-in.ensures)
+returns-6 c = answer-as c.before.before.args.st _ c.enum-told6.given.1 refl
 
 returns-7 : tie.Need-returns-7
-returns-7 c = answer-as c.before.before.before.args.st _ c.enum-told7.given.1 refl
+returns-7 c = answer-as c.before.before.args.st _ c.enum-told7.given.1 refl
 
 returns-8 : tie.Need-returns-8
-returns-8 c = answer-as c.before.before.before.args.st _ c.enum-told8.given.1 refl
+returns-8 c = answer-as c.before.before.args.st _ c.enum-told8.given.1 refl
 
 pub answer-spec : {M : Type 1} → statement M
 answer-spec =
     tie.close
     (tie.spec
-    octets-in-requires
     enum_told
     enum-told-2
     enum-told-3

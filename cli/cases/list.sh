@@ -1,3 +1,0 @@
-ospirnar list two.http
-echo "status $?"
-ospirnar list cut.http

@@ -1,3 +1,0 @@
-ospirnar salvage cut.bundle whole.bundle
-echo "status $?"
-ospirnar salvage whole.bundle

@@ -1,1 +1,0 @@
-ospirnar show < chunks.http

@@ -1,3 +1,0 @@
-ospirnar show open.http
-echo "status $?"
-ospirnar show --closed open.http

@@ -1,3 +1,0 @@
-ospirnar to-binary chunks.http | od -An -tx1
-ospirnar to-binary two.http | od -An -tx1
-ospirnar to-binary two.http > /dev/null

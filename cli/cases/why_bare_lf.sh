@@ -1,1 +1,0 @@
-ospirnar why bare_lf.http

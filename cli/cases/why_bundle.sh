@@ -1,3 +1,0 @@
-ospirnar why --bundle cut.bundle
-echo "status $?"
-ospirnar why --bundle kind.bundle

@@ -1,1 +1,0 @@
-ospirnar why chunk_end.http

@@ -1,1 +1,0 @@
-ospirnar why two.http && ospirnar why --bundle night.bundle

@@ -1,1 +1,0 @@
-ospirnar why padded.bin

@@ -1,1 +1,0 @@
-ospirnar why --https two.http

@@ -1,0 +1,15 @@
+use Prim.Native.Nat.{◌-◌}
+use mathlib.Core.Path.{◌≡◌, sym, ◌∙◌}
+use mathlib.Core.List.{map}
+use native.Mathlib.Omega.{arith}
+use lib.ListN.{length, drop, length-map}
+use Rattle.octets.specs.Text.{lower_of, same_text}
+use Rattle.octets.proofs.Texts.{same_more, same_stop, same-done, same_length, itself, map-itself}
+use Rattle.octets.proofs.Kit.{kit}
+use Rattle.octets.proofs.same.Given as goal
+
+abbrev pub invariant-loop-i : goal.invariant-loop-i
+invariant-loop-i l = same_text (map lower_of l.a) l.b ≡ same_text (map lower_of (drop l.i l.a)) (map itself (drop l.i l.b))
+
+abbrev pub decreases-loop-i : goal.decreases-loop-i
+decreases-loop-i l = length l.a - l.i

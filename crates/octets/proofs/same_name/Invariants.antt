@@ -1,0 +1,15 @@
+use Prim.Native.Nat.{◌-◌}
+use mathlib.Core.Path.{◌≡◌, refl, sym, ◌∙◌}
+use mathlib.Core.List.{map}
+use native.Mathlib.Omega.{arith}
+use lib.ListN.{length, drop, length-map}
+use Rattle.octets.specs.Text.{lower_of, same_text}
+use Rattle.octets.proofs.Texts.{same_more, same_stop, same-done, same_length}
+use Rattle.octets.proofs.Kit.{kit}
+use Rattle.octets.proofs.same_name.Given as goal
+
+abbrev pub invariant-loop-i : goal.invariant-loop-i
+invariant-loop-i l = same_text (map lower_of l.a) (map lower_of l.b) ≡ same_text (map lower_of (drop l.i l.a)) (map lower_of (drop l.i l.b))
+
+abbrev pub decreases-loop-i : goal.decreases-loop-i
+decreases-loop-i l = length l.a - l.i
