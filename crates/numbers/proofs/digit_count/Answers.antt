@@ -1,0 +1,22 @@
+use Prim.Native.Nat.{◌+◌, ◌-◌, ◌≤◌}
+use mathlib.Core.Path.{◌≡◌}
+use native.Mathlib.Omega.{arith}
+use Rattle.numbers.specs.Digits.{count_of, more_of}
+use Rattle.numbers.proofs.Counting.{count_none, count-start, count-stop, count-more, count-done}
+use Rattle.octets.proofs.Kit.{kit}
+use Rattle.numbers.proofs.digit_count.Goals as goal
+
+pub returns-then-base-eq0 : goal.returns-then-base-eq0
+returns-then-base-eq0 c = search count_none
+
+pub loop-k-init : goal.loop-k-init
+loop-k-init c = (omega arith, search count-start)
+
+pub returns-then-m-base : goal.returns-then-m-base
+returns-then-m-base c = search count-stop
+
+pub loop-k-preserved : goal.loop-k-preserved
+loop-k-preserved c = (omega arith, search count-more)
+
+pub returns : goal.returns
+returns c = search count-done

@@ -1,0 +1,13 @@
+use Prim.Native.Nat.{◌+◌, ◌-◌, ◌≤◌}
+use mathlib.Core.Path.{◌≡◌}
+use native.Mathlib.Omega.{arith}
+use Rattle.numbers.specs.Digits.{count_of, more_of}
+use Rattle.numbers.proofs.Counting.{count_none, count-start, count-stop, count-more, count-done}
+use Rattle.octets.proofs.Kit.{kit}
+use Rattle.numbers.proofs.digit_count.Given as goal
+
+abbrev pub invariant-loop-k : goal.invariant-loop-k
+invariant-loop-k l = (l.k ≤ 20) × (l.k + more_of (20 - l.k) l.base l.m ≡ count_of l.base l.n)
+
+abbrev pub decreases-loop-k : goal.decreases-loop-k
+decreases-loop-k l = 20 - l.k

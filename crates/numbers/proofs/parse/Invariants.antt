@@ -1,0 +1,15 @@
+use borrow.Author.Rules.{rules}
+use Prim.Native.Nat.{◌-◌, ◌≤◌}
+use mathlib.Core.Path.{◌≡◌}
+use native.Mathlib.Omega.{arith}
+use lib.ListN.{length, drop}
+use Rattle.numbers.specs.Digits.{most, num_of, num_from}
+use Rattle.numbers.proofs.ReadDigits.{num-none, num-first, num-bad, num-more, num-done, fits-times, fits-digit}
+use Rattle.octets.proofs.Kit.{kit}
+use Rattle.numbers.proofs.parse.Given as goal
+
+abbrev pub invariant-loop-i : goal.invariant-loop-i
+invariant-loop-i l = (l.i ≤ length l.s) × (l.v ≤ most) × (num_from l.base l.v (drop l.i l.s) ≡ num_of l.base l.s)
+
+abbrev pub decreases-loop-i : goal.decreases-loop-i
+decreases-loop-i l = length l.s - l.i

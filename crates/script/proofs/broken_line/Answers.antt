@@ -1,0 +1,20 @@
+use Prim.Native.Nat.{◌+◌, ◌-◌, ◌≤◌}
+use mathlib.Core.Path.{◌≡◌, sym, ◌∙◌}
+use native.Mathlib.Omega.{arith}
+use lib.ListN.{length, drop}
+use Rattle.script.specs.Script.{line_of, cr_state}
+use Rattle.script.proofs.Lines.{search-start, search-long, search-more, search-lf, search-on}
+use Rattle.script.proofs.broken_line.Goals as goal
+
+pub returns-then-s-i-eq10 : goal.returns-then-s-i-eq10
+returns-then-s-i-eq10 c = sym (c.loop-i.invariant.0 ∙ search-lf _ _ _ _ _ c.loop-i.invariant.1 (omega arith) (omega arith) c.if-s-i-eq10.true)
+
+pub loop-i-preserved : goal.loop-i-preserved
+unfolding cr_state
+loop-i-preserved c = (c.loop-i.invariant.0 ∙ search-on _ _ _ _ _ c.loop-i.invariant.1 (omega arith) (omega arith) c.if-s-i-eq10.false, omega arith, omega arith)
+
+pub returns-then-allowance-i : goal.returns-then-allowance-i
+returns-then-allowance-i c = sym (c.loop-i.invariant.0 ∙ search-long _ _ _ _ _ c.loop-i.invariant.1 c.if-allowance-i.true)
+
+pub returns : goal.returns
+returns c = sym (c.loop-i.invariant.0 ∙ search-more _ _ _ _ _ c.loop-i.invariant.1 c.if-allowance-i.false (omega arith))

@@ -1,0 +1,29 @@
+use Prim.Native.Nat.{◌+◌, ◌-◌, ◌≤◌}
+use mathlib.Core.Path.{◌≡◌, sym, ◌∙◌}
+use mathlib.Core.Logic.{⊎_elim}
+use native.Mathlib.Omega.{arith}
+use lib.ListN.{length, drop}
+use Rattle.script.specs.Script.{line_of}
+use Rattle.script.proofs.Lines.{search-start, search-long, search-more, search-lf, search-cr, search-plain}
+use Rattle.script.proofs.line_end.Goals as goal
+
+pub returns-then-b-eq10 : goal.returns-then-b-eq10
+returns-then-b-eq10 c = sym (c.loop-i.invariant.0 ∙ search-lf _ _ _ _ _ c.loop-i.invariant.1 (omega arith) (omega arith) c.if-b-eq10.true)
+
+pub returns-then-b-eq13 : goal.returns-then-b-eq13
+returns-then-b-eq13 c = c.after_cr.ensures
+    ∙ sym (c.loop-i.invariant.0 ∙ search-cr _ _ _ _ c.loop-i.invariant.1 (omega arith) (omega arith) c.if-b-eq13.true)
+
+pub loop-i-preserved : goal.loop-i-preserved
+loop-i-preserved c = (
+  c.loop-i.invariant.0 ∙ search-plain _ _ _ _ c.loop-i.invariant.1 (omega arith) (omega arith)
+      (⊎_elim (λ w. (omega arith, omega arith)) (λ w. (omega arith, omega arith)) c.if-b-lt14.branch),
+  omega arith,
+  omega arith,
+)
+
+pub returns-then-allowance-i : goal.returns-then-allowance-i
+returns-then-allowance-i c = sym (c.loop-i.invariant.0 ∙ search-long _ _ _ _ _ c.loop-i.invariant.1 c.if-allowance-i.true)
+
+pub returns : goal.returns
+returns c = sym (c.loop-i.invariant.0 ∙ search-more _ _ _ _ _ c.loop-i.invariant.1 c.if-allowance-i.false (omega arith))
