@@ -6,6 +6,7 @@ use lib.ListN.{length, drop}
 use Rattle.script.specs.Script.{line_of}
 use Rattle.script.proofs.Lines.{search-start, search-long, search-more, search-lf, search-cr, search-plain}
 use Rattle.script.proofs.line_end.Goals as goal
+use Rattle.script.proofs.line_end.Goals.{then-b-lt14+else-b-eq10+else-b-eq13, else-b-lt14}
 
 pub returns-then-b-eq10 : goal.returns-then-b-eq10
 returns-then-b-eq10 c = sym (c.loop-i.invariant.0 ∙ search-lf _ _ _ _ _ c.loop-i.invariant.1 (omega arith) (omega arith) c.if-b-eq10.true)
@@ -17,7 +18,7 @@ returns-then-b-eq13 c = c.after_cr.ensures
 pub loop-i-preserved : goal.loop-i-preserved
 loop-i-preserved c = (
   c.loop-i.invariant.0 ∙ search-plain _ _ _ _ c.loop-i.invariant.1 (omega arith) (omega arith)
-      (⊎_elim (λ w. (omega arith, omega arith)) (λ w. (omega arith, omega arith)) c.if-b-lt14.branch),
+      (elim c.if-b-lt14.branch [ then-b-lt14+else-b-eq10+else-b-eq13 w ↦ (omega arith, omega arith) | else-b-lt14 w ↦ (omega arith, omega arith) ]),
   omega arith,
   omega arith,
 )
