@@ -4,7 +4,7 @@
 // follow, whether the message may end before its final header section.
 #![tactic(auto)]
 
-#[derive(Drop)]
+#[derive(Clone, Copy)]
 pub struct Form {
     pub known: bool,
     pub empty: bool,
@@ -13,7 +13,7 @@ pub struct Form {
 }
 
 // How far a reader has come: a place, and how many integers before it are not in their shortest form.
-#[derive(Drop)]
+#[derive(Clone, Copy)]
 pub struct Cursor {
     pub at: usize,
     pub long: usize,

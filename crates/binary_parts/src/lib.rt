@@ -10,14 +10,14 @@ use binary::Cursor;
 use messages::{Kind, Notes};
 
 // So many octets of the input from a place on.
-#[derive(Drop)]
+#[derive(Clone, Copy)]
 pub struct Span {
     pub start: usize,
     pub len: usize,
 }
 
 // A part that was read: where the octets behind its length start, how many they are, and how many integers so far are long.
-#[derive(Drop)]
+#[derive(Clone, Copy)]
 enum PartRead {
     Is {
         start: usize,
@@ -31,7 +31,7 @@ enum PartRead {
 }
 
 // The parts of control data that have a size and a rule of their octets; the path's goes by whether the method is OPTIONS.
-#[derive(Drop)]
+#[derive(Clone, Copy)]
 enum Ruled {
     Method,
     Authority,
@@ -39,14 +39,14 @@ enum Ruled {
 }
 
 // A scheme that was read, by its number, and the place behind it.
-#[derive(Drop)]
+#[derive(Clone, Copy)]
 enum SchemeRead {
     Is { scheme: u32, end: Cursor },
     Refused { number: u32, place: usize },
 }
 
 // The control data of a request that were read, and the place behind them.
-#[derive(Drop)]
+#[derive(Clone, Copy)]
 pub enum ControlRead {
     Done {
         method: Span,
@@ -63,7 +63,7 @@ pub enum ControlRead {
 
 // A chunk that was read: where its octets start, how many they are, and how many integers so far are long; or how far the content goes, the length zero
 // that ends it included.
-#[derive(Drop)]
+#[derive(Clone, Copy)]
 enum ChunkRead {
     Next {
         start: usize,
@@ -80,7 +80,7 @@ enum ChunkRead {
 }
 
 // Content that was read: the place behind it, how many non-empty chunks it has, how many octets they are.
-#[derive(Drop)]
+#[derive(Clone, Copy)]
 pub enum ContentRead {
     Done {
         end: Cursor,
@@ -94,14 +94,14 @@ pub enum ContentRead {
 }
 
 // What follows the message: zero octets only, or another one at a place.
-#[derive(Drop)]
+#[derive(Clone, Copy)]
 pub enum Padding {
     Clean,
     Bad { place: usize },
 }
 
 // A section that was read: the place behind it, how many kept fields stand in the lent ranges now, and what its lines state.
-#[derive(Drop)]
+#[derive(Clone, Copy)]
 pub enum Section {
     Done {
         end: Cursor,
@@ -116,7 +116,7 @@ pub enum Section {
 
 // A field line that was read: the index behind it in the part that was lent, the count of kept fields with it, its kind, its place, and the
 // size of its value, which ends where the line ends; how many integers so far are long.
-#[derive(Drop)]
+#[derive(Clone, Copy)]
 enum LineRead {
     Next {
         end: usize,

@@ -12,7 +12,7 @@ use messages::{Framing, Notes, StatedLength};
 
 // A response's head that was read: its status, the place behind it and how many kept fields stand in the lent ranges now; of a final one, what its
 // lines state.
-#[derive(Drop)]
+#[derive(Clone, Copy)]
 enum HeadRead {
     Informational {
         status: u32,
@@ -33,7 +33,7 @@ enum HeadRead {
 
 // All heads of a response: the final status, the place behind the final head, how many informational heads there are, how many kept fields the final
 // head has and what its lines state.
-#[derive(Drop)]
+#[derive(Clone, Copy)]
 enum HeadsRead {
     Done {
         status: u32,
@@ -49,7 +49,7 @@ enum HeadsRead {
 }
 
 // Trailers that were read: the place behind them, how many are kept.
-#[derive(Drop)]
+#[derive(Clone, Copy)]
 enum TrailersRead {
     Done { end: Cursor, kept: usize },
     Refused { number: u32, place: usize },
@@ -57,7 +57,7 @@ enum TrailersRead {
 
 // What stands behind a header section and was read to the end of the input: how many non-empty chunks, how many octets they are, how many kept trailers; how many
 // integers of the message are long.
-#[derive(Drop)]
+#[derive(Clone, Copy)]
 enum RestRead {
     Done {
         chunks: usize,
@@ -72,7 +72,7 @@ enum RestRead {
 }
 
 // A request's head that was judged by host and length: the authority's part.
-#[derive(Drop)]
+#[derive(Clone, Copy)]
 enum HeadAnswer {
     Good { start: usize, len: usize },
     Refused { number: u32, place: usize },
@@ -80,7 +80,7 @@ enum HeadAnswer {
 
 // A final head that was judged by what it states: whether the message may have content, what the content must agree with, and the length that the message
 // states where it has none.
-#[derive(Drop)]
+#[derive(Clone, Copy)]
 enum FinalAnswer {
     Good {
         body: bool,

@@ -6,7 +6,7 @@ pub mod list; // list.rt: the list of one flock
 pub mod reader; // reader.rt: the walk over a bundle
 
 // The parts of a head, a number of 32 bits: one flock, one kind, the mark of delivery; lengths are below one kind.
-#[derive(Drop)]
+#[derive(Clone, Copy)]
 pub struct Head;
 
 impl Head {
@@ -18,14 +18,14 @@ impl Head {
 }
 
 // What stands at a place of a bundle: an entry by its head, or where the walk stops and why; 0 is the end of the octets.
-#[derive(Drop)]
+#[derive(Clone, Copy)]
 pub enum Next {
     Entry { word: u32 },
     Stop { number: u32 },
 }
 
 // A walk over a bundle: how many entries there are, where it ends and what stopped it (0: nothing), and head, start and length of each entry.
-#[derive(Drop)]
+#[derive(Clone, Copy)]
 pub struct Bundle {
     pub count: usize,
     pub end: usize,

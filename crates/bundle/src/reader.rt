@@ -11,7 +11,7 @@ use crate::{Bundle, Head, Next};
 use octets::{Limits, class_table};
 
 // How a walk ended: after so many entries, at a place, by a number.
-#[derive(Drop)]
+#[derive(Clone, Copy)]
 struct Ended {
     count: usize,
     end: usize,

@@ -26,7 +26,7 @@ use salvaging::{Salvaged, salvage, salvage_line};
 
 // What the reader answers: 0, the bundle's length and the number of entries, or a refusal's number and place.
 #[repr(C)]
-#[derive(Drop)]
+#[derive(Clone, Copy)]
 pub struct BundleAnswer {
     pub number: u32,
     pub place: usize,
@@ -36,7 +36,7 @@ pub struct BundleAnswer {
 // What the appender answers: 0 and the used length afterwards, or a refusal's number and place and the used length as it was; integers of the message that were
 // not in their shortest form, which is 0 for now.
 #[repr(C)]
-#[derive(Drop)]
+#[derive(Clone, Copy)]
 pub struct AppendAnswer {
     pub number: u32,
     pub place: usize,
@@ -47,7 +47,7 @@ pub struct AppendAnswer {
 // What a call that changes the table, but for the appender, answers: 0 and the used length afterwards, or a refusal's number and place and the used length as
 // it was.
 #[repr(C)]
-#[derive(Drop)]
+#[derive(Clone, Copy)]
 pub struct TableAnswer {
     pub number: u32,
     pub place: usize,
@@ -56,7 +56,7 @@ pub struct TableAnswer {
 
 // What a list and a line answer: 0 and the length written, or a refusal's number and place.
 #[repr(C)]
-#[derive(Drop)]
+#[derive(Clone, Copy)]
 pub struct ListAnswer {
     pub number: u32,
     pub place: usize,

@@ -29,7 +29,7 @@ use turning::from_binary::binary_to_binary;
 
 // What a call that changes a bundle answers, flat: whether a table's record is to be changed, which one, by how many octets of message; number, place, the used
 // length afterwards; integers that were not in their shortest form.
-#[derive(Drop)]
+#[derive(Clone, Copy)]
 pub struct Plan {
     pub go: bool,
     pub index: usize,
@@ -42,7 +42,7 @@ pub struct Plan {
 
 // What a call that changes all records of a table answers, flat: what is done to each (one of Kinds), number, place, the used length afterwards; and the
 // records it is done with, three numbers each.
-#[derive(Drop)]
+#[derive(Clone, Copy)]
 pub struct Changes {
     pub kind: u32,
     pub number: u32,
@@ -52,7 +52,7 @@ pub struct Changes {
 }
 
 // What is done to each record: it is left, put, or taken off.
-#[derive(Drop)]
+#[derive(Clone, Copy)]
 pub struct Kinds;
 
 impl Kinds {
@@ -64,7 +64,7 @@ impl Kinds {
 }
 
 // What is judged before a mark and before a sweep: 0 and how many entries there are, or a refusal.
-#[derive(Drop)]
+#[derive(Clone, Copy)]
 struct Judged {
     number: u32,
     place: usize,
@@ -72,7 +72,7 @@ struct Judged {
 }
 
 // An entry: where it begins, its head.
-#[derive(Drop)]
+#[derive(Clone, Copy)]
 struct Found {
     at: usize,
     word: u32,

@@ -10,7 +10,7 @@ use octets::{Limits, Refusals};
 
 // The record of a flock: how many entries, octets of message and undelivered entries.
 #[repr(C)]
-#[derive(Drop)]
+#[derive(Clone, Copy)]
 pub struct Flock {
     pub entries: u32,
     pub bytes: u32,
@@ -18,7 +18,7 @@ pub struct Flock {
 }
 
 // Where a flock's record stands in a table, or the refusal's number.
-#[derive(Drop)]
+#[derive(Clone, Copy)]
 pub struct Slot {
     pub go: bool,
     pub index: usize,
@@ -27,7 +27,7 @@ pub struct Slot {
 
 // What a flock's answer is: 0 and its record, or a refusal's number and place.
 #[repr(C)]
-#[derive(Drop)]
+#[derive(Clone, Copy)]
 pub struct Totals {
     pub number: u32,
     pub place: usize,

@@ -8,7 +8,7 @@ use messages::{Kind, Notes};
 
 // A section that was read: the place behind it, what is left of its allowance, how many kept fields stand in the lent ranges now, and what its
 // lines state.
-#[derive(Drop)]
+#[derive(Clone, Copy)]
 pub enum Section {
     Done {
         end: usize,
@@ -24,14 +24,14 @@ pub enum Section {
 }
 
 // A field line that was taken: its kind, and the count of kept fields with it.
-#[derive(Drop)]
+#[derive(Clone, Copy)]
 pub struct LineRead {
     pub kind: Kind,
     pub kept: usize,
 }
 
 // A chunk that was read: where its data start and how many octets they are; or the end of the last chunk line, which has size zero.
-#[derive(Drop)]
+#[derive(Clone, Copy)]
 pub enum ChunkRead {
     Next { start: usize, len: usize },
     Last { end: usize },
@@ -40,7 +40,7 @@ pub enum ChunkRead {
 }
 
 // Content that was read: the place behind it, how many non-empty chunks it has, how many octets they are, and how many kept trailers.
-#[derive(Drop)]
+#[derive(Clone, Copy)]
 pub enum ContentRead {
     Done {
         end: usize,

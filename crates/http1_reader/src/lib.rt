@@ -8,7 +8,7 @@ pub mod response;
 use messages::{Body, Notes};
 
 // A request's head that was judged: the authority's part and how the content is read.
-#[derive(Drop)]
+#[derive(Clone, Copy)]
 pub enum HeadAnswer {
     Good {
         start: usize,
@@ -23,7 +23,7 @@ pub enum HeadAnswer {
 
 // A response's head that was read: its status, the place behind it and how many kept fields stand in the lent ranges now; behind an informational
 // one, what is left of the allowance; of a final one, what its lines state.
-#[derive(Drop)]
+#[derive(Clone, Copy)]
 pub enum HeadRead {
     Informational {
         status: u32,
@@ -46,7 +46,7 @@ pub enum HeadRead {
 
 // All heads of a response: the final status, the place behind the final head, how many informational heads there are, how many kept fields the final
 // head has and what its lines state.
-#[derive(Drop)]
+#[derive(Clone, Copy)]
 pub enum HeadsRead {
     Done {
         status: u32,

@@ -8,7 +8,7 @@ mod bodies; // bodies.rt: content and trailers
 mod fitting; // fitting.rt: whether a message may be written
 
 // The length line of a head: none, the length of the content, or that it is in chunks.
-#[derive(Drop)]
+#[derive(Clone, Copy)]
 pub enum LengthLine {
     Nothing,
     Length(usize),

@@ -19,7 +19,7 @@ use octets::{Limits, Refusals, class_table};
 use output::{Written, put_decimal, put_octet, put_text};
 
 // What stands at a place of the stream: a message with its length and counts, or where and why the listing stops.
-#[derive(Drop)]
+#[derive(Clone, Copy)]
 pub enum Row {
     Message {
         length: usize,

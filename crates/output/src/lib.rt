@@ -11,7 +11,7 @@ use numbers::{digit_count, int_len, int_tag};
 use octets::lower;
 
 // What a public writer answers: so many octets are written, or nothing is.
-#[derive(Drop)]
+#[derive(Clone, Copy)]
 pub enum Written {
     Done(usize),
     Refused { number: u32, place: usize },

@@ -15,14 +15,14 @@ use octets::{Refusals, class_table, same};
 use ranges::{fields_before, number_at};
 
 // A value that was found, as a part of the message, or nothing: the default is meant then.
-#[derive(Drop)]
+#[derive(Clone, Copy)]
 pub enum Found {
     Part { start: usize, len: usize },
     Nothing,
 }
 
 // An answer: what was found, and the message's refusal or 0 and 0.
-#[derive(Drop)]
+#[derive(Clone, Copy)]
 pub struct Asked {
     pub found: Found,
     pub number: u32,

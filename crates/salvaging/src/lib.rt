@@ -14,7 +14,7 @@ use octets::Refusals;
 use output::{Written, put_decimal, put_octet, put_part, put_text};
 
 // The input of the program: so many octets at most.
-#[derive(Drop)]
+#[derive(Clone, Copy)]
 struct Input;
 
 impl Input {
@@ -22,7 +22,7 @@ impl Input {
 }
 
 // How much is kept and left off, and the number that stopped it.
-#[derive(Drop)]
+#[derive(Clone, Copy)]
 pub struct Front {
     pub entries: usize,
     pub kept: usize,
@@ -32,7 +32,7 @@ pub struct Front {
 
 // What a salvage answers: 0, the entries and octets kept, the octets left off and the number that stopped it; or a refusal's number and place, and zeros.
 #[repr(C)]
-#[derive(Drop)]
+#[derive(Clone, Copy)]
 pub struct Salvaged {
     pub number: u32,
     pub place: usize,

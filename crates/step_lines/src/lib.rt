@@ -7,7 +7,7 @@ pub mod room; // room.rt: what is kept of a line, moved down in the room
 pub mod names; // names.rt: the kept names, counted
 
 // What an octet says of the line that it belongs to: the line goes on, and what is known of it; it is whole; its ending is wrong; it is too long.
-#[derive(Drop)]
+#[derive(Clone, Copy)]
 pub enum LineStep {
     Goes(u32),
     Whole,
@@ -17,7 +17,7 @@ pub enum LineStep {
 
 // The word that is read: it began at the place `at`, has `left` octets at most, and `have` of them are in. Of a line `cr` is what is known of
 // its CR, and its octets stand in the room from `from` on.
-#[derive(Drop)]
+#[derive(Clone, Copy)]
 pub struct Present {
     pub at: usize,
     pub have: usize,

@@ -12,7 +12,7 @@ pub mod reader; // reader.rt: beginning and step
 pub mod many; // many.rt: the steps of many octets
 
 // What is read: the request line; a field line; content of a stated length; a chunk line; a chunk with its CR LF; a trailer line; or nothing more.
-#[derive(Drop)]
+#[derive(Clone, Copy)]
 pub enum Phase {
     RequestLine,
     FieldLine,
@@ -26,7 +26,7 @@ pub enum Phase {
 
 // What was told and what is kept of a request: the scheme; whether the target has the authority; the method, which is the first octets of the room; where
 // authority and path stand in it, what is put before the path, and where all of this ends.
-#[derive(Drop)]
+#[derive(Clone, Copy)]
 pub struct Control {
     pub scheme: u32,
     pub given: bool,
@@ -40,7 +40,7 @@ pub struct Control {
 }
 
 // How much was read behind the request line: kept header lines, chunks, the octets of content, the size of the present chunk, kept trailer lines.
-#[derive(Drop)]
+#[derive(Clone, Copy)]
 pub struct Tally {
     pub headers: usize,
     pub chunks: usize,
@@ -50,7 +50,7 @@ pub struct Tally {
 }
 
 // Where a request stands. `lines` and `notes` are those of the present section. A refusal has its number and place, an end its place.
-#[derive(Drop)]
+#[derive(Clone, Copy)]
 pub struct State {
     pub phase: Phase,
     pub present: Present,
@@ -64,7 +64,7 @@ pub struct State {
 
 // What a step answers: more octets are needed; a refusal; or the end, with the message's length, its kept header lines, the octets of its content and
 // its kept trailer lines.
-#[derive(Drop)]
+#[derive(Clone, Copy)]
 pub enum Answer {
     More,
     Refusal {
@@ -79,14 +79,14 @@ pub enum Answer {
     },
 }
 
-#[derive(Drop)]
+#[derive(Clone, Copy)]
 pub struct Stepped {
     pub state: State,
     pub answer: Answer,
 }
 
 // What many steps leave: the state, how many octets were taken, and the last answer.
-#[derive(Drop)]
+#[derive(Clone, Copy)]
 pub struct Ran {
     pub state: State,
     pub taken: usize,
