@@ -17,7 +17,7 @@ use Rattle.messages.specs.Answers.{chunks_numbers, informational_numbers, inform
 use Rattle.sound.specs.Refusal.{is_one_of, Refusal}
 use Rattle.sound.specs.Sound.{Sound}
 use Rattle.sound.proofs.Each.{each_map}
-use Rattle.http1.specs.Read.{read_request, read_response}
+use Rattle.http1_lines.specs.Read.{read_request, read_response}
 use Rattle.http1_sound.specs.Read.{request_numbers, response_numbers}
 use Rattle.http1_sound.proofs.Refusals.{request-refused, response-refused}
 use Rattle.http1_sound.proofs.Sound.{request-sound, response-sound}

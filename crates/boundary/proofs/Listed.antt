@@ -26,11 +26,11 @@ use Rattle.messages.specs.Names.{kept, kept_trailers}
 use Rattle.messages.specs.Meaning.{field_means, content_of, meaning}
 use Rattle.messages.specs.Answers.{record_from, record_of}
 use Rattle.messages.specs.Valid.{is_scheme}
-use Rattle.http1.specs.Lines.{request_lens, on_request, request_of, RequestRead}
-use Rattle.http1.proofs.Views.{request-view}
-use Rattle.http1.specs.Read.{line_within, less, section, field_lines, after_request_line, request, read_request}
-use Rattle.http1.specs.declared.RequestLine.{RequestLine}
-use Rattle.http1.specs.declared.RequestLine.TheVariants as request-line
+use Rattle.http1_lines.specs.Lines.{request_lens, on_request, request_of, RequestRead}
+use Rattle.http1_lines.proofs.Views.{request-view}
+use Rattle.http1_lines.specs.Read.{line_within, less, section, field_lines, after_request_line, request, read_request}
+use Rattle.http1_lines.specs.declared.RequestLine.{RequestLine}
+use Rattle.http1_lines.specs.declared.RequestLine.TheVariants as request-line
 use Rattle.http1_sound.specs.Read.{request_numbers}
 use Rattle.http1_sound.proofs.Refusals.{request-refused}
 use Rattle.http1_sound.proofs.Sound.{request-sound}

@@ -7,7 +7,7 @@ use Rattle.script.specs.Script.{Answer, accepted}
 use Rattle.script.specs.Do.{Piece}
 use Rattle.messages.specs.declared.Told.{Told}
 use Rattle.messages.specs.Message.{Message}
-use Rattle.http1.specs.Read.{read_request, read_response}
+use Rattle.http1_lines.specs.Read.{read_request, read_response}
 use Rattle.http1_sound.specs.Read.{request_numbers, response_numbers}
 use Rattle.binary.specs.Read.{read_binary}
 use Rattle.binary_sound.specs.Sound.{binary_numbers}

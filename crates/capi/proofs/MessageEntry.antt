@@ -16,7 +16,7 @@ use Rattle.messages.specs.declared.Told.{Told}
 use Rattle.messages.specs.declared.Outcome.{Outcome}
 use Rattle.messages.specs.declared.Outcome.TheVariants as outcome
 use Rattle.messages.proofs.Noting.{kept-few}
-use Rattle.http1.specs.Read.{read_response}
+use Rattle.http1_lines.specs.Read.{read_response}
 use Rattle.http1_sound.proofs.Sound.{response-sound}
 use Rattle.binary.specs.Read.{read_binary}
 use Rattle.binary_sound.proofs.Sound.{binary-sound}

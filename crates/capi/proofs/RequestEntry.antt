@@ -13,7 +13,7 @@ use Rattle.messages.specs.Names.{kept}
 use Rattle.messages.specs.declared.Told.{Told}
 use Rattle.messages.specs.Answers.{informational_numbers, informational_lines, informational_in, padded, record_from, record_of}
 use Rattle.messages.specs.declared.Record.{Record}
-use Rattle.http1.specs.Read.{read_request}
+use Rattle.http1_lines.specs.Read.{read_request}
 use Rattle.http1_sound.specs.Read.{IsRequest, SoundRequest}
 use Rattle.http1_sound.proofs.Sound.{request-sound}
 use Rattle.ranges.specs.Ranges.{SmallRecord}

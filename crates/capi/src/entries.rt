@@ -4,7 +4,7 @@ ghost use Rattle.octets.specs.Table.{classes};
 ghost use Rattle.octets.specs.Limits.{lines_most, informational_most};
 ghost use Rattle.ranges.specs.Ranges.{places_end};
 ghost use Rattle.binary.specs.Read.{read_binary};
-ghost use Rattle.http1.specs.Read.{read_request, read_response};
+ghost use Rattle.http1_lines.specs.Read.{read_request, read_response};
 ghost use Rattle.messages.specs.Told.{plain, answering, closing, in_edition};
 ghost use Rattle.messages.specs.Room.{section_room, heads_room, informational_room, chunks_room};
 ghost use Rattle.output.specs.Reply.{writes};

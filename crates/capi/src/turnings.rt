@@ -1,7 +1,7 @@
 // The turning entries: what is read of the one form is written in the other.
 ghost use Rattle.std.specs.Prelude.{◌≡◌};
 ghost use Rattle.messages.specs.Told.{plain, answering, closing, keeping, in_edition};
-ghost use Rattle.http1.specs.Read.{read_request, read_response};
+ghost use Rattle.http1_lines.specs.Read.{read_request, read_response};
 ghost use Rattle.turn.specs.Turn.{request_to_binary, response_to_binary, binary_to_binary, binary_to_http1};
 ghost use Rattle.capi.specs.Entries.{EntryServed, EntryTaken};
 

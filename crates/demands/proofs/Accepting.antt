@@ -16,7 +16,7 @@ use Rattle.messages.specs.Control.{is_unsupported, method_verdict, path_verdict,
 use Rattle.messages.specs.Names.{is_hop_by_hop, kind_of}
 use Rattle.messages.specs.Meaning.{Control, request, response, Meaning, length_field}
 use Rattle.messages.specs.Valid.{of_response, valid_field, valid_fields, valid_section, valid_informational, valid_heads, is_scheme, valid_control, valid_body, valid_stated, valid, suits}
-use Rattle.http1.specs.Read.{read_request, read_response}
+use Rattle.http1_lines.specs.Read.{read_request, read_response}
 use Rattle.binary.specs.Read.{read_binary}
 use Rattle.binary_writer.specs.Write.{counted, field_bytes, fields_bytes, section_bytes, scheme_bytes, informational_bytes, control_bytes, binary_of, binary_fits, to_binary}
 use Rattle.http1_writer.specs.Write.{field_text, section_text, request_line, status_line, host_field, coding_field, length_line, head_lines, informational_text, head_text, http1_of, http1_fits, on_connection, to_http1}

@@ -17,7 +17,7 @@ use Rattle.messages.specs.Message.{Message}
 use Rattle.messages.specs.Meaning.{Meaning, meaning}
 use Rattle.messages.specs.Valid.{is_scheme}
 use Rattle.messages.specs.Answers.{no_ranges, reading_of}
-use Rattle.http1.specs.Read.{read_request, read_response}
+use Rattle.http1_lines.specs.Read.{read_request, read_response}
 use Rattle.binary.specs.Read.{read_binary}
 use Rattle.binary_writer.specs.Write.{binary_of, binary_fits, to_binary}
 use Rattle.http1_writer.specs.Write.{http1_of, http1_fits, on_connection, to_http1}

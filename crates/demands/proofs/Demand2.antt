@@ -14,8 +14,8 @@ use Rattle.messages.specs.Told.{is_edition, in_edition}
 use Rattle.messages.specs.Message.{FieldRead, Start, request_start, response_start, Message}
 use Rattle.messages.specs.Meaning.{Control, request, response, Meaning, control_means, meaning}
 use Rattle.messages.specs.Valid.{is_scheme, of_response, valid, suits}
-use Rattle.http1.specs.Read as script
-use Rattle.http1.specs.Read.{read_request, read_response}
+use Rattle.http1_lines.specs.Read as script
+use Rattle.http1_lines.specs.Read.{read_request, read_response}
 use Rattle.binary.specs.Read.{read_sized, read_binary}
 use Rattle.binary_writer.specs.Write.{binary_of, binary_fits, to_binary}
 use Rattle.http1_writer.specs.Write.{http1_of, http1_fits, on_connection, to_http1}

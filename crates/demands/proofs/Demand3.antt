@@ -21,7 +21,7 @@ use Rattle.messages.specs.Message.{Message}
 use Rattle.messages.specs.Meaning.{Control, request, response, Meaning, meaning}
 use Rattle.messages.specs.Valid.{of_response, valid}
 use Rattle.sound.specs.Placed.{Each}
-use Rattle.http1.specs.Read.{read_request}
+use Rattle.http1_lines.specs.Read.{read_request}
 use Rattle.http1_sound.proofs.Front.{request-within, request-stays, request-front}
 use Rattle.binary.specs.Read.{read_binary}
 use Rattle.http1_writer.specs.Write.{http1_of, http1_fits, on_connection}

@@ -11,7 +11,7 @@ use Rattle.messages.specs.Told.{is_edition}
 use Rattle.messages.specs.Message.{Message}
 use Rattle.messages.specs.Answers.{no_ranges, reading_of, number_of}
 use Rattle.sound.specs.Refusal.{is_one_of}
-use Rattle.http1.specs.Read.{read_request, read_response}
+use Rattle.http1_lines.specs.Read.{read_request, read_response}
 use Rattle.http1_sound.specs.Read.{request_numbers, response_numbers}
 use Rattle.binary.specs.Read.{read_binary}
 use Rattle.binary_sound.specs.Sound.{edition_numbers, binary_numbers}

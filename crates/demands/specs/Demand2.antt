@@ -10,7 +10,7 @@ use Rattle.messages.specs.Told.{is_edition, in_edition}
 use Rattle.messages.specs.Message.{Message}
 use Rattle.messages.specs.Meaning.{Control, request, response, Meaning, meaning}
 use Rattle.messages.specs.Valid.{is_scheme, of_response}
-use Rattle.http1.specs.Read.{read_request, read_response}
+use Rattle.http1_lines.specs.Read.{read_request, read_response}
 use Rattle.binary.specs.Read.{read_binary}
 use Rattle.binary_writer.specs.Write.{binary_of, binary_fits}
 use Rattle.http1_writer.specs.Write.{http1_of, http1_fits, on_connection}

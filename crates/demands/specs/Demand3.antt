@@ -11,7 +11,7 @@ use Rattle.messages.specs.Answers.{reading_of}
 use Rattle.messages.specs.Valid.{of_response}
 use Rattle.messages.specs.declared.Outcome.TheVariants as outcome
 use Rattle.sound.specs.Placed.{Each}
-use Rattle.http1.specs.Read.{read_request}
+use Rattle.http1_lines.specs.Read.{read_request}
 use Rattle.http1_sound.specs.Front.{answers, First}
 use Rattle.binary.specs.Read.{read_binary}
 use Rattle.output.specs.Reply.{Reply, written_of, lent_after, Served, ServedAt}

@@ -15,9 +15,9 @@ use Rattle.messages.specs.Told.{is_yes, is_edition}
 use Rattle.messages.specs.Meaning.{field_means, informational_means, content_of, meaning, length_field}
 use Rattle.messages.specs.Valid.{valid_field, valid_fields, valid_section, valid_informational, valid_heads, is_scheme, valid_control, valid_body, valid_stated, valid, suits}
 use Rattle.messages.specs.Answers.{fields_numbers, chunks_numbers, informational_numbers, informational_lines, padded, ranges_of, no_ranges, record_of}
-use Rattle.http1.specs.Target.{plain_target, starts_with, scheme_len, is_before_path, prefix_of, absolute_path, absolute_target, target_of}
-use Rattle.http1.specs.Lines.{request_parts, request_version, request_target, request_lens, request_of, status_version, is_status_shape, status_lens, status_of, value_from, value_in, name_to, field_lens, field_of, chunk_lens, chunk_of}
-use Rattle.http1.specs.Read.{field_lines, section, trailer_section, chunk_data, chunks_from, content, after_head, request, read_request, after_final, heads_then, read_response}
+use Rattle.http1_lines.specs.Target.{plain_target, starts_with, scheme_len, is_before_path, prefix_of, absolute_path, absolute_target, target_of}
+use Rattle.http1_lines.specs.Lines.{request_parts, request_version, request_target, request_lens, request_of, status_version, is_status_shape, status_lens, status_of, value_from, value_in, name_to, field_lens, field_of, chunk_lens, chunk_of}
+use Rattle.http1_lines.specs.Read.{field_lines, section, trailer_section, chunk_data, chunks_from, content, after_head, request, read_request, after_final, heads_then, read_response}
 use Rattle.binary.specs.Reader.{◌>>=◌ as bind-binary, integer, string}
 use Rattle.binary.specs.Read.{part, part_within, ruled_part, scheme_of, scheme_part, after_scheme, request_control, form_of, is_line_value, judged_line, after_name_length, known_line, known_lines}
 use Rattle.binary.specs.Read.{body_lines, known_section, open_lines, section as section-binary, header_section, known_content, open_chunks, content as content-binary, content_agrees, content_rule}

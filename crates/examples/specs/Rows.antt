@@ -11,7 +11,7 @@ use Rattle.messages.specs.declared.Outcome.{Outcome}
 use Rattle.messages.specs.declared.Outcome.TheVariants as outcome
 use Rattle.messages.specs.declared.Part.{Part}
 use Rattle.messages.specs.declared.Ranges.{Ranges}
-use Rattle.http1.specs.Read.{read_request}
+use Rattle.http1_lines.specs.Read.{read_request}
 use Rattle.output.specs.Reply.{refuses, written_of, lent_after}
 use Rattle.output.specs.declared.Written.TheVariants.{Done, Refused}
 use Rattle.turn.specs.Turn.{request_to_binary, binary_to_http1}

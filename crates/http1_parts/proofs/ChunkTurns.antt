@@ -16,9 +16,9 @@ use Rattle.script.specs.Do.{◌>>=◌, Piece, piece, word, tell, Judged, good, w
 use Rattle.script.specs.declared.Line.TheVariants.{Ends, Bad, Long, More}
 use Rattle.script.proofs.Laws.{run-stop}
 use Rattle.script.proofs.Places.{line-more, line-bad, line-long, line-ends, line-within, octets-more, octets-in}
-use Rattle.http1.specs.Lines.{chunk_lens, chunk_of}
-use Rattle.http1.specs.declared.ChunkLine.TheVariants as line
-use Rattle.http1.specs.Read.{Content, trailer_section, chunk_data, after_chunk_line, chunks_from}
+use Rattle.http1_lines.specs.Lines.{chunk_lens, chunk_of}
+use Rattle.http1_lines.specs.declared.ChunkLine.TheVariants as line
+use Rattle.http1_lines.specs.Read.{Content, trailer_section, chunk_data, after_chunk_line, chunks_from}
 use Rattle.http1_parts.specs.Chunk.{ChunkSays, DataRead, DataLies, ChunkLies, Chunked}
 use Rattle.http1_parts.specs.declared.ChunkRead.{ChunkRead}
 use Rattle.http1_parts.specs.declared.ChunkRead.TheVariants as read

@@ -25,7 +25,7 @@ use Rattle.messages.specs.declared.Notes.{Notes}
 use Rattle.messages.specs.declared.Body.{Body}
 use Rattle.messages.specs.declared.Body.TheVariants.{Sized, UntilClosed}
 use Rattle.messages.proofs.Noting.{trailers-noted}
-use Rattle.http1.specs.Read.{Lines, section, Content, trailer_section, chunks_from, content}
+use Rattle.http1_lines.specs.Read.{Lines, section, Content, trailer_section, chunks_from, content}
 use Rattle.http1_parts.specs.Section.{Sectioned}
 use Rattle.http1_parts.specs.Content.{SizedWithin, ContentSays, Contented}
 use Rattle.http1_parts.specs.Chunk.{ChunkSays, ChunkLies, Chunked, Trailed, SizedRead, UnmeasuredRead}

@@ -8,7 +8,7 @@ use lib.ListN.{length, drop}
 use Rattle.script.specs.Script.{Answer, accepted, refused, more, run}
 use Rattle.messages.specs.declared.Notes.{Notes}
 use Rattle.messages.proofs.Noting.{notes-connections}
-use Rattle.http1.specs.Read.{Lines, section}
+use Rattle.http1_lines.specs.Read.{Lines, section}
 use Rattle.sound.proofs.Parts.{section-lies}
 use Rattle.http1_sound.proofs.Sections.{section-at}
 use Rattle.ranges.specs.Connections.{GatheredFacts, LinesGathered, Kept}

@@ -19,13 +19,13 @@ use Rattle.messages.specs.declared.Notes.{Notes}
 use Rattle.messages.proofs.Noting.{noted_nothing}
 use Rattle.messages.specs.declared.Kind.{Kind}
 use Rattle.octets.specs.Refusals.{bad_syntax}
-use Rattle.http1.specs.Lines.{field_lens, field_of}
-use Rattle.http1.specs.Next.{of_field, line_judged, on_line, next_line}
-use Rattle.http1.specs.declared.FieldLine.{FieldLine}
-use Rattle.http1.specs.declared.FieldLine.TheVariants as field
-use Rattle.http1.specs.declared.NextLine.{NextLine}
-use Rattle.http1.specs.declared.NextLine.TheVariants as line
-use Rattle.http1.proofs.Views.{field-within}
+use Rattle.http1_lines.specs.Lines.{field_lens, field_of}
+use Rattle.http1_lines.specs.Next.{of_field, line_judged, on_line, next_line}
+use Rattle.http1_lines.specs.declared.FieldLine.{FieldLine}
+use Rattle.http1_lines.specs.declared.FieldLine.TheVariants as field
+use Rattle.http1_lines.specs.declared.NextLine.{NextLine}
+use Rattle.http1_lines.specs.declared.NextLine.TheVariants as line
+use Rattle.http1_lines.proofs.Views.{field-within}
 use Rattle.ranges.specs.Ranges.{StoredIf}
 use Rattle.http1_parts.specs.Section.{line_at, LineTaken}
 use Rattle.http1_parts.proofs.Parts.{part-front, part-inner, part-long}

@@ -20,11 +20,11 @@ use Rattle.messages.specs.Message.{FieldRead}
 use Rattle.messages.specs.Names.{kept_of}
 use Rattle.messages.specs.Notes.{notes_of}
 use Rattle.messages.specs.declared.Notes.{Notes}
-use Rattle.http1.specs.Lines.{on_field, field_lens, field_of}
-use Rattle.http1.specs.declared.FieldLine.{FieldLine}
-use Rattle.http1.specs.declared.FieldLine.TheVariants as field
-use Rattle.http1.specs.Read.{Lines, line_within, less, field_lines, section}
-use Rattle.http1.proofs.Views.{field-within}
+use Rattle.http1_lines.specs.Lines.{on_field, field_lens, field_of}
+use Rattle.http1_lines.specs.declared.FieldLine.{FieldLine}
+use Rattle.http1_lines.specs.declared.FieldLine.TheVariants as field
+use Rattle.http1_lines.specs.Read.{Lines, line_within, less, field_lines, section}
+use Rattle.http1_lines.proofs.Views.{field-within}
 use Rattle.sound.specs.Placed.{Each}
 use Rattle.sound.proofs.Each.{each_snoc, each_map}
 use Rattle.http1_parts.specs.Section.{Before, LinesStored, SectionSays, Sectioned}

@@ -5,7 +5,7 @@ use mathlib.Core.List.{List, [], ◌∷◌}
 use native.Mathlib.Omega.{arith}
 use lib.ListN.{length, take, drop, length-drop}
 use lib.Seq.{length-take-le, take-take, drop-drop, take-nil}
-pub use Rattle.http1.proofs.Views.{drop-take}
+pub use Rattle.http1_lines.proofs.Views.{drop-take}
 
 -- the first n octets of the part from i to e
 pub part-front : (s : List ℕ) (i e n : ℕ) → n ≤ e - i → take (i + n - i) (drop i s) ≡ take n (take (e - i) (drop i s))

@@ -17,8 +17,8 @@ use Rattle.script.specs.declared.Line.TheVariants.{Ends, Bad, Long, More}
 use Rattle.script.proofs.Laws.{run-done, run-stop}
 use Rattle.script.proofs.Places.{line-more, line-bad, line-long, line-ends, line-within}
 use Rattle.messages.specs.Message.{FieldRead}
-use Rattle.http1.specs.Lines.{field_of}
-use Rattle.http1.specs.Read.{Lines, field_lines}
+use Rattle.http1_lines.specs.Lines.{field_of}
+use Rattle.http1_lines.specs.Read.{Lines, field_lines}
 use Rattle.http1_parts.specs.Section.{no_field, line_at, SectionSays, Sectioned}
 use Rattle.http1_parts.proofs.Line.{EmptyLine, FieldAt, NoFieldAt, field-bad, field-good, line-bounds}
 use Rattle.http1_parts.specs.declared.Section.{Section}

@@ -1,4 +1,4 @@
--- What the code that reads one chunk or the trailers behind the last promises, in terms of the scripts `chunks_from` and `trailer_section` (http1/specs/Read;
+-- What the code that reads one chunk or the trailers behind the last promises, in terms of the scripts `chunks_from` and `trailer_section` (http1_lines/specs/Read;
 -- 01, "HTTP/1.1 as we take it": chunk lines, data, trailers).
 use Rattle.std.specs.Prelude.{ℕ, suc, ◌+◌, ◌≤◌, ◌<◌, ◌≡◌, List, [], ◌∷◌, ◌++◌, length, take, drop}
 use Rattle.octets.specs.Limits.{chunk_line_most, chunks_most, content_most}
@@ -8,7 +8,7 @@ use Rattle.output.specs.Splice.{splice}
 use Rattle.messages.specs.Meaning.{content_of}
 use Rattle.messages.specs.Answers.{chunks_numbers}
 use Rattle.messages.specs.declared.Body.TheVariants.{Sized, UntilClosed}
-use Rattle.http1.specs.Read.{Content, trailer_section, after_chunk_line, chunks_from, content}
+use Rattle.http1_lines.specs.Read.{Content, trailer_section, after_chunk_line, chunks_from, content}
 use Rattle.http1_parts.specs.Content.{Contented}
 use Rattle.http1_parts.specs.declared.ChunkRead.{ChunkRead}
 use Rattle.http1_parts.specs.declared.ChunkRead.TheVariants.{Next, Last, Refused, More}

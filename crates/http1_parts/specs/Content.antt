@@ -1,4 +1,4 @@
--- What the code that reads content promises, in terms of the script `content` (http1/specs/Read; 01, "HTTP/1.1 as we take it": lengths and chunks).
+-- What the code that reads content promises, in terms of the script `content` (http1_lines/specs/Read; 01, "HTTP/1.1 as we take it": lengths and chunks).
 use Rattle.std.specs.Prelude.{ℕ, ◌≤◌, ◌≡◌, List, length}
 use Rattle.octets.specs.Limits.{content_most}
 use Rattle.script.specs.Script.{Answer, accepted, refused, more}
@@ -8,7 +8,7 @@ use Rattle.messages.specs.Meaning.{content_of}
 use Rattle.messages.specs.Answers.{fields_numbers, chunks_numbers}
 use Rattle.messages.specs.declared.Body.{Body}
 use Rattle.messages.specs.declared.Body.TheVariants.{Sized, InChunks, UntilClosed}
-use Rattle.http1.specs.Read.{Content}
+use Rattle.http1_lines.specs.Read.{Content}
 use Rattle.ranges.specs.Ranges.{Stores}
 use Rattle.http1_parts.specs.declared.ContentRead.{ContentRead}
 use Rattle.http1_parts.specs.declared.ContentRead.TheVariants.{Done, Refused, More}

@@ -1,4 +1,4 @@
--- What the code that reads sections promises, in terms of the script `section` (http1/specs/Read; 01, "HTTP/1.1 as we take it": field lines).
+-- What the code that reads sections promises, in terms of the script `section` (http1_lines/specs/Read; 01, "HTTP/1.1 as we take it": field lines).
 use Rattle.std.specs.Prelude.{ℕ, ◌+◌, ◌*◌, ◌≤◌, ◌≡◌, Bool, true, false, cond, List, leb, length, take, drop}
 use Rattle.octets.specs.Limits.{lines_most}
 use Rattle.octets.specs.Refusals.{bad_syntax, too_large}
@@ -9,7 +9,7 @@ use Rattle.messages.specs.Room.{section_room}
 use Rattle.messages.specs.Names.{line_kind, is_end_to_end, kept, kept_of}
 use Rattle.messages.specs.Notes.{notes_of}
 use Rattle.messages.specs.Answers.{field_numbers, fields_numbers}
-use Rattle.http1.specs.Read.{Lines}
+use Rattle.http1_lines.specs.Read.{Lines}
 use Rattle.ranges.specs.Ranges.{StoredIf, AlteredFrom, Stores}
 use Rattle.ranges.specs.Connections.{Gathered}
 use Rattle.http1_parts.specs.declared.LineRead.{LineRead}

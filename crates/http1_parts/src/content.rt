@@ -5,15 +5,15 @@ ghost use Rattle.octets.specs.Limits.{head_most, trailer_most, chunks_most, cont
 ghost use Rattle.script.specs.Script.{run};
 ghost use Rattle.messages.specs.declared.Body.TheVariants.{InChunks};
 ghost use Rattle.messages.specs.Room.{section_room, chunks_room};
-ghost use Rattle.http1.specs.Read.{content};
+ghost use Rattle.http1_lines.specs.Read.{content};
 ghost use Rattle.ranges.specs.Ranges.{places_end};
 ghost use Rattle.http1_parts.specs.Content.{SizedWithin, Contented};
 ghost use Rattle.http1_parts.specs.Chunk.{DataRead, Chunked, Trailed, SizedRead, UnmeasuredRead};
 
 use crate::lines::read_section;
 use crate::{ChunkRead, ContentRead, Section};
-use http1::ChunkLine;
-use http1::lines::chunk_line;
+use http1_lines::ChunkLine;
+use http1_lines::lines::chunk_line;
 use messages::Body;
 use messages::sections::are_trailers;
 use octets::{Limits, Refusals};

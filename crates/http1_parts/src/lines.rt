@@ -2,13 +2,13 @@
 ghost use Rattle.std.specs.Prelude.{◌≡◌, true, false, ◌+◌, ◌-◌, ◌*◌, ◌≤◌, ◌<◌, length, drop};
 ghost use Rattle.octets.specs.Table.{classes};
 ghost use Rattle.script.specs.Script.{run};
-ghost use Rattle.http1.specs.Read.{section};
+ghost use Rattle.http1_lines.specs.Read.{section};
 ghost use Rattle.ranges.specs.Ranges.{places_end};
 ghost use Rattle.http1_parts.specs.Section.{FieldRoom, SectionRoom, no_field, line_at, LineTaken, Sectioned};
 
 use crate::{LineRead, Section};
-use http1::NextLine;
-use http1::lines::next_line;
+use http1_lines::NextLine;
+use http1_lines::lines::next_line;
 use messages::Notes;
 use messages::parts::{is_end_to_end, kind_of};
 use messages::sections::{is_noted, no_notes, note};

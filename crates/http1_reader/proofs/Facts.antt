@@ -13,7 +13,7 @@ use Rattle.messages.specs.declared.Notes.{Notes}
 use Rattle.messages.proofs.Noting.{notes-closes}
 use Rattle.messages.specs.declared.Body.{Body}
 use Rattle.messages.specs.declared.Body.TheVariants.{Sized, InChunks, UntilClosed}
-use Rattle.http1.specs.Read.{Lines, section}
+use Rattle.http1_lines.specs.Read.{Lines, section}
 use Rattle.sound.specs.Placed.{Each}
 use Rattle.sound.proofs.Parts.{LineAt}
 use Rattle.http1_sound.proofs.Rules.{Fits}

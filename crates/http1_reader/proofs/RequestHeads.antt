@@ -19,15 +19,15 @@ use Rattle.messages.specs.declared.Told.{Told}
 use Rattle.messages.specs.declared.Notes.{Notes}
 use Rattle.messages.specs.declared.Outcome.{Outcome}
 use Rattle.messages.specs.declared.Outcome.TheVariants as outcome
-use Rattle.http1.specs.Lines.{RequestRead}
-use Rattle.http1.specs.Read.{Lines, section, content, after_head}
+use Rattle.http1_lines.specs.Lines.{RequestRead}
+use Rattle.http1_lines.specs.Read.{Lines, section, content, after_head}
 use Rattle.sound.specs.Placed.{Each}
 use Rattle.ranges.specs.Ranges.{Stores, OutcomeSays, Outcomed}
 use Rattle.http1_parts.proofs.Outcomes.{lines_with, SectionDone, behind-done}
 use Rattle.http1_parts.specs.Section.{Before}
 use Rattle.http1_reader.specs.Readers.{request_is, HeadFacts, RestSays, RestRead}
 use Rattle.http1_reader.proofs.Facts.{SectionFacts, section-facts}
-use Rattle.http1.specs.declared.Target.{Target}
+use Rattle.http1_lines.specs.declared.Target.{Target}
 
 -- an answer that equals another promises the same
 pub outcomed-as : {x y : Answer Message} {hs hs' cs cs' ts ts' : List ℕ} {r : Outcome} → x ≡ y → OutcomeSays y hs hs' cs cs' ts ts' r → Outcomed x hs hs' cs cs' ts ts' r

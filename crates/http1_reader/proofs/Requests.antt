@@ -23,10 +23,10 @@ use Rattle.messages.specs.declared.Kind.TheVariants as kind
 use Rattle.messages.specs.declared.Notes.{Notes}
 use Rattle.messages.specs.declared.Outcome.{Outcome}
 use Rattle.messages.specs.declared.Outcome.TheVariants as outcome
-use Rattle.http1.specs.Lines.{RequestRead, request_lens, request_of}
-use Rattle.http1.specs.declared.RequestLine.TheVariants as line
-use Rattle.http1.specs.Read.{Lines, Content, section, content, after_head, request, read_request}
-use Rattle.http1.proofs.Views.{request-view}
+use Rattle.http1_lines.specs.Lines.{RequestRead, request_lens, request_of}
+use Rattle.http1_lines.specs.declared.RequestLine.TheVariants as line
+use Rattle.http1_lines.specs.Read.{Lines, Content, section, content, after_head, request, read_request}
+use Rattle.http1_lines.proofs.Views.{request-view}
 use Rattle.sound.specs.Placed.{Each}
 use Rattle.sound.proofs.Each.{each_of}
 use Rattle.http1_sound.proofs.Rules.{HostOf, host-of, request-framed}
@@ -37,7 +37,7 @@ use Rattle.http1_reader.specs.Readers.{JudgedSays, HeadJudged, RequestJudged, Re
 use Rattle.http1_reader.specs.declared.HeadAnswer.{HeadAnswer}
 use Rattle.http1_reader.specs.declared.HeadAnswer.TheVariants as head
 use Rattle.http1_reader.proofs.Facts.{closes-noted, fits-within}
-use Rattle.http1.specs.declared.Target.{Target}
+use Rattle.http1_lines.specs.declared.Target.{Target}
 use Rattle.messages.specs.Control.{is_host}
 use mathlib.Core.Logic.{◌⊎◌, inl, inr}
 use Rattle.octets.specs.Text.{is_empty}

@@ -24,9 +24,9 @@ use Rattle.messages.specs.declared.BodyAnswer.TheVariants as body
 use Rattle.messages.specs.declared.Notes.{Notes}
 use Rattle.messages.proofs.Noting.{notes-framing}
 use Rattle.messages.proofs.Lengths.{body-read, body_refused}
-use Rattle.http1.specs.Lines.{status_lens, status_of}
-use Rattle.http1.specs.declared.StatusLine.TheVariants as status-line
-use Rattle.http1.specs.Read.{Lines, section, after_informational, after_informational_line, BehindHeads, after_final_line, next_head}
+use Rattle.http1_lines.specs.Lines.{status_lens, status_of}
+use Rattle.http1_lines.specs.declared.StatusLine.TheVariants as status-line
+use Rattle.http1_lines.specs.Read.{Lines, section, after_informational, after_informational_line, BehindHeads, after_final_line, next_head}
 use Rattle.http1_parts.specs.Section.{Sectioned}
 use Rattle.http1_parts.specs.declared.Section.{Section}
 use Rattle.http1_parts.specs.declared.Section.TheVariants as section-read

@@ -24,7 +24,7 @@ use Rattle.messages.specs.declared.Outcome.{Outcome}
 use Rattle.messages.specs.declared.Outcome.TheVariants as outcome
 use Rattle.messages.proofs.Lengths.{body-read, body_refused}
 use Rattle.messages.specs.declared.Ending.{Ending}
-use Rattle.http1.specs.Read.{Lines, Content, content, ResponseCall, response_call, after_final, read_response}
+use Rattle.http1_lines.specs.Read.{Lines, Content, content, ResponseCall, response_call, after_final, read_response}
 use Rattle.http1_sound.proofs.Rules.{response-framed}
 use Rattle.http1_parts.specs.Content.{SizedWithin, ContentSays, Contented}
 use Rattle.http1_parts.specs.declared.ContentRead.{ContentRead}

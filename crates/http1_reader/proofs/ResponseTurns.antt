@@ -14,7 +14,7 @@ use Rattle.messages.specs.Names.{kept}
 use Rattle.messages.specs.Answers.{fields_numbers, informational_numbers, informational_lines}
 use Rattle.messages.specs.declared.Notes.{Notes}
 use Rattle.messages.proofs.Noting.{kept-few}
-use Rattle.http1.specs.Read.{Lines, informational_read, BehindHeads, next_head, heads_then}
+use Rattle.http1_lines.specs.Read.{Lines, informational_read, BehindHeads, next_head, heads_then}
 use Rattle.ranges.proofs.Storing.{altered-none, stores-none}
 use Rattle.ranges.proofs.HeadsStored.{lines_snoc, fields-more, numbers_more}
 use Rattle.http1_reader.specs.Responses.{Onward, HeadStored, HeadSays, Headed, response_run, HeadsTaken}

@@ -11,7 +11,7 @@ use Rattle.messages.specs.Answers.{reading_of}
 use Rattle.messages.specs.declared.Record.{Record}
 use Rattle.messages.specs.declared.Outcome.{Outcome}
 use Rattle.messages.specs.declared.Outcome.TheVariants as outcome
-use Rattle.http1.specs.Read.{read_request, read_response}
+use Rattle.http1_lines.specs.Read.{read_request, read_response}
 use Rattle.http1_sound.specs.Read.{IsRequest}
 use Rattle.http1_sound.proofs.Sound.{request-sound, response-sound}
 use Rattle.sound.specs.Sound.{Sound}

@@ -1,4 +1,4 @@
--- What the code of the request reader promises, in terms of `read_request` and `after_head` (http1/specs/Read; 01, "HTTP/1.1 as we take it"; what is judged
+-- What the code of the request reader promises, in terms of `read_request` and `after_head` (http1_lines/specs/Read; 01, "HTTP/1.1 as we take it"; what is judged
 -- after a head: "Numbers a call answers with").
 use Rattle.std.specs.Prelude.{ℕ, ◌+◌, ◌-◌, ◌≤◌, ◌≡◌, Bool, true, false, List, length, take, drop}
 use Rattle.octets.specs.Limits.{head_most}
@@ -16,9 +16,9 @@ use Rattle.messages.specs.Answers.{fields_numbers, chunks_numbers, part_at, part
 use Rattle.messages.specs.declared.Counts.{Counts}
 use Rattle.messages.specs.declared.StatedLength.{StatedLength}
 use Rattle.messages.specs.declared.StatedLength.TheVariants.{Missing}
-use Rattle.http1.specs.Lines.{RequestRead, within}
-use Rattle.http1.specs.declared.Target.{Target}
-use Rattle.http1.specs.Read.{Lines, after_head, after_request_line}
+use Rattle.http1_lines.specs.Lines.{RequestRead, within}
+use Rattle.http1_lines.specs.declared.Target.{Target}
+use Rattle.http1_lines.specs.Read.{Lines, after_head, after_request_line}
 use Rattle.sound.specs.Placed.{Each}
 use Rattle.ranges.specs.Ranges.{Stores, Outcomed}
 use Rattle.http1_parts.specs.Section.{Before}

@@ -1,4 +1,4 @@
--- What the code of the response reader promises, in terms of `next_head`, `heads_then`, `after_final` and `read_response` (http1/specs/Read; 01, "HTTP/1.1 as we
+-- What the code of the response reader promises, in terms of `next_head`, `heads_then`, `after_final` and `read_response` (http1_lines/specs/Read; 01, "HTTP/1.1 as we
 -- take it").
 use Rattle.std.specs.Prelude.{ℕ, suc, ◌+◌, ◌-◌, ◌*◌, ◌≤◌, ◌≡◌, Bool, true, List, [], ◌∷◌, ◌++◌, length, drop}
 use Rattle.ranges.specs.Ranges.{Stores, AnyHeads, FewHeads, SoManyHeads}
@@ -13,7 +13,7 @@ use Rattle.messages.specs.declared.Notes.{Notes}
 use Rattle.messages.specs.declared.StatedLength.{StatedLength}
 use Rattle.messages.specs.declared.Outcome.{Outcome}
 use Rattle.messages.specs.declared.Outcome.TheVariants as outcome
-use Rattle.http1.specs.Read.{Lines, informational_read, after_informational_line, ResponseCall, BehindHeads, after_final, after_final_line, next_head, heads_then}
+use Rattle.http1_lines.specs.Read.{Lines, informational_read, after_informational_line, ResponseCall, BehindHeads, after_final, after_final_line, next_head, heads_then}
 use Rattle.http1_parts.specs.declared.ContentRead.{ContentRead}
 use Rattle.http1_parts.specs.declared.ContentRead.TheVariants as content
 use Rattle.http1_reader.specs.Readers.{counts_with, RestSays}

@@ -4,14 +4,14 @@ ghost use Rattle.octets.specs.Table.{classes};
 ghost use Rattle.octets.specs.Limits.{head_most};
 ghost use Rattle.messages.specs.Answers.{reading_of};
 ghost use Rattle.messages.specs.Room.{section_room, chunks_room};
-ghost use Rattle.http1.specs.Read.{read_request};
+ghost use Rattle.http1_lines.specs.Read.{read_request};
 ghost use Rattle.ranges.specs.Ranges.{places_end, Outcomed};
 ghost use Rattle.http1_reader.specs.Readers.{version_len, HeadKnown, request_outcome, RestRead, BehindLineRead};
 
 use crate::HeadAnswer;
 use crate::heads::judge_request;
-use http1::lines::request_line;
-use http1::{RequestLine, Target};
+use http1_lines::lines::request_line;
+use http1_lines::{RequestLine, Target};
 use http1_parts::content::read_content;
 use http1_parts::lines::read_headers;
 use http1_parts::{ContentRead, Section};

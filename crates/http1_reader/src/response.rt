@@ -4,15 +4,15 @@ ghost use Rattle.octets.specs.Table.{classes};
 ghost use Rattle.octets.specs.Limits.{head_most};
 ghost use Rattle.messages.specs.Answers.{reading_of};
 ghost use Rattle.messages.specs.Room.{section_room, heads_room, informational_room, chunks_room};
-ghost use Rattle.http1.specs.Read.{response_call, read_response};
+ghost use Rattle.http1_lines.specs.Read.{response_call, read_response};
 ghost use Rattle.ranges.specs.Ranges.{Responded};
 ghost use Rattle.http1_parts.specs.Section.{SectionRoom};
 ghost use Rattle.http1_reader.specs.Responses.{InformationalHeaded, FinalHeaded, NextHeaded};
 ghost use Rattle.http1_reader.specs.Responses.{response_run, HeadsTaken, response_outcome, FinalRead};
 
 use crate::{HeadRead, HeadsRead};
-use http1::StatusLine;
-use http1::lines::status_line;
+use http1_lines::StatusLine;
+use http1_lines::lines::status_line;
 use http1_parts::content::read_content;
 use http1_parts::lines::read_headers;
 use http1_parts::{ContentRead, Section};

@@ -26,8 +26,8 @@ use Rattle.messages.specs.Valid.{is_scheme, valid_control, of_response, no_field
 use Rattle.messages.proofs.Valid.{section-fields, request-ok, response-ok, meaning-ok}
 use Rattle.messages.proofs.ValidLines.{content-back}
 use Rattle.messages.proofs.Stating.{never-stated, suited}
-use Rattle.http1.specs.Read as http1
-use Rattle.http1.specs.Read.{read_request, read_response}
+use Rattle.http1_lines.specs.Read as http1
+use Rattle.http1_lines.specs.Read.{read_request, read_response}
 use Rattle.http1_writer.specs.Write.{section_text, request_line, status_line, informational_text, unmeasured, line_for, length_line, head_lines, head_text, body_text, http1_of, is_silent}
 use Rattle.http1_writer.specs.Write.{http1_fits, on_connection, to_http1}
 use Rattle.http1_round_trip.specs.RoundTrip.{is_request_of, RequestOf, ResponseOf, ReadsBack, RequestsBack, ResponsesBack}

@@ -23,7 +23,7 @@ use Rattle.messages.specs.Valid.{valid_section}
 use Rattle.messages.specs.declared.Body.TheVariants.{InChunks}
 use Rattle.messages.proofs.Valid.{section-fields, section-few}
 use Rattle.messages.proofs.Stating.{fields-ok}
-use Rattle.http1.specs.Read.{line_within, Content, trailer_section, chunk_data, chunks_from, content}
+use Rattle.http1_lines.specs.Read.{line_within, Content, trailer_section, chunk_data, chunks_from, content}
 use Rattle.http1_writer.specs.Write.{crlf, section_text, chunk_text, chunked_text, body_text}
 use Rattle.http1_round_trip.proofs.Placed.{lines_at, content_at}
 use Rattle.http1_round_trip.proofs.Lines.{chunk-clean, chunk-good, end_clean, end-good}

@@ -22,8 +22,8 @@ use Rattle.messages.specs.Control.{method_verdict, path_verdict, status_verdict,
 use Rattle.messages.specs.Meaning.{Field}
 use Rattle.messages.proofs.Verdicts.{method-rule, path-rule, name-rule, value-rule}
 use Rattle.messages.proofs.Stating.{LineOk, bare-value}
-use Rattle.http1.specs.Lines.{request_of, status_of, field_of, chunk_of}
-use Rattle.http1.proofs.Back.{field_back, request-back, status-back, chunk_back, chunk_end}
+use Rattle.http1_lines.specs.Lines.{request_of, status_of, field_of, chunk_of}
+use Rattle.http1_lines.proofs.Back.{field_back, request-back, status-back, chunk_back, chunk_end}
 use Rattle.http1_writer.specs.Write.{host_field, coding_field}
 use Rattle.http1_round_trip.proofs.Placed.{line_at}
 use Rattle.messages.specs.Message.{whole_path}

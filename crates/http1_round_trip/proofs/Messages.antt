@@ -21,7 +21,7 @@ use Rattle.messages.specs.Meaning.{Field, Informational, response, Meaning}
 use Rattle.messages.specs.Valid.{valid_fields, valid_heads, valid_stated}
 use Rattle.messages.proofs.Valid.{section-fields, section-few, HeadOk, head_ok}
 use Rattle.messages.proofs.Stating.{fields-ok, Suited}
-use Rattle.http1.specs.Read.{line_within, after_head, request, ResponseCall, after_final, heads, heads_then}
+use Rattle.http1_lines.specs.Read.{line_within, after_head, request, ResponseCall, after_final, heads, heads_then}
 use Rattle.http1_writer.specs.Write.{crlf, section_text, request_line, status_line, informational_text, body_text}
 use Rattle.http1_round_trip.proofs.Placed.{lines_at, head_at, heads_at, placed_from}
 use Rattle.http1_round_trip.proofs.Lines.{host-line, request-clean, request-good, status_word, status-clean, status-good}

@@ -11,7 +11,7 @@ use Rattle.messages.specs.Meaning.{Field, Informational, Control, request, respo
 use Rattle.messages.specs.Valid.{no_fields}
 use Rattle.messages.specs.declared.StatedLength.{StatedLength}
 use Rattle.messages.specs.declared.Told.{Told}
-use Rattle.http1.specs.Read.{Content}
+use Rattle.http1_lines.specs.Read.{Content}
 use Rattle.http1_writer.specs.Write.{crlf, field_text, section_text, request_line, status_line, head_lines, start_text, chunk_text}
 
 -- a field line: its name, and behind ": " its value

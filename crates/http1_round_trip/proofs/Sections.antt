@@ -15,7 +15,7 @@ use Rattle.script.specs.Do.{Reads}
 use Rattle.script.proofs.Do.{reads-done, reads_word, reads-tell, reads-bind, before, behind}
 use Rattle.messages.specs.Message.{FieldRead}
 use Rattle.messages.specs.Meaning.{Field}
-use Rattle.http1.specs.Read.{line_within, Lines, field_lines, section}
+use Rattle.http1_lines.specs.Read.{line_within, Lines, field_lines, section}
 use Rattle.messages.proofs.Verdicts.{name-rule}
 use Rattle.messages.proofs.Stating.{LineOk, LinesOk}
 use Rattle.http1_writer.specs.Write.{crlf, field_text, section_text}

@@ -9,7 +9,7 @@ use Rattle.messages.specs.declared.Told.{Told}
 use Rattle.messages.specs.Message.{Message}
 use Rattle.messages.specs.Meaning.{Control, request, response, Meaning, meaning}
 use Rattle.messages.specs.Valid.{of_response, valid, suits}
-use Rattle.http1.specs.Read.{read_request, read_response}
+use Rattle.http1_lines.specs.Read.{read_request, read_response}
 use Rattle.http1_writer.specs.Write.{http1_of, http1_fits, to_http1}
 
 -- ---- what the claims speak of

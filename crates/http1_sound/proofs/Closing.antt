@@ -26,8 +26,8 @@ use Rattle.messages.specs.declared.Ending.TheVariants.{Open, Closed}
 use Rattle.messages.specs.declared.Framing.{Framing}
 use Rattle.messages.specs.declared.Framing.TheVariants.{Unstated, Stated, Chunked, Clashing}
 use Rattle.messages.specs.declared.StatedLength.{StatedLength}
-use Rattle.http1.specs.Lines.{status_of}
-use Rattle.http1.specs.Read.{line_within, less, Lines, section, content, ResponseCall, after_final, heads, heads_then, read_response}
+use Rattle.http1_lines.specs.Lines.{status_of}
+use Rattle.http1_lines.specs.Read.{line_within, less, Lines, section, content, ResponseCall, after_final, heads, heads_then, read_response}
 use Rattle.http1_sound.specs.Read.{ClosedLater}
 use Rattle.http1_sound.proofs.Sections.{section-at}
 

@@ -20,7 +20,7 @@ use Rattle.messages.specs.Valid.{is_scheme}
 use Rattle.messages.specs.declared.Outcome.TheVariants as outcome
 use Rattle.messages.specs.Told.{is_yes}
 use Rattle.messages.specs.declared.Ending.TheVariants.{Open}
-use Rattle.http1.specs.Read.{request, read_request, ResponseCall, response_call, heads, heads_then, read_response}
+use Rattle.http1_lines.specs.Read.{request, read_request, ResponseCall, response_call, heads, heads_then, read_response}
 use Rattle.http1_sound.specs.Front.{answers, First, Front}
 
 -- ---- any reader

@@ -13,15 +13,15 @@ use Rattle.script.specs.Do.{Piece, piece, good}
 use Rattle.script.proofs.Places.{lies-front, lies-from}
 use Rattle.messages.specs.Message.{FieldRead, PathRead, path_octets}
 use Rattle.messages.specs.Control.{method_verdict, is_options, path_verdict, is_host, status_verdict}
-use Rattle.http1.specs.Lines.{RequestRead, within, on_request, request_of, request_lens, on_status, status_of, status_lens, on_field, field_of, field_lens}
-use Rattle.http1.specs.declared.Target.{Target}
-use Rattle.http1.specs.declared.RequestLine.{RequestLine}
-use Rattle.http1.specs.declared.RequestLine.TheVariants as request
-use Rattle.http1.specs.declared.StatusLine.{StatusLine}
-use Rattle.http1.specs.declared.StatusLine.TheVariants as status
-use Rattle.http1.specs.declared.FieldLine.{FieldLine}
-use Rattle.http1.specs.declared.FieldLine.TheVariants as field
-use Rattle.http1.proofs.Views.{field-view, request-view, status-view}
+use Rattle.http1_lines.specs.Lines.{RequestRead, within, on_request, request_of, request_lens, on_status, status_of, status_lens, on_field, field_of, field_lens}
+use Rattle.http1_lines.specs.declared.Target.{Target}
+use Rattle.http1_lines.specs.declared.RequestLine.{RequestLine}
+use Rattle.http1_lines.specs.declared.RequestLine.TheVariants as request
+use Rattle.http1_lines.specs.declared.StatusLine.{StatusLine}
+use Rattle.http1_lines.specs.declared.StatusLine.TheVariants as status
+use Rattle.http1_lines.specs.declared.FieldLine.{FieldLine}
+use Rattle.http1_lines.specs.declared.FieldLine.TheVariants as field
+use Rattle.http1_lines.proofs.Views.{field-view, request-view, status-view}
 use Rattle.sound.specs.Placed.{Lying}
 use Rattle.sound.proofs.Parts.{LineAt}
 use Rattle.http1_sound.specs.Read.{InTarget}

@@ -22,25 +22,25 @@ use Rattle.messages.specs.Rules.{authority_in, framing_of, request_body, nothing
 use Rattle.messages.specs.Valid.{is_scheme}
 use Rattle.messages.specs.declared.Body.{Body}
 use Rattle.messages.specs.declared.Body.TheVariants.{Sized, InChunks, UntilClosed}
-use Rattle.http1.specs.Lines.{version, request_parts, request_version, request_target, request_lens, on_request, request_of, status_at, status_version, is_status_shape, status_lens, on_status, status_of, on_target}
-use Rattle.http1.specs.Lines.{field_lens, on_field, field_of, chunk_lens, on_chunk, chunk_of}
-use Rattle.http1.specs.Read.{line_within, less, Lines, field_lines, section, trailer_section, chunk_data, chunks_from, content, after_head, request, read_request, ResponseCall, response_call, after_final, heads, heads_then, read_response}
-use Rattle.http1.specs.declared.TargetRead.TheVariants as target
-use Rattle.http1.specs.declared.RequestLine.{RequestLine}
-use Rattle.http1.specs.declared.RequestLine.TheVariants as request
-use Rattle.http1.specs.declared.StatusLine.{StatusLine}
-use Rattle.http1.specs.declared.StatusLine.TheVariants as status
-use Rattle.http1.specs.declared.FieldLine.{FieldLine}
-use Rattle.http1.specs.declared.FieldLine.TheVariants as field
-use Rattle.http1.specs.declared.ChunkLine.{ChunkLine}
-use Rattle.http1.specs.declared.ChunkLine.TheVariants as chunk
+use Rattle.http1_lines.specs.Lines.{version, request_parts, request_version, request_target, request_lens, on_request, request_of, status_at, status_version, is_status_shape, status_lens, on_status, status_of, on_target}
+use Rattle.http1_lines.specs.Lines.{field_lens, on_field, field_of, chunk_lens, on_chunk, chunk_of}
+use Rattle.http1_lines.specs.Read.{line_within, less, Lines, field_lines, section, trailer_section, chunk_data, chunks_from, content, after_head, request, read_request, ResponseCall, response_call, after_final, heads, heads_then, read_response}
+use Rattle.http1_lines.specs.declared.TargetRead.TheVariants as target
+use Rattle.http1_lines.specs.declared.RequestLine.{RequestLine}
+use Rattle.http1_lines.specs.declared.RequestLine.TheVariants as request
+use Rattle.http1_lines.specs.declared.StatusLine.{StatusLine}
+use Rattle.http1_lines.specs.declared.StatusLine.TheVariants as status
+use Rattle.http1_lines.specs.declared.FieldLine.{FieldLine}
+use Rattle.http1_lines.specs.declared.FieldLine.TheVariants as field
+use Rattle.http1_lines.specs.declared.ChunkLine.{ChunkLine}
+use Rattle.http1_lines.specs.declared.ChunkLine.TheVariants as chunk
 use Rattle.sound.specs.Placed.{Each}
 use Rattle.sound.specs.Refusal.{is_one_of, Refusal}
 use Rattle.sound.proofs.Each.{each_snoc}
 use Rattle.sound.proofs.Refusals.{Among, among, common_numbers, Common, status_numbers, method-verdict, path-verdict, status-verdict, not_good, NamedIn, framing-in, Refuses, refusal, target-judged, nothing-judged, request-judged, response-judged}
 use Rattle.http1_sound.specs.Read.{request_numbers, response_numbers, RequestsRefused, ResponsesRefused}
-use Rattle.http1.specs.declared.TargetRead.{TargetRead}
-use Rattle.http1.specs.Target.{absolute_target, target_of, absolute_path, plain_target, scheme_len, is_before_path, scheme_number, prefix_of}
+use Rattle.http1_lines.specs.declared.TargetRead.{TargetRead}
+use Rattle.http1_lines.specs.Target.{absolute_target, target_of, absolute_path, plain_target, scheme_len, is_before_path, scheme_number, prefix_of}
 use Rattle.octets.specs.Class.{has_class, path}
 
 -- the numbers that both readers have

@@ -27,7 +27,7 @@ use Rattle.messages.specs.declared.Framing.{Framing}
 use Rattle.messages.specs.declared.Framing.TheVariants.{Unstated, Stated, Chunked, Clashing}
 use Rattle.messages.specs.declared.Kind.TheVariants as kind
 use Rattle.messages.specs.declared.Told.{Told}
-use Rattle.http1.specs.Read.{Content}
+use Rattle.http1_lines.specs.Read.{Content}
 use Rattle.sound.proofs.Rules.{HostIs, authority-is}
 use Rattle.sound.proofs.Stated.{bodyless, content-not-204}
 use mathlib.Core.Logic.{inr, ◌⊎◌, inl}

@@ -21,8 +21,8 @@ use Rattle.messages.specs.Names.{are_trailers}
 use Rattle.messages.specs.Meaning.{content_of}
 use Rattle.messages.specs.declared.Body.{Body}
 use Rattle.messages.specs.declared.Body.TheVariants.{Sized, InChunks, UntilClosed}
-use Rattle.http1.specs.Lines.{field_of, chunk_of}
-use Rattle.http1.specs.Read.{line_within, less, Lines, field_lines, section, Content, trailer_section, chunk_data, chunks_from, content}
+use Rattle.http1_lines.specs.Lines.{field_of, chunk_of}
+use Rattle.http1_lines.specs.Read.{line_within, less, Lines, field_lines, section, Content, trailer_section, chunk_data, chunks_from, content}
 use Rattle.sound.specs.Placed.{Lying}
 use Rattle.sound.proofs.Each.{content-snoc}
 use Rattle.sound.proofs.Parts.{SectionAt, section-none, section-snoc, ChunksAt, chunks-none, chunks-snoc, chunks-one}

@@ -25,8 +25,8 @@ use Rattle.messages.specs.declared.Body.{Body}
 use Rattle.messages.specs.declared.Ending.{Ending}
 use Rattle.messages.specs.declared.StatedLength.{StatedLength}
 use Rattle.messages.specs.declared.Kind.TheVariants as kind
-use Rattle.http1.specs.Lines.{RequestRead, request_of, status_of}
-use Rattle.http1.specs.Read.{line_within, less, Lines, section, Content, content, after_head, request, read_request, ResponseCall, response_call, after_final, heads, heads_then, read_response}
+use Rattle.http1_lines.specs.Lines.{RequestRead, request_of, status_of}
+use Rattle.http1_lines.specs.Read.{line_within, less, Lines, section, Content, content, after_head, request, read_request, ResponseCall, response_call, after_final, heads, heads_then, read_response}
 use Rattle.sound.specs.Sound.{Sound, StatesLength}
 use Rattle.http1_sound.specs.Read.{IsRequest, IsResponse, Unmeasured, SoundRequest, RequestsSound, ResponsesSound, Http1Reads, InTarget}
 use Rattle.sound.proofs.Parts.{SectionAt, request-valid, HeadsAt, head_at, heads-none, heads-snoc, heads-lie, heads-good, response-valid, PartsAt, parts-sound}

@@ -13,7 +13,7 @@ use Rattle.messages.specs.Meaning.{meaning}
 use Rattle.messages.specs.Valid.{suits}
 use Rattle.messages.specs.declared.Framing.TheVariants.{Unstated}
 use Rattle.messages.specs.declared.Kind.TheVariants as kind
-use Rattle.http1.specs.Read.{read_request, read_response}
+use Rattle.http1_lines.specs.Read.{read_request, read_response}
 use Rattle.http1_sound.specs.Front.{Front}
 use Rattle.sound.specs.Sound.{Sound, StatesLength}
 use Rattle.sound.specs.Refusal.{Refusal}

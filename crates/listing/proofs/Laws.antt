@@ -21,7 +21,7 @@ use Rattle.messages.specs.Valid.{is_scheme}
 use Rattle.messages.specs.declared.Record.{Record}
 use Rattle.messages.specs.declared.Outcome.{Outcome}
 use Rattle.messages.specs.declared.Outcome.TheVariants as outcome
-use Rattle.http1.specs.Read.{read_request}
+use Rattle.http1_lines.specs.Read.{read_request}
 use Rattle.ranges.specs.Ranges.{Outcomed}
 use Rattle.ranges.proofs.Outcomes.{given-message, given-refusal, given-more}
 use Rattle.messages.specs.Told.{plain}

@@ -8,7 +8,7 @@ use Rattle.numbers.specs.Digits.{digits}
 use Rattle.messages.specs.Message.{Message}
 use Rattle.messages.specs.Meaning.{Meaning, meaning}
 use Rattle.messages.specs.Told.{plain}
-use Rattle.http1.specs.Read.{read_request}
+use Rattle.http1_lines.specs.Read.{read_request}
 use Rattle.stream.specs.Taking.{Taken, message, waits, stops, take_off}
 
 -- the end of a line

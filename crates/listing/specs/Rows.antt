@@ -9,7 +9,7 @@ use Rattle.script.specs.Script.{Answer, accepted, refused, more}
 use Rattle.stream.specs.Taking.{take_off}
 use Rattle.messages.specs.Message.{Message}
 use Rattle.messages.specs.Meaning.{meaning}
-use Rattle.http1.specs.Read.{read_request}
+use Rattle.http1_lines.specs.Read.{read_request}
 use Rattle.messages.specs.Told.{plain}
 use Rattle.listing.specs.Listing.{lf, column, rows}
 use Rattle.listing.specs.declared.Row.{Row}

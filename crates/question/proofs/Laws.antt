@@ -22,7 +22,7 @@ use Rattle.messages.specs.declared.Outcome.TheVariants as outcome
 use Rattle.sound.specs.Placed.{Each, OfLine, Lying}
 use Rattle.sound.specs.Sound.{Sound}
 use Rattle.sound.proofs.Each.{each-kept}
-use Rattle.http1.specs.Read.{read_request, read_response}
+use Rattle.http1_lines.specs.Read.{read_request, read_response}
 use Rattle.http1_sound.proofs.Sound.{request-sound, response-sound}
 use Rattle.binary.specs.Read.{read_binary}
 use Rattle.binary_sound.proofs.Sound.{binary-sound}

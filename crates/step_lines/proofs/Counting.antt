@@ -22,9 +22,9 @@ use Rattle.messages.specs.Connection.{in_front, members, any_member, is_named}
 use Rattle.messages.specs.Names.{line_kind, same_kind, lines_of, is_end_to_end, end_to_end, connection_values, unnamed, kept}
 use Rattle.messages.specs.declared.Kind.{Kind}
 use Rattle.messages.specs.declared.Kind.TheVariants as kind
-use Rattle.http1.specs.Lines.{field_lens}
-use Rattle.http1.specs.declared.FieldLine.TheVariants as field
-use Rattle.http1.proofs.Views.{field-view}
+use Rattle.http1_lines.specs.Lines.{field_lens}
+use Rattle.http1_lines.specs.declared.FieldLine.TheVariants as field
+use Rattle.http1_lines.proofs.Views.{field-view}
 use Rattle.step_lines.proofs.Fields.{field_at}
 use Rattle.step_lines.specs.Entries.{host_mark, connection_mark, kept_text, text_of, entries, names_it, named_in, is_name, worth, count_in, PlainLine, AllPlain}
 

@@ -15,9 +15,9 @@ use Rattle.script.specs.Do.{◌>>=◌, piece, tell}
 use Rattle.script.specs.Feed.{failed, after}
 use Rattle.script.proofs.Feeding.{after_stop}
 use Rattle.messages.specs.Message.{FieldRead}
-use Rattle.http1.specs.Lines.{field_lens, field_of}
-use Rattle.http1.specs.Read.{Lines, less, field_lines}
-use Rattle.http1.specs.declared.FieldLine.TheVariants as field
+use Rattle.http1_lines.specs.Lines.{field_lens, field_of}
+use Rattle.http1_lines.specs.Read.{Lines, less, field_lines}
+use Rattle.http1_lines.specs.declared.FieldLine.TheVariants as field
 use Rattle.step_lines.specs.Stepping.{so_far, line_text, LineOpen}
 use Rattle.step_lines.specs.declared.Present.{Present}
 use Rattle.step_lines.proofs.Opening.{whole, some-octet, text-long, none_left}

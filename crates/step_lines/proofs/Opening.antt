@@ -13,7 +13,7 @@ use Rattle.script.specs.Feed.{Waiting, failed, waits, after, says, Open}
 use Rattle.script.specs.Script.{more}
 use Rattle.script.proofs.Feeding.{one-more}
 use Rattle.script.proofs.Words.{open_none, open_more, open-some, no_line, line-waits, line-too-long, line-wrong, line-ends}
-use Rattle.http1.specs.Read.{line_within}
+use Rattle.http1_lines.specs.Read.{line_within}
 use Rattle.step_lines.specs.Stepping.{so_far, line_text, fresh, one_more, next_present, LineOpen}
 use Rattle.step_lines.specs.declared.Present.{Present}
 

@@ -18,7 +18,7 @@ use Rattle.messages.specs.Told.{plain}
 use Rattle.messages.specs.declared.Told.{Told}
 use Rattle.messages.specs.Message.{Message}
 use Rattle.messages.specs.Valid.{is_scheme}
-use Rattle.http1.specs.Read.{request, read_request}
+use Rattle.http1_lines.specs.Read.{request, read_request}
 use Rattle.step_lines.proofs.Opening.{fresh-open}
 use Rattle.steps.specs.States.{Held, held, refuse}
 use Rattle.steps.specs.Steps.{taken, answer_by, answer_in, fresh₀, begun, small_room}

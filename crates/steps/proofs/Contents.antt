@@ -22,7 +22,7 @@ use Rattle.messages.specs.declared.Body.TheVariants.{Sized}
 use Rattle.messages.specs.Message.{FieldRead, Start, plain_message, non_empty}
 use Rattle.messages.specs.Meaning.{content_of}
 use Rattle.messages.specs.Names.{kept_trailers, end_to_end}
-use Rattle.http1.specs.Read.{Content, chunk_data, after_chunk_line, chunks_from, content, request}
+use Rattle.http1_lines.specs.Read.{Content, chunk_data, after_chunk_line, chunks_from, content, request}
 use Rattle.step_lines.specs.Stepping.{fresh, one_more}
 use Rattle.step_lines.proofs.Opening.{fresh-open}
 use Rattle.steps.specs.States.{refuse, finish, reading, with_tally, SaneCounts}

@@ -24,11 +24,11 @@ use Rattle.messages.specs.Notes.{notes_of, note_of}
 use Rattle.messages.proofs.Noting.{notes-more, lines_more}
 use Rattle.messages.specs.declared.Kind.{Kind}
 use Rattle.messages.specs.declared.Kind.TheVariants as kind
-use Rattle.http1.specs.Lines.{field_lens}
-use Rattle.http1.specs.Read.{field_lines, after_head, request}
-use Rattle.http1.specs.declared.FieldLine.{FieldLine}
-use Rattle.http1.specs.declared.FieldLine.TheVariants as field
-use Rattle.http1.proofs.Views.{field-within}
+use Rattle.http1_lines.specs.Lines.{field_lens}
+use Rattle.http1_lines.specs.Read.{field_lines, after_head, request}
+use Rattle.http1_lines.specs.declared.FieldLine.{FieldLine}
+use Rattle.http1_lines.specs.declared.FieldLine.TheVariants as field
+use Rattle.http1_lines.proofs.Views.{field-within}
 use Rattle.step_lines.specs.Stepping.{so_far, line_text, one_more, next_present, LineOpen}
 use Rattle.step_lines.specs.Entries.{host_mark, kept_text, text_of, AllPlain}
 use Rattle.step_lines.proofs.Opening.{line-open-more, goes_on, too_long, wrong-end, next-open, some-octet, text-long, text-clear}

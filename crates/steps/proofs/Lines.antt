@@ -16,7 +16,7 @@ use Rattle.messages.specs.declared.Told.{Told}
 use Rattle.messages.specs.Message.{Start, PathRead}
 use Rattle.script.specs.Do.{Piece}
 use Rattle.messages.specs.Valid.{is_scheme}
-use Rattle.http1.specs.Read.{request, read_request}
+use Rattle.http1_lines.specs.Read.{request, read_request}
 use Rattle.step_lines.specs.Stepping.{line_step, one_more, LineOpen}
 use Rattle.step_lines.specs.declared.LineStep.{LineStep}
 use Rattle.step_lines.specs.declared.LineStep.TheVariants.{Goes, Whole, Bad, Long}

@@ -26,14 +26,14 @@ use Rattle.messages.specs.declared.Body.{Body}
 use Rattle.messages.specs.declared.Body.TheVariants.{Sized, InChunks, UntilClosed}
 use Rattle.messages.specs.declared.BodyAnswer.{BodyAnswer}
 use Rattle.messages.specs.declared.BodyAnswer.TheVariants as body
-use Rattle.http1.specs.Lines.{request_lens, field_lens, chunk_lens}
-use Rattle.http1.specs.declared.Target.{Target}
-use Rattle.http1.specs.declared.RequestLine.{RequestLine}
-use Rattle.http1.specs.declared.RequestLine.TheVariants as request
-use Rattle.http1.specs.declared.FieldLine.{FieldLine}
-use Rattle.http1.specs.declared.FieldLine.TheVariants as field
-use Rattle.http1.specs.declared.ChunkLine.TheVariants as chunk
-use Rattle.http1.proofs.Views.{request-view, field-within}
+use Rattle.http1_lines.specs.Lines.{request_lens, field_lens, chunk_lens}
+use Rattle.http1_lines.specs.declared.Target.{Target}
+use Rattle.http1_lines.specs.declared.RequestLine.{RequestLine}
+use Rattle.http1_lines.specs.declared.RequestLine.TheVariants as request
+use Rattle.http1_lines.specs.declared.FieldLine.{FieldLine}
+use Rattle.http1_lines.specs.declared.FieldLine.TheVariants as field
+use Rattle.http1_lines.specs.declared.ChunkLine.TheVariants as chunk
+use Rattle.http1_lines.proofs.Views.{request-view, field-within}
 use Rattle.step_lines.specs.Stepping.{line_text, fresh, one_more, next_present}
 use Rattle.step_lines.specs.Entries.{kept_text, entries, count_in}
 use Rattle.step_lines.specs.declared.Present.{Present}

@@ -12,7 +12,7 @@ use Rattle.messages.specs.declared.Kind.TheVariants as kind
 use Rattle.step_lines.specs.Entries.{kept_text}
 use Rattle.output.specs.Splice.{splice}
 use Rattle.output.proofs.Laws.{splice-length, splice-append, splice-is}
-use Rattle.http1.specs.declared.Target.{Target}
+use Rattle.http1_lines.specs.declared.Target.{Target}
 use Rattle.steps.specs.Heads.{target_room}
 
 -- behind what was put

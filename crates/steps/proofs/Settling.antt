@@ -35,7 +35,7 @@ use Rattle.messages.specs.Notes.{hosts_from, notes_of, body_answer}
 use Rattle.messages.specs.Meaning.{content_of}
 use Rattle.messages.specs.Rules.{authority_from, authority_in, host_once, target_authority, framing_of, request_body}
 use Rattle.messages.proofs.Noting.{notes-hosts, notes-framing}
-use Rattle.http1.specs.Read.{Content, content, chunks_from, after_head, request}
+use Rattle.http1_lines.specs.Read.{Content, content, chunks_from, after_head, request}
 use Rattle.step_lines.specs.Stepping.{line_text, fresh, LineOpen}
 use Rattle.step_lines.specs.Entries.{text_of, entries, count_in}
 use Rattle.step_lines.proofs.Opening.{text-long, some-octet, fresh-open}

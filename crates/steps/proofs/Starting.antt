@@ -28,12 +28,12 @@ use Rattle.messages.specs.Names.{lines_of}
 use Rattle.messages.specs.declared.Kind.TheVariants as kind
 use Rattle.messages.proofs.Noting.{notes-none}
 use Rattle.messages.proofs.Verdicts.{method-rule, path-rule}
-use Rattle.http1.specs.Lines.{RequestRead, request_lens, request_of}
-use Rattle.http1.specs.Read.{line_within, less, field_lines, section, after_head, after_request_line, request}
-use Rattle.http1.specs.declared.Target.{Target}
-use Rattle.http1.specs.declared.RequestLine.{RequestLine}
-use Rattle.http1.specs.declared.RequestLine.TheVariants as request-line
-use Rattle.http1.proofs.Views.{request-view, RequestView}
+use Rattle.http1_lines.specs.Lines.{RequestRead, request_lens, request_of}
+use Rattle.http1_lines.specs.Read.{line_within, less, field_lines, section, after_head, after_request_line, request}
+use Rattle.http1_lines.specs.declared.Target.{Target}
+use Rattle.http1_lines.specs.declared.RequestLine.{RequestLine}
+use Rattle.http1_lines.specs.declared.RequestLine.TheVariants as request-line
+use Rattle.http1_lines.proofs.Views.{request-view, RequestView}
 use Rattle.step_lines.specs.Stepping.{so_far, line_text, one_more, next_present, LineOpen}
 use Rattle.step_lines.specs.declared.Present.{Present}
 use Rattle.step_lines.specs.Entries.{text_of}

@@ -21,7 +21,7 @@ use Rattle.messages.specs.declared.Told.{Told}
 use Rattle.messages.specs.declared.Body.TheVariants.{Sized}
 use Rattle.messages.specs.Valid.{is_scheme}
 use Rattle.messages.specs.Message.{Message}
-use Rattle.http1.specs.Read.{field_lines, content, request, read_request}
+use Rattle.http1_lines.specs.Read.{field_lines, content, request, read_request}
 use Rattle.step_lines.specs.Stepping.{so_far, LineOpen}
 use Rattle.step_lines.specs.declared.Present.{Present}
 use Rattle.step_lines.proofs.Opening.{asks, fresh-open}

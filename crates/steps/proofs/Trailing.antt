@@ -24,12 +24,12 @@ use Rattle.messages.specs.Meaning.{content_of}
 use Rattle.messages.specs.Names.{kind_of, line_kind, is_end_to_end, end_to_end, kept_trailers, are_trailers}
 use Rattle.messages.specs.Notes.{no_notes, notes_of, note_of}
 use Rattle.messages.proofs.Noting.{notes-none, notes-more, trailers-noted, end-to-end-append, trailers-few}
-use Rattle.http1.specs.Lines.{field_lens, chunk_lens, chunk_of}
-use Rattle.http1.specs.Read.{Lines, Content, section, field_lines, trailer_section, after_chunk_line, chunks_from, request}
-use Rattle.http1.specs.declared.FieldLine.{FieldLine}
-use Rattle.http1.specs.declared.FieldLine.TheVariants as field
-use Rattle.http1.specs.declared.ChunkLine.{ChunkLine}
-use Rattle.http1.specs.declared.ChunkLine.TheVariants as chunk
+use Rattle.http1_lines.specs.Lines.{field_lens, chunk_lens, chunk_of}
+use Rattle.http1_lines.specs.Read.{Lines, Content, section, field_lines, trailer_section, after_chunk_line, chunks_from, request}
+use Rattle.http1_lines.specs.declared.FieldLine.{FieldLine}
+use Rattle.http1_lines.specs.declared.FieldLine.TheVariants as field
+use Rattle.http1_lines.specs.declared.ChunkLine.{ChunkLine}
+use Rattle.http1_lines.specs.declared.ChunkLine.TheVariants as chunk
 use Rattle.step_lines.specs.Stepping.{so_far, line_text, fresh, one_more, next_present, LineOpen}
 use Rattle.step_lines.proofs.Opening.{line-open-more, goes_on, too_long, wrong-end, whole, next-open, some-octet, text-long, fresh-open}
 use Rattle.step_lines.proofs.Fields.{field_at, section-ends, lines-full, no-field-line, field-line-in, field-line-last}

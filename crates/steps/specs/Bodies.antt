@@ -7,11 +7,11 @@ use Rattle.messages.specs.Names.{kind_of, is_end_to_end}
 use Rattle.messages.specs.Notes.{no_notes, note_of}
 use Rattle.messages.specs.declared.Kind.{Kind}
 use Rattle.messages.specs.declared.Notes.{Notes}
-use Rattle.http1.specs.Lines.{field_lens, chunk_lens}
-use Rattle.http1.specs.declared.FieldLine.{FieldLine}
-use Rattle.http1.specs.declared.FieldLine.TheVariants as field
-use Rattle.http1.specs.declared.ChunkLine.{ChunkLine}
-use Rattle.http1.specs.declared.ChunkLine.TheVariants as chunk
+use Rattle.http1_lines.specs.Lines.{field_lens, chunk_lens}
+use Rattle.http1_lines.specs.declared.FieldLine.{FieldLine}
+use Rattle.http1_lines.specs.declared.FieldLine.TheVariants as field
+use Rattle.http1_lines.specs.declared.ChunkLine.{ChunkLine}
+use Rattle.http1_lines.specs.declared.ChunkLine.TheVariants as chunk
 use Rattle.step_lines.specs.Stepping.{line_text, fresh, one_more, next_present}
 use Rattle.step_lines.specs.declared.Present.{Present}
 use Rattle.steps.specs.States.{refuse, finish, reading, in_section, with_tally, begins}

@@ -2,7 +2,7 @@
 use Rattle.std.specs.Prelude.{ℕ, ◌≡◌, Bool, true, false, cond, List, [], ◌∷◌, ◌++◌, ltb, length}
 use Rattle.octets.specs.Limits.{head_most}
 use Rattle.messages.specs.Told.{plain}
-use Rattle.http1.specs.Read.{read_request}
+use Rattle.http1_lines.specs.Read.{read_request}
 use Rattle.steps.specs.States.{Held, held}
 use Rattle.steps.specs.Steps.{taken, answer_in, begun, small_room}
 use Rattle.steps.specs.Standing.{step_answer}

@@ -15,8 +15,8 @@ use Rattle.messages.specs.Names.{lines_of, kept, kept_trailers, are_trailers}
 use Rattle.messages.specs.Notes.{notes_of}
 use Rattle.messages.specs.Meaning.{content_of}
 use Rattle.messages.specs.Valid.{is_scheme}
-use Rattle.http1.specs.Lines.{RequestRead, request_of, chunk_of}
-use Rattle.http1.specs.Read.{Lines, Content, line_within, less, after_request_line, field_lines, trailer_section, chunks_from, after_chunk_line, content, after_head, request, read_request}
+use Rattle.http1_lines.specs.Lines.{RequestRead, request_of, chunk_of}
+use Rattle.http1_lines.specs.Read.{Lines, Content, line_within, less, after_request_line, field_lines, trailer_section, chunks_from, after_chunk_line, content, after_head, request, read_request}
 use Rattle.step_lines.specs.Stepping.{so_far, LineOpen}
 use Rattle.step_lines.specs.Entries.{text_of, AllPlain}
 use Rattle.step_lines.specs.declared.Present.{Present}

@@ -13,8 +13,8 @@ use crate::change::{
     with_tally,
 };
 use crate::{Phase, State, Tally};
-use http1::lines::{chunk_line, field_line};
-use http1::{ChunkLine, FieldLine};
+use http1_lines::lines::{chunk_line, field_line};
+use http1_lines::{ChunkLine, FieldLine};
 use messages::parts::{is_end_to_end, kind_of};
 use messages::sections::{no_notes, note};
 use messages::{Kind, Notes};

@@ -14,8 +14,8 @@ use crate::change::{
     with_tally,
 };
 use crate::{Control, Phase, State};
-use http1::lines::{field_line, request_line};
-use http1::{FieldLine, RequestLine, Target};
+use http1_lines::lines::{field_line, request_line};
+use http1_lines::{FieldLine, RequestLine, Target};
 use messages::parts::{is_host, kind_of};
 use messages::sections::{no_notes, note, request_body};
 use messages::{Body, BodyAnswer, Hosts, Kind, Notes};

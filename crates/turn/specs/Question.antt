@@ -9,7 +9,7 @@ use Rattle.script.specs.Do.{Piece}
 use Rattle.messages.specs.declared.Told.{Told}
 use Rattle.messages.specs.Message.{FieldRead, is_response, Message}
 use Rattle.messages.specs.Names.{kept}
-use Rattle.http1.specs.Read.{read_request, read_response}
+use Rattle.http1_lines.specs.Read.{read_request, read_response}
 use Rattle.binary.specs.Read.{read_binary}
 
 -- the first value of the name. Names of fields are compared in lower case, so a name that is not in lower case finds nothing

@@ -2,7 +2,7 @@
 ghost use Rattle.std.specs.Prelude.{◌≡◌, ◌≤◌, length};
 ghost use Rattle.octets.specs.Table.{classes};
 ghost use Rattle.messages.specs.Room.{section_room, heads_room, informational_room, chunks_room};
-ghost use Rattle.http1.specs.Read.{read_request, read_response};
+ghost use Rattle.http1_lines.specs.Read.{read_request, read_response};
 ghost use Rattle.turn.specs.Turn.{TakenServed, request_to_binary, response_to_binary};
 ghost use Rattle.turning.specs.Behind.{taken_by};
 

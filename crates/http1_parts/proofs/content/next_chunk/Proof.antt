@@ -8,7 +8,7 @@ use Rattle.octets.specs.Limits.{chunk_line_most, content_most}
 use Rattle.script.specs.Script.{line_of}
 use Rattle.script.specs.declared.Line.TheVariants.{Ends}
 use Rattle.script.proofs.Places.{line-within}
-use Rattle.http1.proofs.Views.{chunk-within}
+use Rattle.http1_lines.proofs.Views.{chunk-within}
 use Rattle.http1_parts.proofs.ChunkTurns.{chunk-more, chunk-bad, chunk-long, chunk-wrong, chunk-last, chunk-many, chunk-large, chunk-data}
 use Rattle.http1_parts.proofs.content.next_chunk.Statement.{statement}
 use Rattle.http1_parts.proofs.content.next_chunk.Tie as tie

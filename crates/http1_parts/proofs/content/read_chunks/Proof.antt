@@ -12,7 +12,7 @@ use Rattle.output.proofs.Laws.{splice-length}
 use Rattle.messages.specs.Meaning.{content_of}
 use Rattle.messages.specs.Answers.{chunks_numbers}
 use Rattle.messages.specs.declared.Body.TheVariants.{InChunks}
-use Rattle.http1.specs.Read.{chunks_from, content}
+use Rattle.http1_lines.specs.Read.{chunks_from, content}
 use Rattle.http1_parts.proofs.Contents.{contented-more, contented-refused, chunks-end, chunk-bounds, last-bounds, more-said, refused-said, last-said, next-said, content-next, chunk-stored}
 use Rattle.http1_parts.proofs.content.read_chunks.Statement.{statement}
 use Rattle.http1_parts.proofs.content.read_chunks.Tie as tie

@@ -9,7 +9,7 @@ use Rattle.octets.specs.Table.{classes}
 use Rattle.script.specs.Script.{run}
 use Rattle.script.proofs.Places.{line-within}
 use Rattle.messages.specs.Message.{FieldRead}
-use Rattle.http1.specs.Read.{field_lines, section}
+use Rattle.http1_lines.specs.Read.{field_lines, section}
 use Rattle.http1_parts.specs.Section.{no_field, line_at}
 use Rattle.http1_parts.specs.declared.Section.TheVariants.{Refused}
 use Rattle.http1_parts.proofs.Line.{FieldAt, EmptyLine, tells_more, tells-bad, tells-long, tells-empty, tells-field, tells_none}
@@ -19,7 +19,7 @@ use Rattle.http1_parts.proofs.lines.read_section.Statement.{statement}
 use Rattle.http1_parts.proofs.lines.read_section.Tie as tie
 use Rattle.http1_parts.proofs.lines.read_section.Reads as reads
 use Rattle.http1_parts.proofs.lines.read_section.Lts as lts
-use Rattle.http1.proofs.lines.next_line.Reads as next-line-reads
+use Rattle.http1_lines.proofs.lines.next_line.Reads as next-line-reads
 use Rattle.http1_parts.proofs.lines.no_field.Reads as no-field-reads
 use Rattle.http1_parts.proofs.lines.take_line.Reads as take-line-reads
 use Rattle.messages.proofs.sections.is_noted.Reads as is-noted-reads

@@ -2,7 +2,7 @@ use borrow.Author.Rules.{rules}
 use mathlib.Core.Path.{◌≡◌, refl, sym, ap, ◌∙◌}
 use native.Mathlib.Omega.{arith}
 use lib.ListN.{length, take, drop}
-use Rattle.http1.proofs.Judges.{front-count}
+use Rattle.http1_lines.proofs.Judges.{front-count}
 use Rattle.script.proofs.Places.{line-within}
 use Rattle.octets.specs.Limits.{head_most}
 use Rattle.http1_reader.proofs.Requests.{scheme-other, first_more, first-bad, first-long, first-wrong, first_rest, first-in}

@@ -1,7 +1,7 @@
 use borrow.Author.Rules.{rules}
 use native.Mathlib.Omega.{arith}
 use mathlib.Core.Path.{sym, ◌∙◌}
-use Rattle.http1.specs.Read.{response_call}
+use Rattle.http1_lines.specs.Read.{response_call}
 use lib.ListN.{length}
 use Rattle.http1_reader.proofs.ResponseLaws.{final-refused, final-within, final-read}
 use Rattle.http1_reader.proofs.response.after_final.Statement.{statement}

@@ -1,7 +1,7 @@
 use borrow.Author.Rules.{rules}
 use mathlib.Core.Path.{sym, ◌∙◌}
 use Rattle.ranges.specs.Ranges.{FewHeads}
-use Rattle.http1.specs.Read.{after_informational}
+use Rattle.http1_lines.specs.Read.{after_informational}
 use Rattle.http1_reader.proofs.ResponseHeads.{headed-more, headed-refused, informational-states, informational-ends}
 use Rattle.http1_reader.proofs.response.informational_head.Statement.{statement}
 use Rattle.http1_reader.proofs.response.informational_head.Tie as tie

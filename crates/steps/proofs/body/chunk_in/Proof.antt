@@ -1,7 +1,7 @@
 use borrow.Author.Rules.{rules}
 use native.Mathlib.Omega.{arith}
 use mathlib.Core.Path.{◌≡◌, refl, sym, ap, ◌∙◌}
-use Rattle.http1.proofs.Views.{chunk-within}
+use Rattle.http1_lines.proofs.Views.{chunk-within}
 use Rattle.steps.proofs.Picks.{chunk-good, chunk-bad}
 use Rattle.steps.proofs.body.chunk_in.Statement.{statement}
 use Rattle.steps.proofs.body.chunk_in.Tie as tie

@@ -1,7 +1,7 @@
 use borrow.Author.Rules.{rules}
 use native.Mathlib.Omega.{arith}
 use mathlib.Core.Path.{◌≡◌, refl, sym, ap, ◌∙◌}
-use Rattle.http1.proofs.Views.{field-within}
+use Rattle.http1_lines.proofs.Views.{field-within}
 use Rattle.steps.proofs.Picks.{trailer-empty, trailer-many, trailer-bad, trailer-good}
 use Rattle.steps.proofs.body.trailer_in.Statement.{statement}
 use Rattle.steps.proofs.body.trailer_in.Tie as tie

@@ -1,0 +1,15 @@
+use mathlib.Core.Path.{◌≡◌, refl, ◌∙◌}
+use Prim.Native.Nat.{◌+◌, ◌-◌, ◌≤◌}
+use native.Mathlib.Nat.{add-zero, sub-zero}
+use lib.ListN.{length, length-set}
+use borrow.Author.Rules.{rules}
+use Rattle.output.specs.Splice.{splice, part}
+use Rattle.output.proofs.Laws.{elements-length, elements-more, elements-none, put-turn}
+use Rattle.output.proofs.copy_part.Given as goal
+
+abbrev pub invariant-loop-i : goal.invariant-loop-i
+invariant-loop-i l = (l.i ≤ l.len) × (length l.out ≡ length l.initial.out)
+    × (splice l.out (l.at + l.i) (part l.src (l.from + l.i) (l.len - l.i)) ≡ splice l.initial.out l.at (part l.src l.from l.len))
+
+abbrev pub decreases-loop-i : goal.decreases-loop-i
+decreases-loop-i l = l.len - l.i

@@ -1,0 +1,14 @@
+use Prim.Native.Nat.{◌+◌, ◌≤◌}
+use mathlib.Core.Path.{◌≡◌, refl}
+use native.Mathlib.Omega.{arith}
+use lib.ListN.{length, length-set}
+use borrow.Author.Rules.{rules}
+use Rattle.numbers.specs.Digits.{char_of}
+use Rattle.output.proofs.Backwards.{to_put, put-place, rem-small, put-digits-end}
+use Rattle.output.proofs.lay_digits.Given as goal
+
+abbrev pub invariant-loop-j : goal.invariant-loop-j
+invariant-loop-j l = (length l.out ≡ length l.initial.out) × (l.at + l.j ≤ length l.out) × (to_put char_of l.base l.at l.j l.w l.out ≡ to_put char_of l.base l.at l.k l.n l.initial.out)
+
+abbrev pub decreases-loop-j : goal.decreases-loop-j
+decreases-loop-j l = l.j
