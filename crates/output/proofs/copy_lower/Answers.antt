@@ -1,6 +1,6 @@
 use mathlib.Core.Path.{◌≡◌, refl, ap, ◌∙◌}
 use mathlib.Core.List.{map}
-use Prim.Native.Nat.{◌+◌, ◌-◌, ◌≤◌}
+use Prim.Native.Nat.{ℕ, ◌+◌, ◌-◌, ◌≤◌}
 use native.Mathlib.Nat.{add-zero, sub-zero}
 use lib.ListN.{length, length-set, length-map}
 use borrow.Author.Rules.{rules}
@@ -14,7 +14,7 @@ loop-i-preserved c = (
       search rules,
       simp length-set (search rules),
       rw c.lower.ensures
-          (put-turn _ _ _ _ _ _ (ap (map lower_of) (elements-more _ _ _ _ _ c.loop-i-test.true))
+          (put-turn c.loop-i.out c.args.at c.loop-i.i _ _ _ (ap (map lower_of) (elements-more {A = ℕ} 0 c.args.src.now c.args.from c.loop-i.i c.args.len c.loop-i-test.true))
           ∙ c.loop-i.invariant.2),
     )
 
@@ -22,5 +22,5 @@ pub returns : goal.returns
 returns c = record {
       next = refl;
       size = simp (length-map, elements-length);
-      all = rw (elements-none _ _ _ _ _ c.loop-i-test.false) at c.loop-i.invariant.2;
+      all = rw (elements-none {A = ℕ} 0 c.args.src.now (c.args.from + c.loop-i.i) c.loop-i.i c.args.len c.loop-i-test.false) at c.loop-i.invariant.2;
     }

@@ -1,3 +1,4 @@
+use Prim.Native.Nat.{ℕ}
 use native.Mathlib.Omega.{arith}
 use mathlib.Core.Path.{refl, sym, ◌∙◌}
 use lib.ListN.{length-map}
@@ -7,7 +8,7 @@ use borrow.Author.Rules.{rules}
 use Rattle.output.proofs.put_lower.Goals as goal
 
 pub returns-else-lies_within-2 : goal.returns-else-lies_within-2
-returns-else-lies_within-2 c = put-not (rw (sym c.lies_within.ensures ∙ c.if-lies_within.true, sym c.lies_within-then-lies_within.ensures ∙ c.if-lies_within-2.false)) (rw length-map (elements-length _ _ _ _))
+returns-else-lies_within-2 c = put-not (rw (sym c.lies_within.ensures ∙ c.if-lies_within.true, sym c.lies_within-then-lies_within.ensures ∙ c.if-lies_within-2.false)) (rw length-map (elements-length {A = ℕ} 0 c.args.src.now c.args.from c.args.len))
 
 pub returns-else-lies_within : goal.returns-else-lies_within
-returns-else-lies_within c = put-not (rw (sym c.lies_within.ensures ∙ c.if-lies_within.false)) (rw length-map (elements-length _ _ _ _))
+returns-else-lies_within c = put-not (rw (sym c.lies_within.ensures ∙ c.if-lies_within.false)) (rw length-map (elements-length {A = ℕ} 0 c.args.src.now c.args.from c.args.len))

@@ -1,0 +1,14 @@
+use native.Mathlib.Omega.{arith}
+use Rattle.octets.proofs.Kit.{kit}
+use Rattle.messages.proofs.Picks.{by-table}
+use Rattle.http1_lines.proofs.Judges.{front-count, chunk-none, chunk-good, chunk-bad}
+use Rattle.http1_lines.proofs.lines.chunk_line.Goals as goal
+
+pub returns-then-is_value_from : goal.returns-then-is_value_from
+returns-then-is_value_from c = λ h. search (chunk-good, by-table h)
+
+pub returns-else-is_value_from : goal.returns-else-is_value_from
+returns-else-is_value_from c = λ h. search (chunk-bad, by-table h)
+
+pub returns-in-Not : goal.returns-in-Not
+returns-in-Not c = λ h. search chunk-none

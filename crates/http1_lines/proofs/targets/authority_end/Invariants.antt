@@ -1,0 +1,15 @@
+use Prim.Native.Nat.{◌+◌, ◌-◌, ◌≤◌}
+use mathlib.Core.Path.{◌≡◌, refl}
+use lib.ListN.{length, drop}
+use Rattle.octets.specs.Text.{span_len}
+use Rattle.octets.proofs.Texts.{span-step, span-end}
+use Rattle.octets.proofs.Kit.{kit}
+use Rattle.http1_lines.specs.Target.{is_before_path}
+use Rattle.http1_lines.proofs.RequestTargets.{slash-ends, query-ends, before-path}
+use Rattle.http1_lines.proofs.targets.authority_end.Given as goal
+
+abbrev pub invariant-loop-i : goal.invariant-loop-i
+invariant-loop-i l = (l.from + span_len is_before_path (drop l.from l.w) ≡ l.i + span_len is_before_path (drop l.i l.w)) × (l.i ≤ length l.w) × (l.from ≤ l.i)
+
+abbrev pub decreases-loop-i : goal.decreases-loop-i
+decreases-loop-i l = length l.w - l.i

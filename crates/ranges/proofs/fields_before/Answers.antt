@@ -1,0 +1,14 @@
+use borrow.Author.Rules.{rules}
+use Prim.Native.Nat.{ℕ, ◌+◌, ◌-◌, ◌*◌, ◌≤◌, ◌<◌}
+use mathlib.Core.Path.{◌≡◌, refl, sym, ap, ◌∙◌}
+use native.Mathlib.Omega.{arith}
+use lib.ListN.{length, get_or}
+use Rattle.ranges.specs.Entries.{fields_before}
+use Rattle.ranges.proofs.Entries.{before-next, before-none}
+use Rattle.ranges.proofs.fields_before.Goals as goal
+
+pub loop-i-init : goal.loop-i-init
+loop-i-init c = (omega arith, omega arith, sym (before-none _))
+
+pub loop-i-preserved : goal.loop-i-preserved
+loop-i-preserved c = (omega arith, omega (arith, c.number_at-k.ensures), omega (arith, c.number_at-k.ensures, c.loop-i.invariant.2, before-next c.args.heads.now c.loop-i.i))

@@ -1,0 +1,10 @@
+use Prim.Native.Nat.{◌-◌, ◌≤◌}
+use native.Mathlib.Omega.{arith}
+use Rattle.ranges.proofs.Dropping.{LeftTo, drop-start, drop-it, keep-it, drop_all, name-inside}
+use Rattle.ranges.proofs.named.drop_member.Given as goal
+
+abbrev pub invariant-loop-i : goal.invariant-loop-i
+invariant-loop-i l = (l.base ≤ l.i) × (l.i ≤ l.count) × LeftTo l.s l.name l.initial.out l.base l.i l.out l.k
+
+abbrev pub decreases-loop-i : goal.decreases-loop-i
+decreases-loop-i l = l.count - l.i

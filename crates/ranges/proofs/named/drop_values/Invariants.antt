@@ -1,0 +1,10 @@
+use Prim.Native.Nat.{◌-◌}
+use native.Mathlib.Omega.{arith}
+use Rattle.ranges.proofs.Dropping.{ValuesLeft, values-start, value_room, value-inside, values-turn, values-done}
+use Rattle.ranges.proofs.named.drop_values.Given as goal
+
+abbrev pub invariant-loop-i : goal.invariant-loop-i
+invariant-loop-i l = ValuesLeft l.s l.initial.out l.base l.count l.connections l.i l.out l.k
+
+abbrev pub decreases-loop-i : goal.decreases-loop-i
+decreases-loop-i l = l.connections - l.i
