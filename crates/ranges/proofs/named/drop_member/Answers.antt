@@ -10,9 +10,7 @@ pub has_name-requires : goal.has_name-requires
 has_name-requires c = (omega (arith, c.loop-i-test.true, c.requires.room, c.loop-i.invariant.2.altered.size), name-inside c.args.s.now c.args.name.now c.args.out.now c.args.base c.loop-i.i c.loop-i.k c.loop-i.out c.loop-i.invariant.2 c.loop-i.invariant.0 c.requires c.loop-i-test.true)
 
 pub loop-i-preserved-then-has_name : goal.loop-i-preserved-then-has_name
-loop-i-preserved-then-has_name c = (omega (arith, c.loop-i.invariant.0), omega arith, drop-it c.args.s.now c.args.name.now c.args.out.now c.args.base c.loop-i.i c.loop-i.k c.loop-i.out c.loop-i.invariant.2 c.loop-i.invariant.0 c.has_name.ensures)
+loop-i-preserved-then-has_name c = (omega (arith, c.loop-i.invariant.0), omega arith, drop-it c.args.s.now c.args.name.now c.args.out.now c.args.base c.loop-i.i c.loop-i.k c.loop-i.out c.loop-i.invariant.2 c.loop-i.invariant.0 c.has_name.ensures c.if-has_name.true)
 
--- TODO ensures field of a callee that requires: c.before.before.move-entry.ensures.1
--- TODO ensures field of a callee that requires: c.before.before.move-entry.ensures.0
 pub loop-i-preserved : goal.loop-i-preserved
-loop-i-preserved c = (omega (arith, c.loop-i.invariant.0), omega arith, rw c.move_entry-k.ensures.1 (keep-it c.args.s.now c.args.name.now c.args.out.now c.args.base c.loop-i.i c.loop-i.k c.loop-i.out c.loop-i.invariant.2 c.loop-i.invariant.0 c.has_name.ensures (omega (arith, c.loop-i-test.true, c.requires.room, c.loop-i.invariant.2.altered.size)) c.move_entry-k.ensures.0))
+loop-i-preserved c = (omega (arith, c.loop-i.invariant.0), omega arith, rw c.move_entry-k.ensures.1 (keep-it c.args.s.now c.args.name.now c.args.out.now c.args.base c.loop-i.i c.loop-i.k c.loop-i.out c.loop-i.invariant.2 c.loop-i.invariant.0 c.has_name.ensures c.if-has_name.false (omega (arith, c.loop-i-test.true, c.requires.room, c.loop-i.invariant.2.altered.size)) c.move_entry-k.ensures.0))

@@ -6,7 +6,7 @@ pub drop_values-requires : goal.drop_values-requires
 drop_values-requires c = values-gathered c.requires.0 c.requires.1
 
 pub returns-then-connections-gt0 : goal.returns-then-connections-gt0
-returns-then-connections-gt0 c = named-dropped c.if-headers.taken c.requires.1 c.drop_values.ensures
+returns-then-connections-gt0 c = named-dropped c.if-headers.true c.requires.1 c.drop_values.ensures
 
 pub returns-else-connections-gt0 : goal.returns-else-connections-gt0
-returns-else-connections-gt0 c = none_dropped c.if-headers.taken c.if-connections-gt0.left
+returns-else-connections-gt0 c = none_dropped c.if-headers.true c.if-connections-gt0.false

@@ -4,4 +4,4 @@ use mathlib.Core.Path.{refl}
 use Rattle.ranges.proofs.named.move_entry.Goals as goal
 
 pub returns : goal.returns
-returns c = (entry-stays _ _ _ c.requires.0 c.if-k-i.left, refl)
+returns c = (entry-stays _ _ _ c.requires.0 c.if-k-i.false, refl)
