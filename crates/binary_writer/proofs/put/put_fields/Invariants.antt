@@ -1,0 +1,20 @@
+use Prim.Native.Nat.{ℕ, ◌+◌, ◌-◌, ◌*◌, ◌≤◌, ◌<◌}
+use mathlib.Core.Path.{◌≡◌, refl, sym, ap, ◌∙◌}
+use mathlib.Core.List.{map}
+use native.Mathlib.Omega.{arith}
+use lib.ListN.{length, get_or}
+use Rattle.output.specs.Splice.{Left}
+use Rattle.output.proofs.Laws.{left-none}
+use Rattle.messages.specs.Meaning.{field_means}
+use Rattle.ranges.specs.Entries.{fields_in}
+use Rattle.binary_writer.specs.Write.{fields_bytes}
+use Rattle.binary_writer.specs.Sizes.{fields_size}
+use Rattle.binary_writer.proofs.Lengths.{fields-length}
+use Rattle.binary_writer.proofs.Steps.{size-more, size_none, fields-begin, left-field, fields-bytes-none}
+use Rattle.binary_writer.proofs.put.put_fields.Given as goal
+
+abbrev pub invariant-loop-i : goal.invariant-loop-i
+invariant-loop-i l = (l.i ≤ l.n) × Left l.initial.out l.at (fields_bytes (map field_means (fields_in l.s l.ranges l.k l.n))) (fields_size l.ranges l.k l.n) l.out l.a (fields_bytes (map field_means (fields_in l.s l.ranges (l.k + l.i) (l.n - l.i)))) (fields_size l.ranges (l.k + l.i) (l.n - l.i))
+
+abbrev pub decreases-loop-i : goal.decreases-loop-i
+decreases-loop-i l = l.n - l.i

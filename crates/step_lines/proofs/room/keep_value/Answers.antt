@@ -1,0 +1,8 @@
+use borrow.Author.Rules.{rules}
+use native.Mathlib.Omega.{arith}
+use mathlib.Core.Path.{◌≡◌, refl, sym, ap, ◌∙◌}
+use Rattle.step_lines.proofs.Moving.{value-kept, value-inside}
+use Rattle.step_lines.proofs.room.keep_value.Goals as goal
+
+pub returns : goal.returns
+returns c = value-kept _ _ _ _ _ c.requires.0 c.requires.1 c.move_down.ensures

@@ -1,0 +1,20 @@
+use borrow.Author.Rules.{rules}
+use native.Mathlib.Omega.{arith}
+use mathlib.Core.Path.{◌≡◌, refl, sym, ap, ◌∙◌}
+use Rattle.steps.proofs.Picks.{field-empty, field-many, field-bad, field-good, field-size}
+use Rattle.steps.proofs.head.field_in.Goals as goal
+
+pub returns-then-n-eq0 : goal.returns-then-n-eq0
+returns-then-n-eq0 c = field-empty _ _ c.text_len-n.ensures c.if-n-eq0.true c.head_end.ensures
+
+pub returns-then-st-ge-LINES : goal.returns-then-st-ge-LINES
+returns-then-st-ge-LINES c = field-many _ _ c.text_len-n.ensures c.if-n-eq0.false c.if-st-ge-LINES.true c.refused.ensures
+
+pub field_held-requires : goal.field_held-requires
+field_held-requires c = (c.requires.0, c.requires.1, c.requires.2, (field-size c.args.st c.args.room.now c.text_len-n.ensures c.if-n-eq0.false (c.field_line-f.ensures c.class_table-t.ensures) _ _ _ c.in-Of.is).0, (field-size c.args.st c.args.room.now c.text_len-n.ensures c.if-n-eq0.false (c.field_line-f.ensures c.class_table-t.ensures) _ _ _ c.in-Of.is).1)
+
+pub returns-in-Of : goal.returns-in-Of
+returns-in-Of c = field-good _ _ c.text_len-n.ensures c.if-n-eq0.false c.if-st-ge-LINES.false (c.field_line-f.ensures c.class_table-t.ensures) _ _ _ c.in-Of.is c.field_held.ensures
+
+pub returns-in-Bad : goal.returns-in-Bad
+returns-in-Bad c = field-bad _ _ c.text_len-n.ensures c.if-n-eq0.false c.if-st-ge-LINES.false (c.field_line-f.ensures c.class_table-t.ensures) c.in-Bad.is c.refused-in-Bad.ensures
