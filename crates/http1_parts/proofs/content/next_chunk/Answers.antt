@@ -45,14 +45,11 @@ returns-then-is_full c = chunk-many c.args.s.now c.args.i _ _ _ ((let ends_at : 
 pub overflow_add-total : goal.overflow_add-total
 overflow_add-total c = omega (arith, chunk-within _ _ (sym (c.chunk_line-c.ensures c.requires.0) ∙ c.in-Of.is))
 
--- TODO step fits2
 pub chunk_data-requires : goal.chunk_data-requires
-chunk_data-requires c = (((let two : (c.args.i + 2 ≤ c.in-Ends.next) × (c.in-Ends.next ≤ length c.args.s.now) × (c.in-Ends.next - c.args.i ≤ chunk_line_most) = line-within _ _ _ _ c.requires.1 ((let ends_at : line_of (drop c.args.i c.args.s.now) chunk_line_most c.args.i 0 ≡ Ends c.in-Ends.next = sym c.line_end-l.ensures ∙ c.in-Ends.is in ends_at)) in two)).1, omega (arith, leb-true (c.args.total + c.in-Of.size) content_most (sym c.fits2.ensures ∙ c.if-fits.true)))
+chunk_data-requires c = (((let two : (c.args.i + 2 ≤ c.in-Ends.next) × (c.in-Ends.next ≤ length c.args.s.now) × (c.in-Ends.next - c.args.i ≤ chunk_line_most) = line-within _ _ _ _ c.requires.1 ((let ends_at : line_of (drop c.args.i c.args.s.now) chunk_line_most c.args.i 0 ≡ Ends c.in-Ends.next = sym c.line_end-l.ensures ∙ c.in-Ends.is in ends_at)) in two)).1, omega (arith, leb-true (c.args.total + c.in-Of.size) content_most (sym c.fits.ensures ∙ c.if-fits.true)))
 
--- TODO step fits2
 pub returns-then-fits : goal.returns-then-fits
-returns-then-fits c = chunk-data c.args.s.now c.args.i _ _ _ ((let ends_at : line_of (drop c.args.i c.args.s.now) chunk_line_most c.args.i 0 ≡ Ends c.in-Ends.next = sym c.line_end-l.ensures ∙ c.in-Ends.is in ends_at)) c.requires.1 _ (sym (c.chunk_line-c.ensures c.requires.0) ∙ c.in-Of.is) c.if-size-eq0.false (leb-false _ _ (sym c.is_full.ensures ∙ c.if-is_full.false)) (leb-true _ _ (sym c.fits2.ensures ∙ c.if-fits.true)) c.chunk_data.ensures
+returns-then-fits c = chunk-data c.args.s.now c.args.i _ _ _ ((let ends_at : line_of (drop c.args.i c.args.s.now) chunk_line_most c.args.i 0 ≡ Ends c.in-Ends.next = sym c.line_end-l.ensures ∙ c.in-Ends.is in ends_at)) c.requires.1 _ (sym (c.chunk_line-c.ensures c.requires.0) ∙ c.in-Of.is) c.if-size-eq0.false (leb-false _ _ (sym c.is_full.ensures ∙ c.if-is_full.false)) (leb-true _ _ (sym c.fits.ensures ∙ c.if-fits.true)) c.chunk_data.ensures
 
--- TODO step fits2
 pub returns-else-fits : goal.returns-else-fits
-returns-else-fits c = chunk-large c.args.s.now c.args.i _ _ _ ((let ends_at : line_of (drop c.args.i c.args.s.now) chunk_line_most c.args.i 0 ≡ Ends c.in-Ends.next = sym c.line_end-l.ensures ∙ c.in-Ends.is in ends_at)) c.requires.1 _ (sym (c.chunk_line-c.ensures c.requires.0) ∙ c.in-Of.is) c.if-size-eq0.false (leb-false _ _ (sym c.is_full.ensures ∙ c.if-is_full.false)) (leb-false _ _ (sym c.fits2.ensures ∙ c.if-fits.false))
+returns-else-fits c = chunk-large c.args.s.now c.args.i _ _ _ ((let ends_at : line_of (drop c.args.i c.args.s.now) chunk_line_most c.args.i 0 ≡ Ends c.in-Ends.next = sym c.line_end-l.ensures ∙ c.in-Ends.is in ends_at)) c.requires.1 _ (sym (c.chunk_line-c.ensures c.requires.0) ∙ c.in-Of.is) c.if-size-eq0.false (leb-false _ _ (sym c.is_full.ensures ∙ c.if-is_full.false)) (leb-false _ _ (sym c.fits.ensures ∙ c.if-fits.false))
