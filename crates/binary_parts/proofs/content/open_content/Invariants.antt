@@ -1,0 +1,21 @@
+use native.Mathlib.Omega.{arith}
+use Prim.Native.Nat.{ℕ, suc, ◌+◌, ◌-◌, ◌*◌, ◌≤◌, ◌<◌}
+use mathlib.Core.Path.{◌≡◌, refl, ap, ◌∙◌}
+use mathlib.Core.List.{List, [], ◌∷◌, ◌++◌}
+use lib.ListN.{length, take, drop, length-append}
+use Rattle.octets.specs.Limits.{chunks_most, content_most}
+use Rattle.script.specs.Do.{Piece, piece}
+use Rattle.output.specs.Splice.{splice}
+use Rattle.output.proofs.Laws.{splice-length}
+use Rattle.messages.specs.Meaning.{content_of}
+use Rattle.messages.specs.Answers.{chunks_numbers}
+use Rattle.binary.specs.Reader.{cursor}
+use Rattle.binary.specs.Read.{open_chunks, open_content}
+use Rattle.binary_parts.proofs.Contents.{contented-no, contented-got, chunk-bounds, last-bounds, refused-said, last-said, next-said, content-next, chunk-stored}
+use Rattle.binary_parts.proofs.content.open_content.Given as goal
+
+abbrev pub invariant-loop-number : goal.invariant-loop-number
+invariant-loop-number l = (cs : List Piece) × (length cs ≡ l.count) × (l.count ≤ chunks_most) × (length (content_of cs) ≡ l.total) × (l.total ≤ content_most) × (l.i ≤ length l.s) × (length l.out ≡ length l.initial.out) × (l.out ≡ splice l.initial.out 0 (chunks_numbers cs)) × (open_content (cursor l.initial.i l.initial.longs) (drop l.initial.i l.s) ≡ open_chunks (suc (chunks_most - l.count)) cs l.total (cursor l.i l.longs) (drop l.i l.s)) × (l.longs ≤ l.i)
+
+abbrev pub decreases-loop-number : goal.decreases-loop-number
+decreases-loop-number l = chunks_most - l.count

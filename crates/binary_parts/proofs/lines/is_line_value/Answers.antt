@@ -1,0 +1,17 @@
+use borrow.Author.Rules.{rules}
+use Rattle.messages.proofs.Picks.{picks}
+use Rattle.octets.specs.Text.{is_empty}
+use Rattle.binary.specs.Read.{is_line_value}
+use Rattle.binary_parts.proofs.lines.is_line_value.Goals as goal
+
+pub returns-then-form : goal.returns-then-form
+unfolding is_line_value is_empty
+returns-then-form c = search (picks, c.is_trimmed_value.ensures c.requires)
+
+pub returns-then-is_trimmed_value : goal.returns-then-is_trimmed_value
+unfolding is_line_value is_empty
+returns-then-is_trimmed_value c = search (picks, c.is_trimmed_value.ensures c.requires)
+
+pub returns : goal.returns
+unfolding is_line_value is_empty
+returns c = search (picks, c.is_trimmed_value.ensures c.requires)
