@@ -1,0 +1,13 @@
+use Prim.Native.Nat.{ℕ, ◌+◌, ◌-◌, ◌*◌, ◌≤◌, ◌<◌}
+use mathlib.Core.Path.{◌≡◌, refl, sym, ap, ◌∙◌}
+use native.Mathlib.Omega.{arith}
+use lib.ListN.{length}
+use Rattle.binary_writer.specs.Sizes.{entry_most, fields_size}
+use Rattle.binary_writer.proofs.Steps.{size-start, size-more, size_none}
+use Rattle.binary_writer.proofs.measure.fields_size.Goals as goal
+
+pub loop-i-preserved : goal.loop-i-preserved
+loop-i-preserved c = (omega arith, omega (arith, c.entry_size-size.ensures.1), omega (arith, c.entry_size-size.ensures.0, c.loop-i.invariant.2, size-more c.args.ranges.now c.args.k c.args.n c.loop-i.i c.loop-i-test.true))
+
+pub returns : goal.returns
+returns c = (omega (arith, c.loop-i.invariant.2, size_none c.args.ranges.now c.args.k c.args.n c.loop-i.i c.loop-i-test.false), omega arith)

@@ -1,0 +1,10 @@
+use borrow.Author.Rules.{rules}
+use borrow.Author.Tests.{le-leb}
+use Rattle.output.proofs.Room.{puts, puts-part, puts_then}
+use Rattle.binary_writer.proofs.Lengths.{counted_is, lower-length}
+use Rattle.output.proofs.Laws.{put_as}
+use mathlib.Core.Path.{refl}
+use Rattle.binary_writer.proofs.put.put_counted_lower.Goals as goal
+
+pub returns : goal.returns
+returns c = put_as (counted_is _ _ (lower-length _ _ _), refl) (puts_then (puts c.put_int-a.ensures) (puts-part (le-leb _ _ c.requires.1) c.put_lower.ensures) c.requires.2)

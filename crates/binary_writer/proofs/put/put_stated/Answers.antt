@@ -1,0 +1,13 @@
+use borrow.Author.Rules.{rules}
+use native.Mathlib.Omega.{arith}
+use Rattle.output.proofs.Laws.{put-none, put_as}
+use Rattle.output.proofs.Room.{puts}
+use Rattle.binary_writer.proofs.Lengths.{is-missing}
+use Rattle.binary_writer.proofs.Steps.{put-length}
+use Rattle.binary_writer.proofs.put.put_stated.Goals as goal
+
+pub returns-in-Missing : goal.returns-in-Missing
+returns-in-Missing c = let e = is-missing c.in-Missing.is in put_as (e.bytes, e.size) (put-none _ _)
+
+pub returns-in-Of : goal.returns-in-Of
+returns-in-Of c = put-length c.in-Of.is c.digit_count.ensures (puts c.put_text-a.ensures) (puts c.put_int-b.ensures) (puts c.put_decimal.ensures) c.requires
