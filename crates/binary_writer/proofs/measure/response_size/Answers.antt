@@ -4,10 +4,8 @@ use Rattle.numbers.proofs.IntegerLaws.{int-some}
 use borrow.Author.Rules.{rules}
 use Rattle.binary_writer.proofs.measure.response_size.Goals as goal
 
--- TODO step well-formed
 pub overflow_add-result-2 : goal.overflow_add-result-2
-overflow_add-result-2 c = omega (arith, c.heads_size.ensures.1, c.int_len.ensures, int-some c.args.status (omega (arith, c.well-formed)))
+overflow_add-result-2 c = omega (arith, c.heads_size.ensures.1, c.int_len.ensures, int-some c.args.status (omega (arith, c.well_formed)))
 
--- TODO step well-formed
 pub returns : goal.returns
-returns c = (omega (arith, c.heads_size.ensures.0, c.int_len.ensures), omega (arith, c.heads_size.ensures.1, c.int_len.ensures, int-some c.args.status (omega (arith, c.well-formed))))
+returns c = (omega (arith, c.heads_size.ensures.0, c.int_len.ensures), omega (arith, c.heads_size.ensures.1, c.int_len.ensures, int-some c.args.status (omega (arith, c.well_formed))))

@@ -1,0 +1,18 @@
+use borrow.Author.Rules.{rules}
+use Prim.Native.Nat.{ℕ, ◌+◌, ◌-◌, ◌*◌, ◌≤◌, ◌<◌}
+use mathlib.Core.Path.{◌≡◌, refl, sym, ap, ◌∙◌}
+use mathlib.Core.List.{[]}
+use native.Mathlib.Nat.{sub-zero}
+use native.Mathlib.Omega.{arith}
+use lib.ListN.{length}
+use Rattle.ranges.specs.Entries.{fields_before, FieldsWithin, HeadsWithin}
+use Rattle.ranges.proofs.Entries.{before-next, before-none}
+use Rattle.http1_writer.specs.Numbered.{heads_size}
+use Rattle.http1_writer.proofs.Turns.{head-next, head-none, head-within}
+use Rattle.http1_writer.proofs.heads.heads_size.Given as goal
+
+abbrev pub invariant-loop-i : goal.invariant-loop-i
+invariant-loop-i l = (l.i ≤ l.n) × (l.k ≡ fields_before l.heads l.i) × (l.size + heads_size l.fields l.heads l.i (l.n - l.i) ≡ heads_size l.fields l.heads 0 l.n) × (l.size ≤ l.i * 549755814050)
+
+abbrev pub decreases-loop-i : goal.decreases-loop-i
+decreases-loop-i l = l.n - l.i

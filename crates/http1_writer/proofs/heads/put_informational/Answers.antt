@@ -1,0 +1,8 @@
+use borrow.Author.Rules.{rules}
+use native.Mathlib.Omega.{arith}
+use Rattle.output.proofs.Laws.{put_then, put_count}
+use borrow.Author.Rules.{rules}
+use Rattle.http1_writer.proofs.heads.put_informational.Goals as goal
+
+pub returns : goal.returns
+returns c = put_then c.put_status-a.ensures c.put_section.ensures

@@ -1,0 +1,15 @@
+use borrow.Author.Rules.{rules}
+use Prim.Native.Nat.{ℕ, ◌+◌, ◌-◌, ◌*◌, ◌≤◌, ◌<◌}
+use mathlib.Core.Path.{◌≡◌, refl, sym, ap, ◌∙◌}
+use native.Mathlib.Omega.{arith}
+use lib.ListN.{length}
+use Rattle.output.proofs.Room.{puts}
+use Rattle.output.proofs.Laws.{left-turn, left-last}
+use Rattle.http1_writer.proofs.Turns.{LinesLeft, section-start, section-length, section-more, section-none}
+use Rattle.http1_writer.proofs.sections.put_section.Goals as goal
+
+pub loop-i-preserved : goal.loop-i-preserved
+loop-i-preserved c = let e = section-more c.args.s.now c.args.fields.now c.args.k c.args.n c.loop-i.i c.loop-i-test.true in (omega (arith, c.loop-i-test.true), left-turn c.loop-i.invariant.1 e c.put_line-a.ensures)
+
+pub returns : goal.returns
+returns c = let e = section-none c.args.s.now c.args.fields.now c.args.k c.args.n c.loop-i.i c.loop-i-test.false in left-last c.loop-i.invariant.1 (section-length c.args.s.now c.args.fields.now c.args.k c.args.n) e (puts c.put_text.ensures (omega (arith, e.1, c.loop-i.invariant.1.next, c.loop-i.invariant.1.kept, c.requires.1)))

@@ -1,0 +1,13 @@
+use borrow.Author.Rules.{rules}
+use Prim.Native.Nat.{ℕ, ◌+◌, ◌-◌, ◌*◌, ◌≤◌, ◌<◌}
+use mathlib.Core.Path.{◌≡◌, refl, sym, ap, ◌∙◌}
+use mathlib.Core.List.{[]}
+use native.Mathlib.Nat.{add-zero, sub-zero}
+use native.Mathlib.Omega.{arith}
+use lib.ListN.{length}
+use Rattle.http1_writer.specs.Numbered.{section_size}
+use Rattle.http1_writer.proofs.Turns.{section-more, section-none}
+use Rattle.http1_writer.proofs.sections.section_size.Goals as goal
+
+pub loop-i-preserved : goal.loop-i-preserved
+loop-i-preserved c = let e = section-more [] c.args.fields.now c.args.k c.args.n c.loop-i.i c.loop-i-test.true in (omega (arith, c.loop-i-test.true), omega (arith, e.1, c.loop-i.invariant.1, c.number_at.ensures, c.number_at-in-loop-i.ensures), omega (arith, c.loop-i.invariant.2, c.number_at.ensures, c.number_at-in-loop-i.ensures))
