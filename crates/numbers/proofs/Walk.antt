@@ -1,7 +1,7 @@
 -- The value of the one walk over an integer's octets, for every width at once.
 -- Assumes nothing.
 use mathlib.Core.Path.{◌≡◌, refl, ap₂, ◌∙◌}
-use mathlib.Core.Bool.{Bool, true, false, cond}
+use mathlib.Core.Bool.{Bool, true, false}
 use mathlib.Core.List.{List, [], ◌∷◌}
 use Prim.Native.Nat.{ℕ, zero, suc, ◌+◌, ◌*◌, ◌^◌, ◌≤◌}
 use native.Mathlib.Nat.{pow-succ', pow-zero, add-mul, mul_assoc, add_assoc, mul-one, add-zero}
@@ -12,7 +12,7 @@ use lib.ListN.{length, take}
 use Rattle.numbers.specs.Integer.{read_more, read_int, extra_of, long_of}
 use Rattle.numbers.specs.Walk.{big_endian, value_walked, walked, OneWalk}
 use Rattle.numbers.specs.declared.Integer.{Integer}
-use Rattle.numbers.specs.declared.Integer.TheVariants.{Value, Cut}
+use Rattle.numbers.specs.declared.Integer.TheVariants.{Value}
 
 -- the octets of a front that is there
 take-length : (n : ℕ) (s : List ℕ) → n ≤ length s → length (take n s) ≡ n

@@ -1,5 +1,5 @@
 -- Which integers are counted as long (02, item 8: "whether the form was the shortest").
-use Rattle.std.specs.Prelude.{ℕ, ◌+◌, ◌≡◌, ◌↔◌, List, ◌++◌, length, take}
+use Rattle.std.specs.Prelude.{ℕ, ◌+◌, ◌≡◌, ◌↔◌, List}
 use Rattle.numbers.specs.Integer.{read_int, int_len}
 use Rattle.numbers.specs.declared.Integer.TheVariants.{Value}
 

@@ -1,9 +1,9 @@
 -- Feeding octet by octet says what `run` says on the octets so far, for every script.
 use Prim.Native.Nat.{ℕ}
 use mathlib.Core.Path.{◌≡◌, refl, sym, ap, ◌∙◌}
-use mathlib.Core.Bool.{Bool, true, false}
+use mathlib.Core.Bool.{true}
 use mathlib.Core.List.{List, [], ◌∷◌, ◌++◌, append_assoc, append-nil}
-use Rattle.script.specs.Script.{Answer, Cut, cut, bad, short, Cutter, Script, done, stop, need, cut_by, run, on_cut}
+use Rattle.script.specs.Script.{Cut, cut, bad, short, Cutter, Script, done, stop, need, cut_by, run, on_cut}
 use Rattle.script.proofs.Made.{later, cut_later}
 use Rattle.script.specs.Feed.{Waiting, ended, failed, waits, on_word, after, feed, feed_all, says, is_settled}
 

@@ -1,18 +1,18 @@
 -- One octet more of a word, as a stepper has it: of a line by its state and the count of its octets, of octets by their count.
 use Prim.Native.Nat.{ℕ, zero, suc, ◌+◌, ◌-◌, ◌<◌, ◌≤◌}
 use mathlib.Core.Path.{◌≡◌, refl, sym, ap, ◌∙◌}
-use mathlib.Core.Bool.{Bool, true, false, cond, not}
+use mathlib.Core.Bool.{true, cond, not}
 use mathlib.Core.List.{List, [], ◌∷◌, ◌++◌, append-nil}
 use native.Mathlib.Omega.{arith}
-use borrow.Author.Tests.{eq-eqb, ne_eqb, not-true, lt-ltb, le-ltb}
+use borrow.Author.Tests.{ne_eqb, not-true, lt-ltb, le-ltb}
 use lib.Dec.{eqb}
 use lib.ListN.{length, take, drop, length-append, drop_of_length-le}
 use lib.Seq.{take-append-le, take_all}
 use Rattle.octets.proofs.Kit.{and_split}
-use Rattle.script.specs.Script.{Cut, cut, bad, short, Cutter, a_line, some_octets, Script, need, cr_state, line_of, cut_by, free}
+use Rattle.script.specs.Script.{a_line, some_octets, Script, need, cr_state, line_of, cut_by, free}
 use Rattle.script.specs.declared.Line.TheVariants.{Ends, Bad, Long, More}
 use Rattle.script.proofs.Lines.{free-append}
-use Rattle.script.specs.Feed.{Waiting, ended, failed, waits, after, state_from, Open}
+use Rattle.script.specs.Feed.{failed, waits, after, state_from, Open}
 use Rattle.script.proofs.Feeding.{after-need}
 
 -- ---- lines

@@ -1,9 +1,6 @@
 use Prim.Native.Nat.{◌+◌, ◌-◌, ◌≤◌}
 use mathlib.Core.Path.{◌≡◌}
-use native.Mathlib.Omega.{arith}
 use Rattle.numbers.specs.Digits.{count_of, more_of}
-use Rattle.numbers.proofs.Counting.{count_none, count-start, count-stop, count-more, count-done}
-use Rattle.octets.proofs.Kit.{kit}
 use Rattle.numbers.proofs.digit_count.Given as goal
 
 abbrev pub invariant-loop-k : goal.invariant-loop-k

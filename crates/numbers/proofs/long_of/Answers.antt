@@ -1,4 +1,3 @@
-use borrow.Author.Rules.{rules}
 use Rattle.octets.proofs.Kit.{kit}
 use Rattle.numbers.proofs.ReadInteger.{long-none, long-one}
 use Rattle.numbers.proofs.long_of.Goals as goal

@@ -1,11 +1,6 @@
 use borrow.Author.Rules.{rules}
-use Prim.Native.Nat.{◌-◌, ◌≤◌}
-use mathlib.Core.Path.{◌≡◌}
 use native.Mathlib.Omega.{arith}
-use lib.ListN.{length, drop}
-use Rattle.numbers.specs.Digits.{most, num_of, num_from}
-use Rattle.numbers.proofs.ReadDigits.{num-none, num-first, num-bad, num-more, num-done, fits-times, fits-digit}
-use Rattle.octets.proofs.Kit.{kit}
+use Rattle.numbers.proofs.ReadDigits.{num-none, num-first, num-bad, num-more, num-done}
 use Rattle.numbers.proofs.parse.Goals as goal
 
 pub returns-then-s-eq0 : goal.returns-then-s-eq0

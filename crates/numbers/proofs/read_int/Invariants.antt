@@ -1,10 +1,8 @@
-use borrow.Author.Rules.{rules}
 use Prim.Native.Nat.{◌≤◌, ◌+◌}
 use mathlib.Core.Path.{◌≡◌}
 use lib.ListN.{length, drop}
 use Rattle.numbers.specs.Integer.{read_int, read_more}
-use Rattle.numbers.proofs.ReadInteger.{Below, reads, int-none, int_cut, int-one, in_one, int-done, below-first, below_more, int-first, int-more, extra-fits, in_cut, in-value}
-use Rattle.octets.proofs.Kit.{kit}
+use Rattle.numbers.proofs.ReadInteger.{Below}
 use Rattle.numbers.proofs.read_int.Given as goal
 
 abbrev pub invariant-loop-n : goal.invariant-loop-n

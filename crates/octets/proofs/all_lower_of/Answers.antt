@@ -1,8 +1,3 @@
-use Prim.Native.Nat.{◌-◌}
-use mathlib.Core.Path.{◌≡◌, refl}
-use lib.ListN.{length, drop}
-use Rattle.octets.specs.Table.{has_in}
-use Rattle.octets.specs.Text.{all, is_lower}
 use Rattle.octets.proofs.Texts.{steps, both-pass, first_stops, second-stops}
 use Rattle.octets.proofs.all_lower_of.Goals as goal
 

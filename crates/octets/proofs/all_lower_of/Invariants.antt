@@ -1,9 +1,8 @@
 use Prim.Native.Nat.{◌-◌}
-use mathlib.Core.Path.{◌≡◌, refl}
+use mathlib.Core.Path.{◌≡◌}
 use lib.ListN.{length, drop}
 use Rattle.octets.specs.Table.{has_in}
 use Rattle.octets.specs.Text.{all, is_lower}
-use Rattle.octets.proofs.Texts.{steps, both-pass, first_stops, second-stops}
 use Rattle.octets.proofs.all_lower_of.Given as goal
 
 abbrev pub invariant-loop-i : goal.invariant-loop-i

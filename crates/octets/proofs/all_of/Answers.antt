@@ -1,8 +1,3 @@
-use Prim.Native.Nat.{◌-◌}
-use mathlib.Core.Path.{◌≡◌}
-use lib.ListN.{length, drop}
-use Rattle.octets.specs.Table.{has_in}
-use Rattle.octets.specs.Text.{all}
 use Rattle.octets.proofs.Texts.{steps}
 use Rattle.octets.proofs.all_of.Goals as goal
 

@@ -3,7 +3,6 @@ use mathlib.Core.Path.{◌≡◌}
 use lib.ListN.{length, drop}
 use Rattle.octets.specs.Table.{has_in}
 use Rattle.octets.specs.Text.{all}
-use Rattle.octets.proofs.Texts.{steps}
 use Rattle.octets.proofs.all_of.Given as goal
 
 abbrev pub invariant-loop-i : goal.invariant-loop-i

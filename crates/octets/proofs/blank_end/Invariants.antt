@@ -1,10 +1,8 @@
 use Prim.Native.Nat.{◌+◌, ◌-◌}
-use mathlib.Core.Path.{◌≡◌, refl}
+use mathlib.Core.Path.{◌≡◌}
 use lib.ListN.{length, drop}
 use Rattle.octets.specs.Class.{is_blank}
 use Rattle.octets.specs.Text.{span_len}
-use Rattle.octets.proofs.Texts.{span-step, span-end}
-use Rattle.octets.proofs.Kit.{kit}
 use Rattle.octets.proofs.blank_end.Given as goal
 
 abbrev pub invariant-loop-i : goal.invariant-loop-i

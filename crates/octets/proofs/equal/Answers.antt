@@ -1,11 +1,6 @@
-use Prim.Native.Nat.{◌-◌}
-use mathlib.Core.Path.{◌≡◌, sym, ◌∙◌}
-use mathlib.Core.List.{map}
+use mathlib.Core.Path.{sym, ◌∙◌}
 use native.Mathlib.Omega.{arith}
-use lib.ListN.{length, drop}
-use Rattle.octets.specs.Text.{same_text}
-use Rattle.octets.proofs.Texts.{same_more, same_stop, same-done, same_length, itself, map-itself}
-use Rattle.octets.proofs.Kit.{kit}
+use Rattle.octets.proofs.Texts.{same_more, same_stop, same-done, same_length, itself}
 use Rattle.octets.proofs.equal.Goals as goal
 
 pub loop-i-preserved : goal.loop-i-preserved

@@ -1,8 +1,3 @@
-use Prim.Native.Nat.{◌+◌, ◌-◌, ◌≤◌}
-use mathlib.Core.Path.{◌≡◌, refl}
-use native.Mathlib.Omega.{arith}
-use lib.ListN.{length, drop}
-use Rattle.octets.specs.Text.{span_len, is_other}
 use Rattle.octets.proofs.Texts.{other-not, other-is, span-step, span-end}
 use Rattle.octets.proofs.Kit.{kit}
 use Rattle.octets.proofs.find.Goals as goal

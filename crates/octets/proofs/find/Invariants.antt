@@ -1,10 +1,7 @@
 use Prim.Native.Nat.{◌+◌, ◌-◌, ◌≤◌}
-use mathlib.Core.Path.{◌≡◌, refl}
-use native.Mathlib.Omega.{arith}
+use mathlib.Core.Path.{◌≡◌}
 use lib.ListN.{length, drop}
 use Rattle.octets.specs.Text.{span_len, is_other}
-use Rattle.octets.proofs.Texts.{other-not, other-is, span-step, span-end}
-use Rattle.octets.proofs.Kit.{kit}
 use Rattle.octets.proofs.find.Given as goal
 
 abbrev pub invariant-loop-i : goal.invariant-loop-i

@@ -1,5 +1,4 @@
 use Rattle.octets.specs.Text.{is_lower}
-use Rattle.octets.proofs.Kit.{kit}
 use Rattle.octets.proofs.is_lower.Goals as goal
 
 pub returns : goal.returns

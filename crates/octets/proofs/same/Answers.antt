@@ -1,11 +1,9 @@
-use Prim.Native.Nat.{◌-◌}
-use mathlib.Core.Path.{◌≡◌, sym, ◌∙◌}
+use mathlib.Core.Path.{sym, ◌∙◌}
 use mathlib.Core.List.{map}
 use native.Mathlib.Omega.{arith}
-use lib.ListN.{length, drop, length-map}
-use Rattle.octets.specs.Text.{lower_of, same_text}
-use Rattle.octets.proofs.Texts.{same_more, same_stop, same-done, same_length, itself, map-itself}
-use Rattle.octets.proofs.Kit.{kit}
+use lib.ListN.{length-map}
+use Rattle.octets.specs.Text.{lower_of}
+use Rattle.octets.proofs.Texts.{same_more, same_stop, same-done, same_length, itself}
 use Rattle.octets.proofs.same.Goals as goal
 
 pub loop-i-preserved : goal.loop-i-preserved

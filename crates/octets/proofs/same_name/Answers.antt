@@ -1,11 +1,8 @@
-use Prim.Native.Nat.{◌-◌}
-use mathlib.Core.Path.{◌≡◌, refl, sym, ◌∙◌}
-use mathlib.Core.List.{map}
+use mathlib.Core.Path.{sym, ◌∙◌}
 use native.Mathlib.Omega.{arith}
-use lib.ListN.{length, drop, length-map}
-use Rattle.octets.specs.Text.{lower_of, same_text}
+use lib.ListN.{length-map}
+use Rattle.octets.specs.Text.{lower_of}
 use Rattle.octets.proofs.Texts.{same_more, same_stop, same-done, same_length}
-use Rattle.octets.proofs.Kit.{kit}
 use Rattle.octets.proofs.same_name.Goals as goal
 
 pub loop-i-preserved : goal.loop-i-preserved

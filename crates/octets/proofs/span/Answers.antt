@@ -1,10 +1,4 @@
-use Prim.Native.Nat.{◌+◌, ◌-◌}
-use mathlib.Core.Path.{◌≡◌, refl}
-use lib.ListN.{length, drop}
-use Rattle.octets.specs.Table.{has_in}
-use Rattle.octets.specs.Text.{span_len}
 use Rattle.octets.proofs.Texts.{span-step, span-end}
-use Rattle.octets.proofs.Kit.{kit}
 use Rattle.octets.proofs.span.Goals as goal
 
 pub loop-i-preserved : goal.loop-i-preserved

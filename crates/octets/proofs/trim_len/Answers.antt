@@ -1,8 +1,3 @@
-use Prim.Native.Nat.{◌≤◌}
-use mathlib.Core.Path.{◌≡◌, refl}
-use lib.ListN.{length}
-use Rattle.octets.specs.Class.{is_blank}
-use Rattle.octets.specs.Text.{trim_back}
 use Rattle.octets.proofs.Texts.{trim-step, trim-none}
 use Rattle.octets.proofs.Kit.{kit}
 use Rattle.octets.proofs.trim_len.Goals as goal

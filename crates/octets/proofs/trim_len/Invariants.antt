@@ -1,10 +1,8 @@
 use Prim.Native.Nat.{◌≤◌}
-use mathlib.Core.Path.{◌≡◌, refl}
+use mathlib.Core.Path.{◌≡◌}
 use lib.ListN.{length}
 use Rattle.octets.specs.Class.{is_blank}
 use Rattle.octets.specs.Text.{trim_back}
-use Rattle.octets.proofs.Texts.{trim-step, trim-none}
-use Rattle.octets.proofs.Kit.{kit}
 use Rattle.octets.proofs.trim_len.Given as goal
 
 abbrev pub invariant-loop-n : goal.invariant-loop-n

@@ -2,7 +2,6 @@ use mathlib.Core.Path.{sym, ◌∙◌}
 use native.Mathlib.Omega.{arith}
 use Rattle.script.specs.Script.{cr_state}
 use Rattle.script.proofs.Lines.{line-out, line-none, line-lf, line_on}
-use borrow.Author.Rules.{rules}
 use Rattle.script.proofs.after_cr.Goals as goal
 
 pub returns-then-allowance-eq0 : goal.returns-then-allowance-eq0

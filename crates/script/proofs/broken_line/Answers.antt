@@ -1,9 +1,7 @@
-use Prim.Native.Nat.{◌+◌, ◌-◌, ◌≤◌}
-use mathlib.Core.Path.{◌≡◌, sym, ◌∙◌}
+use mathlib.Core.Path.{sym, ◌∙◌}
 use native.Mathlib.Omega.{arith}
-use lib.ListN.{length, drop}
-use Rattle.script.specs.Script.{line_of, cr_state}
-use Rattle.script.proofs.Lines.{search-start, search-long, search-more, search-lf, search-on}
+use Rattle.script.specs.Script.{cr_state}
+use Rattle.script.proofs.Lines.{search-long, search-more, search-lf, search-on}
 use Rattle.script.proofs.broken_line.Goals as goal
 
 pub returns-then-s-i-eq10 : goal.returns-then-s-i-eq10

@@ -1,9 +1,7 @@
-use Prim.Native.Nat.{◌+◌, ◌-◌, ◌≤◌}
-use mathlib.Core.Path.{◌≡◌, sym, ◌∙◌}
-use native.Mathlib.Omega.{arith}
-use lib.ListN.{length, drop}
-use Rattle.script.specs.Script.{line_of, cr_state}
-use Rattle.script.proofs.Lines.{search-start, search-long, search-more, search-lf, search-on}
+use Prim.Native.Nat.{◌-◌, ◌≤◌}
+use mathlib.Core.Path.{◌≡◌}
+use lib.ListN.{drop}
+use Rattle.script.specs.Script.{line_of}
 use Rattle.script.proofs.broken_line.Given as goal
 
 abbrev pub invariant-loop-i : goal.invariant-loop-i

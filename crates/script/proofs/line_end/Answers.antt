@@ -1,10 +1,6 @@
-use Prim.Native.Nat.{◌+◌, ◌-◌, ◌≤◌}
-use mathlib.Core.Path.{◌≡◌, sym, ◌∙◌}
-use mathlib.Core.Logic.{⊎_elim}
+use mathlib.Core.Path.{sym, ◌∙◌}
 use native.Mathlib.Omega.{arith}
-use lib.ListN.{length, drop}
-use Rattle.script.specs.Script.{line_of}
-use Rattle.script.proofs.Lines.{search-start, search-long, search-more, search-lf, search-cr, search-plain}
+use Rattle.script.proofs.Lines.{search-long, search-more, search-lf, search-cr, search-plain}
 use Rattle.script.proofs.line_end.Goals as goal
 use Rattle.script.proofs.line_end.Goals.{then-b-lt14+else-b-eq10+else-b-eq13, else-b-lt14}
 

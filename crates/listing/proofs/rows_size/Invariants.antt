@@ -1,0 +1,15 @@
+use borrow.Author.Rules.{rules}
+use Prim.Native.Nat.{ℕ, ◌+◌, ◌-◌, ◌*◌, ◌≤◌, ◌<◌}
+use mathlib.Core.Path.{◌≡◌, refl, sym, ap, ◌∙◌}
+use native.Mathlib.Omega.{arith}
+use lib.ListN.{length}
+use Rattle.octets.specs.Table.{classes}
+use Rattle.listing.specs.Rows.{rows_at}
+use Rattle.listing.proofs.Laws.{row_last, row-follows, end-length, Follows}
+use Rattle.listing.proofs.rows_size.Given as goal
+
+abbrev pub invariant-loop-place : goal.invariant-loop-place
+invariant-loop-place l = (l.t ≡ classes) × (l.at ≤ length l.s) × (l.i ≤ l.at + 1) × (l.size ≤ l.at * 126) × (l.size + length (rows_at l.s l.i l.at) ≡ length (rows_at l.s 1 0))
+
+abbrev pub decreases-loop-place : goal.decreases-loop-place
+decreases-loop-place l = length l.s - l.at
