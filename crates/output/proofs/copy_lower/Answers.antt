@@ -1,10 +1,8 @@
-use mathlib.Core.Path.{◌≡◌, refl, ap, ◌∙◌}
+use mathlib.Core.Path.{refl, ap, ◌∙◌}
 use mathlib.Core.List.{map}
-use Prim.Native.Nat.{ℕ, ◌+◌, ◌-◌, ◌≤◌}
-use native.Mathlib.Nat.{add-zero, sub-zero}
-use lib.ListN.{length, length-set, length-map}
+use Prim.Native.Nat.{ℕ, ◌+◌, ◌-◌}
+use lib.ListN.{length-set, length-map}
 use borrow.Author.Rules.{rules}
-use Rattle.output.specs.Splice.{splice, part}
 use Rattle.octets.specs.Text.{lower_of}
 use Rattle.output.proofs.Laws.{elements-length, elements-more, elements-none, put-turn}
 use Rattle.output.proofs.copy_lower.Goals as goal

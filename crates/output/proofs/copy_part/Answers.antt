@@ -1,9 +1,7 @@
-use mathlib.Core.Path.{◌≡◌, refl, ◌∙◌}
-use Prim.Native.Nat.{ℕ, ◌+◌, ◌-◌, ◌≤◌}
-use native.Mathlib.Nat.{add-zero, sub-zero}
-use lib.ListN.{length, length-set}
+use mathlib.Core.Path.{refl, ◌∙◌}
+use Prim.Native.Nat.{ℕ, ◌+◌, ◌-◌}
+use lib.ListN.{length-set}
 use borrow.Author.Rules.{rules}
-use Rattle.output.specs.Splice.{splice, part}
 use Rattle.output.proofs.Laws.{elements-length, elements-more, elements-none, put-turn}
 use Rattle.output.proofs.copy_part.Goals as goal
 
