@@ -1,0 +1,14 @@
+use borrow.Author.Rules.{rules}
+use Prim.Native.Nat.{ℕ, ◌+◌, ◌-◌, ◌*◌, ◌%◌, ◌≤◌, ◌<◌}
+use mathlib.Core.Path.{◌≡◌, refl, sym, ap, subst, ◌∙◌}
+use native.Mathlib.Omega.{arith}
+use lib.ListN.{length}
+use Rattle.octets.specs.Table.{classes}
+use Rattle.bundle.proofs.Walks.{Walking, walking_start, walking-end, walking-next, here, more-come, next-within}
+use Rattle.bundle.proofs.reader.walk_into.Given as goal
+
+abbrev pub invariant-loop-number : goal.invariant-loop-number
+invariant-loop-number l = (l.t ≡ classes) × (length l.scratch ≡ length l.initial.scratch) × Walking l.s l.initial.out l.out l.count l.at
+
+abbrev pub decreases-loop-number : goal.decreases-loop-number
+decreases-loop-number l = length l.s - l.at
