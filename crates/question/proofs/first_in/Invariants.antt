@@ -1,0 +1,12 @@
+use Prim.Native.Nat.{ℕ, ◌+◌, ◌-◌, ◌≤◌}
+use mathlib.Core.Path.{◌≡◌, refl, sym, ap, ◌∙◌}
+use native.Mathlib.Omega.{arith}
+use Rattle.question.specs.Asking.{found_in}
+use Rattle.question.proofs.Laws.{found_here, found-behind, found_none, found_all}
+use Rattle.question.proofs.first_in.Given as goal
+
+abbrev pub invariant-loop-i : goal.invariant-loop-i
+invariant-loop-i l = (l.i ≤ l.n) × (found_in l.name l.s l.ranges (l.k + l.i) (l.n - l.i) ≡ found_in l.name l.s l.ranges l.k l.n)
+
+abbrev pub decreases-loop-i : goal.decreases-loop-i
+decreases-loop-i l = l.n - l.i

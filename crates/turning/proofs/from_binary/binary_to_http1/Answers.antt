@@ -1,0 +1,14 @@
+use borrow.Author.Rules.{rules}
+use native.Mathlib.Omega.{arith}
+use mathlib.Core.Path.{◌≡◌, refl, sym, ap, ◌∙◌}
+use Rattle.turning.proofs.Replies.{told-edition, told-scheme, told-other}
+use Rattle.turning.proofs.from_binary.binary_to_http1.Goals as goal
+
+pub returns-then-is_scheme : goal.returns-then-is_scheme
+returns-then-is_scheme c = told-scheme c.args.told c.args.input.now (sym c.is_edition.ensures ∙ c.if-is_edition.true) (sym c.is_scheme.ensures ∙ c.if-is_scheme.true) c.turn_http1.ensures
+
+pub returns-then-is_edition : goal.returns-then-is_edition
+returns-then-is_edition c = told-other c.args.told c.args.input.now (sym c.is_edition.ensures ∙ c.if-is_edition.true) _ (sym c.is_scheme.ensures ∙ c.if-is_scheme.false)
+
+pub returns : goal.returns
+returns c = told-edition c.args.told c.args.input.now _ (sym c.is_edition.ensures ∙ c.if-is_edition.false)
