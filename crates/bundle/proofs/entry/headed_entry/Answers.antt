@@ -1,7 +1,6 @@
-use borrow.Author.Rules.{rules}
-use mathlib.Core.Path.{◌≡◌, refl, sym, ap, subst, ◌∙◌}
+use mathlib.Core.Path.{sym, ◌∙◌}
 use native.Mathlib.Omega.{arith}
-use lib.ListN.{length, drop, length-drop}
+use lib.ListN.{drop, length-drop}
 use Rattle.bundle.proofs.Heads.{head-flock, head-kind, head-long, head-cut, head-good, head-bad, lent-text}
 use Rattle.bundle.proofs.entry.headed_entry.Goals as goal
 

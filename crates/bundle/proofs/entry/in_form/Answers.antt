@@ -1,8 +1,5 @@
-use borrow.Author.Rules.{rules}
 use Rattle.messages.specs.Meaning.{meaning}
 use Rattle.binary_writer.specs.Write.{to_binary}
-use mathlib.Core.Path.{◌≡◌, refl, sym, ap, subst, ◌∙◌}
-use Rattle.output.specs.Reply.{Served}
 use Rattle.bundle.proofs.Messages.{small, form-refused, done-stand, form-done, served-as}
 use Rattle.bundle.proofs.entry.in_form.Goals as goal
 

@@ -1,5 +1,3 @@
-use borrow.Author.Rules.{rules}
-use mathlib.Core.Path.{◌≡◌, refl, sym, ap, subst, ◌∙◌}
 use Rattle.bundle.proofs.Messages.{told-nothing, message-held, verdict-more, verdict-refused, verdict-other, verdict-good, verdict-formless}
 use Rattle.bundle.proofs.entry.judge_message.Goals as goal
 

@@ -1,5 +1,3 @@
-use borrow.Author.Rules.{rules}
-use native.Mathlib.Omega.{arith}
 use Rattle.bundle.proofs.Heads.{next-end, next-cut, next-full, next-headed}
 use Rattle.bundle.proofs.entry.next_entry.Goals as goal
 

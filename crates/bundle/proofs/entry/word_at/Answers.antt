@@ -1,4 +1,3 @@
-use borrow.Author.Rules.{rules}
 use Rattle.bundle.proofs.Heads.{word_at}
 use Rattle.bundle.proofs.entry.word_at.Goals as goal
 

@@ -1,6 +1,5 @@
-use borrow.Author.Rules.{rules}
-use mathlib.Core.Path.{◌≡◌, refl, sym, ap, subst, ◌∙◌}
-use Rattle.bundle.proofs.Lists.{bundle-count, list-stops, list-flockless, list-served}
+use mathlib.Core.Path.{sym, ◌∙◌}
+use Rattle.bundle.proofs.Lists.{list-stops, list-flockless, list-served}
 use Rattle.bundle.proofs.list.flock_list.Goals as goal
 
 pub returns-then-is_flock : goal.returns-then-is_flock

@@ -1,9 +1,5 @@
-use borrow.Author.Rules.{rules}
-use Prim.Native.Nat.{ℕ, ◌+◌, ◌-◌, ◌*◌, ◌%◌, ◌≤◌, ◌<◌}
-use mathlib.Core.Path.{◌≡◌, refl, sym, ap, subst, ◌∙◌}
-use native.Mathlib.Omega.{arith}
-use lib.ListN.{length}
-use Rattle.bundle.proofs.Lists.{Passing, passing-start, passing-next, whole, stood-small, Sizing, sizing-start, sizing-next, sizing-end}
+use Prim.Native.Nat.{◌-◌}
+use Rattle.bundle.proofs.Lists.{passing-start, passing-next, whole, sizing-start, sizing-next, sizing-end}
 use Rattle.bundle.proofs.list.list_size.Goals as goal
 
 pub loop-i-init : goal.loop-i-init

@@ -1,9 +1,5 @@
-use borrow.Author.Rules.{rules}
-use Prim.Native.Nat.{ℕ, ◌+◌, ◌-◌, ◌*◌, ◌%◌, ◌≤◌, ◌<◌}
-use mathlib.Core.Path.{◌≡◌, refl, sym, ap, subst, ◌∙◌}
-use native.Mathlib.Omega.{arith}
-use lib.ListN.{length}
-use Rattle.bundle.proofs.Lists.{Passing, passing-start, passing-next, whole, stood-small, Sizing, sizing-start, sizing-next, sizing-end}
+use Prim.Native.Nat.{◌-◌}
+use Rattle.bundle.proofs.Lists.{Passing, Sizing}
 use Rattle.bundle.proofs.list.list_size.Given as goal
 
 abbrev pub invariant-loop-i : goal.invariant-loop-i

@@ -1,5 +1,4 @@
 use Prim.Native.Nat.{ℕ}
-use borrow.Author.Rules.{rules}
 use mathlib.Core.Path.{refl}
 use Rattle.output.proofs.Laws.{elements-length}
 use Rattle.output.proofs.Room.{put-not}

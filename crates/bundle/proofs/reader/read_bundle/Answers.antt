@@ -1,5 +1,3 @@
-use borrow.Author.Rules.{rules}
-use mathlib.Core.Path.{◌≡◌, refl, sym, ap, subst, ◌∙◌}
 use Rattle.bundle.proofs.Walks.{by_value}
 use Rattle.bundle.proofs.reader.read_bundle.Goals as goal
 

@@ -1,10 +1,7 @@
-use borrow.Author.Rules.{rules}
-use Prim.Native.Nat.{ℕ, ◌+◌, ◌-◌, ◌*◌, ◌%◌, ◌≤◌, ◌<◌}
-use mathlib.Core.Path.{◌≡◌, refl, sym, ap, subst, ◌∙◌}
+use Prim.Native.Nat.{◌-◌}
+use mathlib.Core.Path.{refl, sym, ◌∙◌}
 use native.Mathlib.Omega.{arith}
-use lib.ListN.{length}
-use Rattle.octets.specs.Table.{classes}
-use Rattle.bundle.proofs.Walks.{Walking, walking_start, walking-end, walking-next, here, more-come, next-within}
+use Rattle.bundle.proofs.Walks.{walking_start, walking-end, walking-next, more-come, next-within}
 use Rattle.bundle.proofs.reader.walk_into.Goals as goal
 
 pub loop-number-init : goal.loop-number-init

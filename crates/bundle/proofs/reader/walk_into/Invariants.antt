@@ -1,10 +1,8 @@
-use borrow.Author.Rules.{rules}
-use Prim.Native.Nat.{ℕ, ◌+◌, ◌-◌, ◌*◌, ◌%◌, ◌≤◌, ◌<◌}
-use mathlib.Core.Path.{◌≡◌, refl, sym, ap, subst, ◌∙◌}
-use native.Mathlib.Omega.{arith}
+use Prim.Native.Nat.{◌-◌}
+use mathlib.Core.Path.{◌≡◌}
 use lib.ListN.{length}
 use Rattle.octets.specs.Table.{classes}
-use Rattle.bundle.proofs.Walks.{Walking, walking_start, walking-end, walking-next, here, more-come, next-within}
+use Rattle.bundle.proofs.Walks.{Walking}
 use Rattle.bundle.proofs.reader.walk_into.Given as goal
 
 abbrev pub invariant-loop-number : goal.invariant-loop-number
