@@ -33,7 +33,9 @@ def turned(text, said, lemmas=False):
         said.add(m.group(0))
         return snake(m.group(0))
 
-    return CAMEL.sub(one, text)
+    # texts in quotes stay as they are
+    parts = re.split(r'("(?:[^"\\\n]|\\.)*")', text)
+    return "".join(p if i % 2 else CAMEL.sub(one, p) for i, p in enumerate(parts))
 
 
 def texts(root):

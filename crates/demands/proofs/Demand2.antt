@@ -139,12 +139,12 @@ request-replies t s = go (is_scheme t.scheme) (run (script.request t) 0 s)
     go : (b : Bool) (x : Answer Message)
         → turn.reply_from (length s) (cond b x (refused not_supported 0)) to_binary
         ≡ cond b (reply_for (requests_as_binary t) (length s) (cond b x (refused not_supported 0))) (refuses not_supported 0)
-    go true x = binary-reply t _ _ _ (length s) x
+    go true x = binary-reply t true (is_scheme t.scheme) (read_request t) (length s) x
     go false x = refl
 
 response-replies : (t : Told) (s : List ℕ) → response_to_binary t s ≡ reply_to (responses_as_binary t) s
 unfolding response_to_binary
-response-replies t s = binary-reply t _ _ _ (length s) (read_response t s)
+response-replies t s = binary-reply t true true (read_response t) (length s) (read_response t s)
 
 anew-replies : (t : Told) (s : List ℕ) → binary_to_binary t s ≡ reply_to (binary_anew t) s
 unfolding binary_to_binary read_binary
@@ -153,7 +153,7 @@ anew-replies t s = go (is_edition t.edition) (read_sized t s)
     go : (b : Bool) (x : Answer Message)
         → turn.reply_from (length s) (cond b x (refused bad_edition 0)) to_binary
         ≡ cond b (reply_for (binary_anew t) (length s) (cond b x (refused bad_edition 0))) (refuses bad_edition 0)
-    go true x = binary-reply t _ _ _ (length s) x
+    go true x = binary-reply t (is_edition t.edition) true (read_binary t) (length s) x
     go false x = refl
 
 -- ---- into HTTP/1.1

@@ -25,7 +25,7 @@ to_head = answering 1 http
 
 -- a HEAD
 unfoldable pub head_text : List ℕ
-head_text = ascii "HEAD /s HTTP/1.1\r\n_host: a\r\n\r\n"
+head_text = ascii "HEAD /s HTTP/1.1\r\nHost: a\r\n\r\n"
 
 -- a response that states a length of twelve digits
 unfoldable pub stated_text : List ℕ
@@ -281,11 +281,11 @@ targets =
     ∷ http1 (long_query 4094) 14 0
     ∷ http1 (long_authority 255) 14 0
     ∷ http1_as (plain 1) (line_to "GET http://a") 14 0
-    ∷ http1_as (plain 1) (request_to "GET h_t_tp_s://a") 0 34
+    ∷ http1_as (plain 1) (request_to "GET hTTpS://a") 0 34
     -- Host stands once, whatever its value; else 6 behind the head
     ∷ http1 (line_to "GET http://a/" ++ ascii "Host:\r\n\r\n") 0 33
     ∷ http1 (line_to "GET http://a/" ++ ascii "\r\n") 6 26
-    ∷ http1 (line_to "GET http://a/" ++ ascii "Host:a\r\n_host:a\r\n\r\n") 6 42
+    ∷ http1 (line_to "GET http://a/" ++ ascii "Host:a\r\nHost:a\r\n\r\n") 6 42
     -- the authority is the target's; the path's range shows the target's own octets, and stands at its end where there are none
     ∷ aims (request_to "GET http://a/") (part_at 11 1) prefix.Nothing (part_at 12 1)
     ∷ aims (request_to "GET http://a") (part_at 11 1) prefix.Slash (part_at 12 0)
@@ -310,7 +310,7 @@ targets =
 
 -- a GET with these header lines behind its host
 abbrev pub get_with : String → List ℕ
-get_with lines = ascii "GET / HTTP/1.1\r\n_host:a\r\n" ++ ascii lines ++ ascii "\r\n"
+get_with lines = ascii "GET / HTTP/1.1\r\nHost:a\r\n" ++ ascii lines ++ ascii "\r\n"
 
 -- the same as Binary, up to its header section
 unfoldable pub get_binary : List ℕ
@@ -328,28 +328,28 @@ unfoldable pub named : List Example
 named =
     -- a field is dropped that a Connection line names, before it or behind it; another is kept
     becomes (get_with "Connection:x\r\nx:y\r\n") none_kept
-    ∷ becomes (get_with "x:y\r\n_connection:x\r\n") none_kept
+    ∷ becomes (get_with "x:y\r\nConnection:x\r\n") none_kept
     ∷ becomes (get_with "Connection:xx\r\nx:y\r\n") one_kept
     -- by any of several lines, and by any member: letters in any case on both sides, spaces and tabs at the ends, empty members beside it
-    ∷ becomes (get_with "Connection:close\r\n_x:y\r\n_connection:x\r\n") none_kept
-    ∷ becomes (get_with "x:y\r\nc_onnection:,\t, X \t,\r\n") none_kept
+    ∷ becomes (get_with "Connection:close\r\nX:y\r\nConnection:x\r\n") none_kept
+    ∷ becomes (get_with "x:y\r\ncOnnection:,\t, X \t,\r\n") none_kept
     -- every comma splits, within quotes too; a member that is no token names nothing
-    ∷ becomes (get_with "x:y\r\n_connection:\"a,x,b\"\r\n") none_kept
-    ∷ becomes (get_with "x:y\r\n_connection:\"x\", x y\r\n") one_kept
+    ∷ becomes (get_with "x:y\r\nConnection:\"a,x,b\"\r\n") none_kept
+    ∷ becomes (get_with "x:y\r\nConnection:\"x\", x y\r\n") one_kept
     -- Proxy-Connection names nothing, and Connection may name itself
-    ∷ becomes (get_with "x:y\r\n_proxy-Connection:x\r\n") one_kept
-    ∷ becomes (get_with "x:y\r\n_connection:connection\r\n") one_kept
+    ∷ becomes (get_with "x:y\r\nProxy-Connection:x\r\n") one_kept
+    ∷ becomes (get_with "x:y\r\nConnection:connection\r\n") one_kept
     -- host and lengths are judged on the whole section first
-    ∷ becomes (get_with "Connection:host, content-length\r\n_content-Length:1\r\n" ++ ascii "b") (get_binary ++ hex "00 0162 00")
-    ∷ http1 (get_with "Connection:content-length\r\n_content-Length:1\r\n_content-Length:1\r\n") 7 89
+    ∷ becomes (get_with "Connection:host, content-length\r\nContent-Length:1\r\n" ++ ascii "b") (get_binary ++ hex "00 0162 00")
+    ∷ http1 (get_with "Connection:content-length\r\nContent-Length:1\r\nContent-Length:1\r\n") 7 89
     -- each informational head by its own lines; host of a response is dropped where it is named
     ∷ reply_becomes
     http
-    (ascii "HTTP/1.1 103 \r\n_connection:x\r\nx:y\r\n\r\n_h_tt_p/1.1 204 \r\nx:y\r\nhost:b\r\n_connection:host\r\n\r\n")
+    (ascii "HTTP/1.1 103 \r\nConnection:x\r\nx:y\r\n\r\nHTTP/1.1 204 \r\nx:y\r\nhost:b\r\nConnection:host\r\n\r\n")
     (hex "01 4067 00 40cc 04 01780179 00 00")
     -- trailers: a head's line names none of them, and one of theirs names nothing
     ∷ becomes
-    (get_with "Connection:x\r\n_transfer-Encoding:chunked\r\n" ++ ascii "0\r\nx:y\r\n_connection:x\r\n\r\n")
+    (get_with "Connection:x\r\nTransfer-Encoding:chunked\r\n" ++ ascii "0\r\nx:y\r\nConnection:x\r\n\r\n")
     (get_binary ++ hex "00 00 04 01780179")
     -- Binary alike
     ∷ anew_as http (get_binary ++ hex "12 01780179 0a" ++ ascii "connection" ++ hex "0278 2c 00 00") none_kept

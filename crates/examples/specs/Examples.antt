@@ -159,11 +159,11 @@ AllHold (e ∷ es) = Holds e × AllHold es
 
 -- input A
 unfoldable pub post_text : List ℕ
-post_text = ascii "POST /s HTTP/1.1\r\n_host: a\r\n_content-Length: 3\r\n\r\nabc"
+post_text = ascii "POST /s HTTP/1.1\r\nHost: a\r\nContent-Length: 3\r\n\r\nabc"
 
 -- input A with Transfer-Encoding behind its length line
 unfoldable pub two_lengths : List ℕ
-two_lengths = ascii "POST /s HTTP/1.1\r\n_host: a\r\n_content-Length: 3\r\n_transfer-Encoding: chunked\r\n\r\nabc"
+two_lengths = ascii "POST /s HTTP/1.1\r\nHost: a\r\nContent-Length: 3\r\nTransfer-Encoding: chunked\r\n\r\nabc"
 
 -- what P5 becomes
 unfoldable pub post_binary : List ℕ

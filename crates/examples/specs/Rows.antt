@@ -60,7 +60,7 @@ short_lines (l ∷ ls) = ascii "a:\r\n" ++ short_lines ls
 
 -- the head of a request with chunked content: 51 octets
 unfoldable pub chunked_head : List ℕ
-chunked_head = ascii "P / HTTP/1.1\r\n_host:a\r\n_transfer-Encoding:chunked\r\n\r\n"
+chunked_head = ascii "P / HTTP/1.1\r\nHost:a\r\nTransfer-Encoding:chunked\r\n\r\n"
 
 -- which of two rules is judged first, and where the refusal stands
 unfoldable pub orders : List Example
@@ -80,8 +80,8 @@ orders =
     -- a bad 65th line: 8 at the line
     ∷ http1 (ascii "G / HTTP/1.1\r\n" ++ short_lines (replicate 64 []) ++ ascii "b\r\n") 8 270
     -- an oversize length: 8 at its line, behind the head's 6
-    ∷ http1 (ascii "G / HTTP/1.1\r\n_content-Length:32769\r\n\r\n") 6 38
-    ∷ http1 (ascii "G / HTTP/1.1\r\n_host:a\r\n_content-Length:32769\r\n\r\n") 8 22
+    ∷ http1 (ascii "G / HTTP/1.1\r\nContent-Length:32769\r\n\r\n") 6 38
+    ∷ http1 (ascii "G / HTTP/1.1\r\nHost:a\r\nContent-Length:32769\r\n\r\n") 8 22
     -- a bad chunk end: 2 behind the data
     ∷ http1 (chunked_head ++ ascii "1\r\nxyz") 2 55
     -- `host` in trailers: 7 behind the section, in both forms
@@ -104,7 +104,7 @@ small_chunks (c ∷ cs) = ascii "1\r\nx\r\n" ++ small_chunks cs
 
 -- a request with a host, up to the line that stands behind
 unfoldable pub host_head : List ℕ
-host_head = ascii "G / HTTP/1.1\r\n_host:a\r\n"
+host_head = ascii "G / HTTP/1.1\r\nHost:a\r\n"
 
 -- informational heads of 17 octets
 abbrev pub informational_heads : List (List ℕ) → List ℕ
@@ -115,11 +115,11 @@ informational_heads (h ∷ hs) = ascii "HTTP/1.1 100 \r\n\r\n" ++ informational_
 unfoldable pub limits : List Example
 limits =
     -- method
-    http1 (replicate 32 65 ++ ascii " / HTTP/1.1\r\n_host:a\r\n\r\n") 0 55
+    http1 (replicate 32 65 ++ ascii " / HTTP/1.1\r\nHost:a\r\n\r\n") 0 55
     ∷ http1 (replicate 33 65 ++ ascii " / HTTP/1.1\r\n") 8 0
     -- authority, in both forms
-    ∷ http1 (ascii "G / HTTP/1.1\r\n_host:" ++ replicate 255 97 ++ ascii "\r\n\r\n") 0 278
-    ∷ http1 (ascii "G / HTTP/1.1\r\n_host:" ++ replicate 256 97 ++ ascii "\r\n\r\n") 6 279
+    ∷ http1 (ascii "G / HTTP/1.1\r\nHost:" ++ replicate 255 97 ++ ascii "\r\n\r\n") 0 278
+    ∷ http1 (ascii "G / HTTP/1.1\r\nHost:" ++ replicate 256 97 ++ ascii "\r\n\r\n") 6 279
     ∷ binary (hex "00 0147 0468747470 40ff") 9 8
     ∷ binary (hex "00 0147 0468747470 4100") 8 8
     -- path
@@ -172,7 +172,7 @@ writings =
     ∷ goes_as http post_binary (ascii "POST /s HTTP/1.1\r\nhost: a\r\ncontent-length: 3\r\n\r\nabc")
     -- Figure 13: in chunks, since it has a trailer
     ∷ goes_as http figure13
-    (ascii "HTTP/1.1 200 \r\ntransfer-encoding: chunked\r\n\r\n1d\r\n_this content contains CRLF.\r\n\r\n0\r\ntrailer: text\r\n\r\n")
+    (ascii "HTTP/1.1 200 \r\ntransfer-encoding: chunked\r\n\r\n1d\r\nThis content contains CRLF.\r\n\r\n0\r\ntrailer: text\r\n\r\n")
     -- an empty GET and a 204: no length line
     ∷ goes_as http empty_get (ascii "GET /s HTTP/1.1\r\nhost: a\r\n\r\n")
     ∷ goes_as http (hex "01 40cc 00 00 00") (ascii "HTTP/1.1 204 \r\n\r\n")
@@ -182,7 +182,7 @@ writings =
 
 -- 01's stream: A, and a GET of 28 octets
 unfoldable pub stream_text : List ℕ
-stream_text = post_text ++ ascii "GET /t HTTP/1.1\r\n_host: a\r\n\r\n"
+stream_text = post_text ++ ascii "GET /t HTTP/1.1\r\nHost: a\r\n\r\n"
 
 -- the first line of every listing
 unfoldable pub title_text : List ℕ
@@ -194,11 +194,11 @@ listing_text = title_text ++ ascii "1 0 51 0 3 0\n2 51 28 0 0 0\nend 79 0\n"
 
 -- a field whose name is in upper case
 unfoldable pub upper_text : List ℕ
-upper_text = ascii "G / HTTP/1.1\r\n_host:a\r\n_x: y\r\n\r\n"
+upper_text = ascii "G / HTTP/1.1\r\nHost:a\r\nX: y\r\n\r\n"
 
 -- two chunks, and a field in the header and in the trailers
 unfoldable pub ranged_text : List ℕ
-ranged_text = ascii "P /s HTTP/1.1\r\n_host: a\r\n_x: y\r\n_transfer-Encoding: chunked\r\n\r\n2\r\nab\r\n1;e\r\nc\r\n0\r\n_z:w\r\n\r\n"
+ranged_text = ascii "P /s HTTP/1.1\r\nHost: a\r\nX: y\r\nTransfer-Encoding: chunked\r\n\r\n2\r\nab\r\n1;e\r\nc\r\n0\r\nZ:w\r\n\r\n"
 
 -- place and length of a part
 abbrev pub part_of : Part → List ℕ

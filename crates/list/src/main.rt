@@ -1,6 +1,8 @@
 // Prints the listing of the request stream on standard input.
 #![tactic(auto)]
 
-fn main() {
-    lister::go(0);
+use std::io;
+
+fn main(rt: HostRuntime) -> io::Result<()> {
+    lister::go(&mut rt.reader(), &mut io::writer(&rt))
 }

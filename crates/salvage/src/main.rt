@@ -1,6 +1,8 @@
 // Prints what is kept of the octets on standard input.
 #![tactic(auto)]
 
-fn main() {
-    salvager::go(0);
+use std::io;
+
+fn main(rt: HostRuntime) -> io::Result<()> {
+    salvager::go(&mut rt.reader(), &mut io::writer(&rt))
 }

@@ -1,8 +1,4 @@
-use mathlib.Core.Path.{◌≡◌, refl, sym, ap, ◌∙◌}
-use native.Mathlib.Omega.{arith}
-use borrow.Author.Rules.{rules}
 use Rattle.ranges.proofs.Entries.{held-within, served-held}
-use borrow.Author.Rules.{rules}
 use Rattle.binary_writer.proofs.write_message.Goals as goal
 
 pub write_within-requires : goal.write_within-requires

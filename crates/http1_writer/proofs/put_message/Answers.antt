@@ -1,6 +1,4 @@
-use borrow.Author.Rules.{rules}
 use native.Mathlib.Omega.{arith}
-use mathlib.Core.Path.{◌≡◌, refl, sym, ap, ◌∙◌}
 use Rattle.http1_writer.proofs.Serving.{message-small, message-done}
 use Rattle.http1_writer.proofs.put_message.Goals as goal
 

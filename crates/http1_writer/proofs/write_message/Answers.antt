@@ -1,4 +1,3 @@
-use borrow.Author.Rules.{rules}
 use Rattle.ranges.proofs.Entries.{held-within, served-held}
 use Rattle.http1_writer.proofs.write_message.Goals as goal
 

@@ -1,6 +1,4 @@
-use borrow.Author.Rules.{rules}
-use native.Mathlib.Omega.{arith}
-use mathlib.Core.Path.{◌≡◌, refl, sym, ap, ◌∙◌}
+use mathlib.Core.Path.{sym, ◌∙◌}
 use Rattle.http1_writer.proofs.Serving.{served-other, served-large, served-fitting}
 use Rattle.http1_writer.proofs.write_named.Goals as goal
 

@@ -1,7 +1,4 @@
-use borrow.Author.Rules.{rules}
-use mathlib.Core.Path.{◌≡◌, refl, sym, ap, ◌∙◌}
 use native.Mathlib.Omega.{arith}
-use lib.ListN.{length}
 use Rattle.listing.proofs.Laws.{row-none, row-message, row-refused, refused-in, row_more}
 use Rattle.listing.proofs.next_row.Goals as goal
 

@@ -1,8 +1,6 @@
-use borrow.Author.Rules.{rules}
-use mathlib.Core.Path.{◌≡◌, refl, sym, ap, subst, ◌∙◌}
+use mathlib.Core.Path.{refl, sym, ◌∙◌}
 use native.Mathlib.Omega.{arith}
 use Rattle.listing.proofs.Laws.{end-length, titled-small, titled-done}
-use borrow.Author.Rules.{rules}
 use Rattle.listing.proofs.put_large.Goals as goal
 
 pub returns-then-out-n : goal.returns-then-out-n

@@ -1,15 +1,8 @@
-use borrow.Author.Rules.{rules}
-use Prim.Native.Nat.{ℕ, ◌+◌, ◌-◌, ◌*◌, ◌≤◌, ◌<◌}
-use mathlib.Core.Path.{◌≡◌, refl, sym, ap, ◌∙◌}
+use Prim.Native.Nat.{◌-◌}
+use mathlib.Core.Path.{sym, ap, ◌∙◌}
 use native.Mathlib.Omega.{arith}
 use lib.ListN.{length}
-use Rattle.octets.specs.Table.{classes}
-use Rattle.output.specs.Splice.{Left}
-use Rattle.output.proofs.Laws.{left-start}
-use Rattle.listing.specs.Rows.{rows_at}
-use Rattle.listing.proofs.Laws.{row_last, row-follows, end-length, Follows, left-row, left-last}
-use mathlib.Core.Path.{subst}
-use mathlib.Core.List.{List}
+use Rattle.listing.proofs.Laws.{row_last, row-follows, end-length, left-row, left-last}
 use Rattle.listing.proofs.put_rows.Goals as goal
 
 pub put_end-requires : goal.put_end-requires

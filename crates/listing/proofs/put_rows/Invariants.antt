@@ -1,15 +1,9 @@
-use borrow.Author.Rules.{rules}
-use Prim.Native.Nat.{ℕ, ◌+◌, ◌-◌, ◌*◌, ◌≤◌, ◌<◌}
-use mathlib.Core.Path.{◌≡◌, refl, sym, ap, ◌∙◌}
-use native.Mathlib.Omega.{arith}
+use Prim.Native.Nat.{◌+◌, ◌-◌, ◌≤◌}
+use mathlib.Core.Path.{◌≡◌}
 use lib.ListN.{length}
 use Rattle.octets.specs.Table.{classes}
 use Rattle.output.specs.Splice.{Left}
-use Rattle.output.proofs.Laws.{left-start}
 use Rattle.listing.specs.Rows.{rows_at}
-use Rattle.listing.proofs.Laws.{row_last, row-follows, end-length, Follows, left-row, left-last}
-use mathlib.Core.Path.{subst}
-use mathlib.Core.List.{List}
 use Rattle.listing.proofs.put_rows.Given as goal
 
 abbrev pub invariant-loop-place : goal.invariant-loop-place

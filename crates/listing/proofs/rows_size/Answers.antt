@@ -1,11 +1,8 @@
-use borrow.Author.Rules.{rules}
-use Prim.Native.Nat.{ℕ, ◌+◌, ◌-◌, ◌*◌, ◌≤◌, ◌<◌}
-use mathlib.Core.Path.{◌≡◌, refl, sym, ap, ◌∙◌}
+use Prim.Native.Nat.{◌-◌}
+use mathlib.Core.Path.{sym, ap, ◌∙◌}
 use native.Mathlib.Omega.{arith}
 use lib.ListN.{length}
-use Rattle.octets.specs.Table.{classes}
-use Rattle.listing.specs.Rows.{rows_at}
-use Rattle.listing.proofs.Laws.{row_last, row-follows, end-length, Follows}
+use Rattle.listing.proofs.Laws.{row_last, row-follows, end-length}
 use Rattle.listing.proofs.rows_size.Goals as goal
 
 pub returns-in-Stop : goal.returns-in-Stop

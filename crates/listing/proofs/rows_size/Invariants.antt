@@ -1,11 +1,8 @@
-use borrow.Author.Rules.{rules}
-use Prim.Native.Nat.{ℕ, ◌+◌, ◌-◌, ◌*◌, ◌≤◌, ◌<◌}
-use mathlib.Core.Path.{◌≡◌, refl, sym, ap, ◌∙◌}
-use native.Mathlib.Omega.{arith}
+use Prim.Native.Nat.{◌+◌, ◌-◌, ◌*◌, ◌≤◌}
+use mathlib.Core.Path.{◌≡◌}
 use lib.ListN.{length}
 use Rattle.octets.specs.Table.{classes}
 use Rattle.listing.specs.Rows.{rows_at}
-use Rattle.listing.proofs.Laws.{row_last, row-follows, end-length, Follows}
 use Rattle.listing.proofs.rows_size.Given as goal
 
 abbrev pub invariant-loop-place : goal.invariant-loop-place

@@ -1,12 +1,9 @@
-use mathlib.Core.Path.{◌≡◌, refl, ap, ◌∙◌}
+use mathlib.Core.Path.{◌≡◌}
 use mathlib.Core.List.{map}
 use Prim.Native.Nat.{◌+◌, ◌-◌, ◌≤◌}
-use native.Mathlib.Nat.{add-zero, sub-zero}
-use lib.ListN.{length, length-set, length-map}
-use borrow.Author.Rules.{rules}
+use lib.ListN.{length}
 use Rattle.output.specs.Splice.{splice, part}
 use Rattle.octets.specs.Text.{lower_of}
-use Rattle.output.proofs.Laws.{elements-length, elements-more, elements-none, put-turn}
 use Rattle.output.proofs.copy_lower.Given as goal
 
 abbrev pub invariant-loop-i : goal.invariant-loop-i

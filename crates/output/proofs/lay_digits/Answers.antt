@@ -1,10 +1,7 @@
-use Prim.Native.Nat.{◌+◌, ◌≤◌}
-use mathlib.Core.Path.{◌≡◌, refl}
 use native.Mathlib.Omega.{arith}
-use lib.ListN.{length, length-set}
+use lib.ListN.{length-set}
 use borrow.Author.Rules.{rules}
-use Rattle.numbers.specs.Digits.{char_of}
-use Rattle.output.proofs.Backwards.{to_put, put-place, rem-small, put-digits-end}
+use Rattle.output.proofs.Backwards.{put-place, put-digits-end}
 use Rattle.output.proofs.lay_digits.Goals as goal
 
 pub loop-j-preserved : goal.loop-j-preserved

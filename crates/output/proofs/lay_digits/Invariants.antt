@@ -1,10 +1,8 @@
 use Prim.Native.Nat.{◌+◌, ◌≤◌}
-use mathlib.Core.Path.{◌≡◌, refl}
-use native.Mathlib.Omega.{arith}
-use lib.ListN.{length, length-set}
-use borrow.Author.Rules.{rules}
+use mathlib.Core.Path.{◌≡◌}
+use lib.ListN.{length}
 use Rattle.numbers.specs.Digits.{char_of}
-use Rattle.output.proofs.Backwards.{to_put, put-place, rem-small, put-digits-end}
+use Rattle.output.proofs.Backwards.{to_put}
 use Rattle.output.proofs.lay_digits.Given as goal
 
 abbrev pub invariant-loop-j : goal.invariant-loop-j

@@ -1,11 +1,8 @@
-use Prim.Native.Nat.{◌+◌, ◌≤◌}
-use mathlib.Core.Path.{◌≡◌, refl}
 use native.Mathlib.Omega.{arith}
-use lib.ListN.{length, length-set}
+use lib.ListN.{length-set}
 use borrow.Author.Rules.{rules}
-use Rattle.numbers.specs.Integer.{plain}
 use Rattle.numbers.proofs.IntegerForm.{fits-tag}
-use Rattle.output.proofs.Backwards.{to_put, put-place, put-int-end}
+use Rattle.output.proofs.Backwards.{put-place, put-int-end}
 use Rattle.output.proofs.lay_int.Goals as goal
 
 pub overflow_add-w : goal.overflow_add-w

@@ -1,8 +1,6 @@
-use native.Mathlib.Omega.{arith}
-use mathlib.Core.Path.{refl, sym, ap, ◌∙◌}
+use mathlib.Core.Path.{sym, ◌∙◌}
 use Rattle.numbers.proofs.DigitLaws.{digits-length}
-use Rattle.output.proofs.Room.{put_if, put-not, room_by}
-use borrow.Author.Rules.{rules}
+use Rattle.output.proofs.Room.{put-not}
 use Rattle.output.proofs.put_digits.Goals as goal
 
 pub returns : goal.returns

@@ -1,9 +1,7 @@
-use native.Mathlib.Omega.{arith}
-use mathlib.Core.Path.{refl, sym, ap, ◌∙◌}
+use mathlib.Core.Path.{sym, ◌∙◌}
 use Rattle.numbers.proofs.IntegerForm.{has-form}
 use Rattle.numbers.proofs.IntegerLaws.{int-length}
-use Rattle.output.proofs.Room.{put_if, put-not, put-nothing, room_by}
-use borrow.Author.Rules.{rules}
+use Rattle.output.proofs.Room.{put-not, put-nothing, room_by}
 use Rattle.output.proofs.put_int.Goals as goal
 
 pub returns-then-n-eq0 : goal.returns-then-n-eq0

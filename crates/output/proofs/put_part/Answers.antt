@@ -1,9 +1,7 @@
 use Prim.Native.Nat.{ℕ}
-use native.Mathlib.Omega.{arith}
-use mathlib.Core.Path.{refl, sym, ◌∙◌}
+use mathlib.Core.Path.{sym, ◌∙◌}
 use Rattle.output.proofs.Laws.{elements-length}
-use Rattle.output.proofs.Room.{put_if, put-not, room_by}
-use borrow.Author.Rules.{rules}
+use Rattle.output.proofs.Room.{put-not}
 use Rattle.output.proofs.put_part.Goals as goal
 
 pub returns-else-lies_within-2 : goal.returns-else-lies_within-2

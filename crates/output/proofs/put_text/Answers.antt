@@ -1,8 +1,6 @@
-use native.Mathlib.Omega.{arith}
-use mathlib.Core.Path.{refl, sym, ap, ◌∙◌}
+use mathlib.Core.Path.{sym, ◌∙◌}
 use Rattle.output.proofs.Laws.{part-whole}
-use Rattle.output.proofs.Room.{put_if, put-not, room_by}
-use borrow.Author.Rules.{rules}
+use Rattle.output.proofs.Room.{put_if}
 use Rattle.output.proofs.put_text.Goals as goal
 
 pub returns-then-lies_within : goal.returns-then-lies_within

@@ -1,8 +1,8 @@
-use Prim.Native.Nat.{◌-◌, ◌≤◌}
-use mathlib.Core.Path.{◌≡◌, refl}
+use Prim.Native.Nat.{◌-◌}
+use mathlib.Core.Path.{refl}
 use native.Mathlib.Omega.{arith}
-use lib.ListN.{length, length-set}
-use Rattle.ranges.proofs.Clearing.{ClearedTo, clear-start, clear-more, clear-done}
+use lib.ListN.{length-set}
+use Rattle.ranges.proofs.Clearing.{clear-start, clear-more, clear-done}
 use Rattle.ranges.proofs.clear_from.Goals as goal
 
 pub loop-i-init : goal.loop-i-init

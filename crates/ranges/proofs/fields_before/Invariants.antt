@@ -1,10 +1,6 @@
-use borrow.Author.Rules.{rules}
-use Prim.Native.Nat.{ℕ, ◌+◌, ◌-◌, ◌*◌, ◌≤◌, ◌<◌}
-use mathlib.Core.Path.{◌≡◌, refl, sym, ap, ◌∙◌}
-use native.Mathlib.Omega.{arith}
-use lib.ListN.{length, get_or}
+use Prim.Native.Nat.{◌-◌, ◌*◌, ◌≤◌}
+use mathlib.Core.Path.{◌≡◌}
 use Rattle.ranges.specs.Entries.{fields_before}
-use Rattle.ranges.proofs.Entries.{before-next, before-none}
 use Rattle.ranges.proofs.fields_before.Given as goal
 
 abbrev pub invariant-loop-i : goal.invariant-loop-i

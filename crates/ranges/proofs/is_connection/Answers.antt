@@ -1,4 +1,3 @@
-use borrow.Author.Rules.{rules}
 use mathlib.Core.Path.{sym, ap}
 use Rattle.messages.specs.Names.{same_kind}
 use Rattle.messages.specs.declared.Kind.{Kind}

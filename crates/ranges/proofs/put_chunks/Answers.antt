@@ -1,12 +1,10 @@
-use borrow.Author.Rules.{rules}
-use Prim.Native.Nat.{ℕ, ◌+◌, ◌-◌, ◌*◌, ◌≤◌, ◌<◌}
-use mathlib.Core.Path.{◌≡◌, refl, sym, ap, ◌∙◌}
+use Prim.Native.Nat.{◌-◌}
+use mathlib.Core.Path.{refl}
 use borrow.Author.Tests.{le-leb}
 use native.Mathlib.Omega.{arith}
-use lib.ListN.{length}
 use Rattle.output.proofs.Room.{puts-part}
 use Rattle.output.proofs.Laws.{left-turn, left-none}
-use Rattle.ranges.proofs.Content.{ContentLeft, content-start, content-next, content-none, chunk-within}
+use Rattle.ranges.proofs.Content.{content-next, content-none, chunk-within}
 use Rattle.ranges.proofs.put_chunks.Goals as goal
 
 -- TODO ensures field of a callee that requires: c.before.before.before.before.before.number_at.ensures.0

@@ -1,12 +1,5 @@
-use borrow.Author.Rules.{rules}
-use Prim.Native.Nat.{ℕ, ◌+◌, ◌-◌, ◌*◌, ◌≤◌, ◌<◌}
-use mathlib.Core.Path.{◌≡◌, refl, sym, ap, ◌∙◌}
-use borrow.Author.Tests.{le-leb}
-use native.Mathlib.Omega.{arith}
-use lib.ListN.{length}
-use Rattle.output.proofs.Room.{puts-part}
-use Rattle.output.proofs.Laws.{left-turn, left-none}
-use Rattle.ranges.proofs.Content.{ContentLeft, content-start, content-next, content-none, chunk-within}
+use Prim.Native.Nat.{◌-◌, ◌≤◌}
+use Rattle.ranges.proofs.Content.{ContentLeft}
 use Rattle.ranges.proofs.put_chunks.Given as goal
 
 abbrev pub invariant-loop-i : goal.invariant-loop-i

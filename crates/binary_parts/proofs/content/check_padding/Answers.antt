@@ -1,9 +1,5 @@
 use native.Mathlib.Omega.{arith}
-use Prim.Native.Nat.{ℕ, ◌≤◌, ◌-◌}
-use mathlib.Core.Path.{◌≡◌, refl}
-use lib.ListN.{length, drop}
-use Rattle.binary.specs.Reader.{cursor}
-use Rattle.binary.specs.Read.{padding}
+use Prim.Native.Nat.{◌-◌}
 use Rattle.binary_parts.proofs.PaddingLaws.{padding-zero, padding-other, padding-end}
 use Rattle.binary_parts.proofs.content.check_padding.Goals as goal
 

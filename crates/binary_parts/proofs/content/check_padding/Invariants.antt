@@ -1,10 +1,8 @@
-use native.Mathlib.Omega.{arith}
 use Prim.Native.Nat.{ℕ, ◌≤◌, ◌-◌}
-use mathlib.Core.Path.{◌≡◌, refl}
+use mathlib.Core.Path.{◌≡◌}
 use lib.ListN.{length, drop}
 use Rattle.binary.specs.Reader.{cursor}
 use Rattle.binary.specs.Read.{padding}
-use Rattle.binary_parts.proofs.PaddingLaws.{padding-zero, padding-other, padding-end}
 use Rattle.binary_parts.proofs.content.check_padding.Given as goal
 
 abbrev pub invariant-loop-i : goal.invariant-loop-i

@@ -1,5 +1,3 @@
-use borrow.Author.Rules.{rules}
-use native.Mathlib.Omega.{arith}
 use Rattle.messages.proofs.Picks.{picks}
 use Rattle.binary.specs.Read.{content_agrees}
 use Rattle.binary_parts.proofs.content.content_agrees.Goals as goal

@@ -1,7 +1,4 @@
-use borrow.Author.Rules.{rules}
-use native.Mathlib.Omega.{arith}
 use mathlib.Core.Path.{refl}
-use Rattle.binary_parts.proofs.Places.{part-got}
 use Rattle.binary_parts.proofs.Contents.{known-no, known-none, known-one}
 use Rattle.binary_parts.proofs.content.known_content.Goals as goal
 

@@ -1,17 +1,13 @@
 use native.Mathlib.Omega.{arith}
-use Prim.Native.Nat.{ℕ, suc, ◌+◌, ◌-◌, ◌*◌, ◌≤◌, ◌<◌}
-use mathlib.Core.Path.{◌≡◌, refl, ap, ◌∙◌}
-use mathlib.Core.List.{List, [], ◌∷◌, ◌++◌}
+use Prim.Native.Nat.{◌+◌, ◌-◌, ◌*◌}
+use mathlib.Core.Path.{refl, ap, ◌∙◌}
+use mathlib.Core.List.{[], ◌∷◌, ◌++◌}
 use lib.ListN.{length, take, drop, length-append}
-use Rattle.octets.specs.Limits.{chunks_most, content_most}
-use Rattle.script.specs.Do.{Piece, piece}
-use Rattle.output.specs.Splice.{splice}
+use Rattle.script.specs.Do.{piece}
 use Rattle.output.proofs.Laws.{splice-length}
 use Rattle.messages.specs.Meaning.{content_of}
 use Rattle.messages.specs.Answers.{chunks_numbers}
-use Rattle.binary.specs.Reader.{cursor}
-use Rattle.binary.specs.Read.{open_chunks, open_content}
-use Rattle.binary_parts.proofs.Contents.{contented-no, contented-got, chunk-bounds, last-bounds, refused-said, last-said, next-said, content-next, chunk-stored}
+use Rattle.binary_parts.proofs.Contents.{chunk-bounds, next-said, content-next, chunk-stored}
 use Rattle.binary_parts.proofs.content.open_content.Goals as goal
 
 pub loop-number-init : goal.loop-number-init

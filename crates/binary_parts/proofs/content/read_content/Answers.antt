@@ -1,5 +1,3 @@
-use borrow.Author.Rules.{rules}
-use native.Mathlib.Omega.{arith}
 use mathlib.Core.Path.{refl}
 use Rattle.binary_parts.proofs.Contents.{content-none, content-known, content-open}
 use Rattle.binary_parts.proofs.content.read_content.Goals as goal

@@ -1,6 +1,3 @@
-use borrow.Author.Rules.{rules}
-use native.Mathlib.Omega.{arith}
-use Rattle.binary_parts.proofs.Places.{part-got}
 use Rattle.binary_parts.proofs.Controls.{authority-no, path-no, rest-got}
 use Rattle.binary_parts.proofs.control.after_scheme.Goals as goal
 

@@ -1,7 +1,3 @@
-use borrow.Author.Rules.{rules}
-use native.Mathlib.Omega.{arith}
-use Rattle.binary_parts.proofs.Places.{part-got}
-use Rattle.binary_parts.proofs.Judged.{schemed-got}
 use Rattle.binary_parts.proofs.Controls.{method-no, scheme-bad, behind-scheme}
 use Rattle.binary_parts.proofs.control.request_control.Goals as goal
 

@@ -1,6 +1,3 @@
-use borrow.Author.Rules.{rules}
-use native.Mathlib.Omega.{arith}
-use Rattle.binary_parts.proofs.Places.{part-got}
 use Rattle.binary_parts.proofs.Judged.{ruled-no, ruled-good, ruled-bad}
 use Rattle.binary_parts.proofs.control.ruled_part.Goals as goal
 

@@ -1,7 +1,4 @@
-use borrow.Author.Rules.{rules}
-use native.Mathlib.Omega.{arith}
 use mathlib.Core.Path.{sym, ◌∙◌}
-use Rattle.binary_parts.proofs.Places.{part-got}
 use Rattle.binary_parts.proofs.Judged.{scheme-no, scheme-http, scheme-https, scheme-other}
 use Rattle.binary_parts.proofs.control.scheme_part.Goals as goal
 

@@ -1,7 +1,5 @@
-use borrow.Author.Rules.{rules}
 use native.Mathlib.Omega.{arith}
-use mathlib.Core.Path.{◌≡◌, refl, sym, ap, ◌∙◌}
-use lib.ListN.{length, take, drop}
+use mathlib.Core.Path.{sym, ◌∙◌}
 use Rattle.numbers.proofs.IntegerLaws.{long-once, int-within}
 use Rattle.binary_parts.proofs.Rest.{lined-no, rest-name-cut, rest-length-cut, rest-value-cut, rest-judged, part-short}
 use Prim.Native.Nat.{◌+◌}

@@ -1,4 +1,3 @@
-use borrow.Author.Rules.{rules}
 use native.Mathlib.Omega.{arith}
 use Rattle.binary_parts.proofs.Sections.{header-none, header-some}
 use Rattle.binary_parts.proofs.lines.header_section.Goals as goal

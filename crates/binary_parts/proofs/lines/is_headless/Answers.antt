@@ -1,4 +1,3 @@
-use borrow.Author.Rules.{rules}
 use Rattle.binary_parts.proofs.Sections.{headless-ended, headless-left}
 use Rattle.binary_parts.proofs.lines.is_headless.Goals as goal
 

@@ -1,4 +1,3 @@
-use borrow.Author.Rules.{rules}
 use Rattle.messages.proofs.Picks.{picks}
 use Rattle.octets.specs.Text.{is_empty}
 use Rattle.binary.specs.Read.{is_line_value}

@@ -1,16 +1,13 @@
-use native.Mathlib.Omega.{arith}
-use Prim.Native.Nat.{ℕ, suc, ◌+◌, ◌-◌, ◌≤◌}
-use mathlib.Core.Path.{◌≡◌, refl, sym, ◌∙◌}
-use mathlib.Core.List.{List, [], ◌∷◌, ◌++◌}
-use lib.ListN.{length, take, drop}
+use Prim.Native.Nat.{suc, ◌+◌, ◌-◌, ◌≤◌}
+use mathlib.Core.Path.{◌≡◌}
+use mathlib.Core.List.{List, []}
+use lib.ListN.{length, drop}
 use Rattle.octets.specs.Table.{classes}
 use Rattle.octets.specs.Limits.{lines_most}
 use Rattle.messages.specs.Message.{FieldRead}
-use Rattle.binary_parts.proofs.SoFar.{SoFar, so-far-none, so-far-altered, so-far-full, so-far-less, so-far-room, so-far-value, so-far-few, so-far-noted, so-far-unnoted}
+use Rattle.binary_parts.proofs.SoFar.{SoFar}
 use Rattle.binary.specs.Reader.{cursor}
 use Rattle.binary.specs.Read.{known_lines}
-use Rattle.binary_parts.proofs.Turns.{lined-next, lined-refused, known-done, known-full, known-wrong, known_next}
-use Rattle.binary_parts.proofs.Sections.{bodied-as, known_start}
 use Rattle.binary_parts.proofs.lines.known_lines.Given as goal
 
 abbrev pub invariant-loop-i : goal.invariant-loop-i

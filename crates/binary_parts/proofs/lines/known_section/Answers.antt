@@ -1,10 +1,8 @@
-use borrow.Author.Rules.{rules}
 use Rattle.binary_parts.proofs.Places.{integer-few}
 use native.Mathlib.Omega.{arith}
 use Rattle.ranges.proofs.Storing.{altered-none}
 use Prim.Native.Nat.{◌+◌}
-use mathlib.Core.Path.{◌≡◌, refl, sym, ap, ◌∙◌}
-use lib.ListN.{length, take, drop}
+use mathlib.Core.Path.{refl, sym, ◌∙◌}
 use Rattle.numbers.proofs.IntegerLaws.{int-within}
 use Rattle.binary_parts.proofs.Rest.{part-short}
 use Rattle.binary_parts.proofs.Sections.{gathered-as, section-cut, section-short, section-body}

@@ -1,7 +1,6 @@
-use borrow.Author.Rules.{rules}
 use native.Mathlib.Omega.{arith}
 use Rattle.binary_parts.proofs.SectionLines.{section-lines}
-use Rattle.binary_parts.proofs.Sections.{gathered-refused, gathered-known, gathered-kept}
+use Rattle.binary_parts.proofs.Sections.{gathered-known, gathered-kept}
 use Rattle.binary_parts.proofs.lines.read_section.Goals as goal
 
 pub drop_named-k-requires : goal.drop_named-k-requires

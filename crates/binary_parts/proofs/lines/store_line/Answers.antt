@@ -1,5 +1,3 @@
-use borrow.Author.Rules.{rules}
-use native.Mathlib.Omega.{arith}
 use Rattle.binary_parts.proofs.Line.{line-wrong, line-good}
 use Rattle.binary_parts.proofs.lines.store_line.Goals as goal
 

@@ -1,5 +1,3 @@
-use borrow.Author.Rules.{rules}
-use native.Mathlib.Omega.{arith}
 use Rattle.binary_parts.proofs.Places.{octets-short, octets-in}
 use Rattle.binary_parts.proofs.parts.part_octets.Goals as goal
 

@@ -1,4 +1,3 @@
-use borrow.Author.Rules.{rules}
 use Rattle.binary_reader.proofs.HeadLaws.{final-no, final-ends}
 use Rattle.binary_reader.proofs.heads.after_final_status.Goals as goal
 

@@ -1,4 +1,3 @@
-use borrow.Author.Rules.{rules}
 use mathlib.Core.Path.{sym, ◌∙◌}
 use Rattle.binary_reader.proofs.HeadLaws.{informational-no, informational-states, informational-ends}
 use Rattle.binary_reader.proofs.heads.after_informational_status.Goals as goal

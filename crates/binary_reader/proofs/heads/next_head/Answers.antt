@@ -1,4 +1,3 @@
-use borrow.Author.Rules.{rules}
 use Rattle.binary_parts.proofs.Places.{integer-few}
 use native.Mathlib.Omega.{arith}
 use mathlib.Core.Path.{sym, ◌∙◌}

@@ -1,11 +1,7 @@
 use native.Mathlib.Omega.{arith}
-use Prim.Native.Nat.{ℕ, suc, ◌+◌, ◌-◌, ◌*◌, ◌≤◌, ◌<◌}
-use mathlib.Core.Path.{◌≡◌, refl, sym, ◌∙◌}
-use lib.ListN.{length, drop}
-use Rattle.octets.specs.Table.{classes}
-use Rattle.binary.specs.Reader.{cursor}
-use Rattle.binary.specs.Read.{response_message}
-use Rattle.binary_reader.proofs.HeadTurns.{HeadsTo, heads-start, heads-refused, heads-final, final-some, informational-some, heads-next}
+use Prim.Native.Nat.{◌-◌}
+use mathlib.Core.Path.{refl}
+use Rattle.binary_reader.proofs.HeadTurns.{heads-start, heads-final, final-some, informational-some, heads-next}
 use Rattle.binary_reader.proofs.heads.read_heads.Goals as goal
 
 pub loop-number-init : goal.loop-number-init

@@ -1,11 +1,10 @@
-use native.Mathlib.Omega.{arith}
-use Prim.Native.Nat.{ℕ, suc, ◌+◌, ◌-◌, ◌*◌, ◌≤◌, ◌<◌}
-use mathlib.Core.Path.{◌≡◌, refl, sym, ◌∙◌}
+use Prim.Native.Nat.{◌-◌}
+use mathlib.Core.Path.{◌≡◌}
 use lib.ListN.{length, drop}
 use Rattle.octets.specs.Table.{classes}
 use Rattle.binary.specs.Reader.{cursor}
 use Rattle.binary.specs.Read.{response_message}
-use Rattle.binary_reader.proofs.HeadTurns.{HeadsTo, heads-start, heads-refused, heads-final, final-some, informational-some, heads-next}
+use Rattle.binary_reader.proofs.HeadTurns.{HeadsTo}
 use Rattle.binary_reader.proofs.heads.read_heads.Given as goal
 
 abbrev pub invariant-loop-number : goal.invariant-loop-number

@@ -1,5 +1,3 @@
-use borrow.Author.Rules.{rules}
-use native.Mathlib.Omega.{arith}
 use Rattle.binary_parts.proofs.SectionLines.{header-lines}
 use Rattle.binary_reader.proofs.SectionOutcomes.{section-no, section-done}
 use Rattle.binary_reader.proofs.RequestLaws.{head-no, head_done}

@@ -1,6 +1,4 @@
-use borrow.Author.Rules.{rules}
-use native.Mathlib.Omega.{arith}
-use Rattle.binary_reader.proofs.RequestLaws.{rest-wrong, head-lies, rest-good}
+use Rattle.binary_reader.proofs.RequestLaws.{rest-wrong, rest-good}
 use Rattle.binary_reader.proofs.request.after_head.Goals as goal
 
 pub returns-in-Refused : goal.returns-in-Refused

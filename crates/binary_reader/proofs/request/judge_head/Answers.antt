@@ -1,5 +1,3 @@
-use borrow.Author.Rules.{rules}
-use native.Mathlib.Omega.{arith}
 use mathlib.Core.Path.{sym, ◌∙◌}
 use Rattle.binary_reader.proofs.RequestHeads.{judged-host, judged-length, judged-good}
 use Rattle.binary_reader.proofs.request.judge_head.Goals as goal

@@ -1,5 +1,3 @@
-use borrow.Author.Rules.{rules}
-use native.Mathlib.Omega.{arith}
 use Rattle.binary_parts.proofs.Controls.{control-no, control-done}
 use Rattle.binary_reader.proofs.RequestLaws.{requested-as, control-refused, control-then}
 use Rattle.binary_reader.proofs.request.request_in.Goals as goal

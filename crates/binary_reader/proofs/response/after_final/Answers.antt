@@ -1,5 +1,3 @@
-use borrow.Author.Rules.{rules}
-use native.Mathlib.Omega.{arith}
 use Rattle.binary_reader.proofs.ResponseLaws.{final-refused, final-read}
 use Rattle.binary_reader.proofs.response.after_final.Goals as goal
 

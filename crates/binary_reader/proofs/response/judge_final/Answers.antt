@@ -1,5 +1,3 @@
-use borrow.Author.Rules.{rules}
-use native.Mathlib.Omega.{arith}
 use mathlib.Core.Path.{sym, ◌∙◌}
 use Rattle.binary_reader.proofs.ResponseLaws.{final-stated, final-bodyless, final-clashes, final-states}
 use Rattle.binary_reader.proofs.response.judge_final.Goals as goal

@@ -1,6 +1,3 @@
-use borrow.Author.Rules.{rules}
-use native.Mathlib.Omega.{arith}
-use Rattle.binary_reader.proofs.Trailing.{trailed-done}
 use Rattle.binary_reader.proofs.RestLaws.{behind-no, behind-padding, behind-done}
 use Rattle.binary_reader.proofs.rest.after_content.Goals as goal
 

@@ -1,6 +1,3 @@
-use borrow.Author.Rules.{rules}
-use native.Mathlib.Omega.{arith}
-use Rattle.binary_parts.proofs.Contents.{content-done}
 use Rattle.binary_reader.proofs.RestLaws.{rested-no, rested-bad, rested-on}
 use Rattle.binary_reader.proofs.rest.after_headers.Goals as goal
 

@@ -1,5 +1,3 @@
-use borrow.Author.Rules.{rules}
-use native.Mathlib.Omega.{arith}
 use Rattle.binary_reader.proofs.Trailing.{trailers-none, trailers-no, trailers-good, trailers-bad}
 use Rattle.binary_reader.proofs.rest.read_trailers.Goals as goal
 

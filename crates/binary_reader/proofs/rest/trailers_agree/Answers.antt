@@ -1,7 +1,5 @@
-use native.Mathlib.Omega.{arith}
 use Rattle.messages.proofs.Picks.{picks}
 use Rattle.binary.specs.Read.{trailers_agree}
-use borrow.Author.Rules.{rules}
 use Rattle.binary_reader.proofs.rest.trailers_agree.Goals as goal
 
 pub returns-then-body : goal.returns-then-body

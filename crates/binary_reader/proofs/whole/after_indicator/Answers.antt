@@ -1,5 +1,3 @@
-use borrow.Author.Rules.{rules}
-use native.Mathlib.Omega.{arith}
 use Rattle.binary_reader.proofs.WholeLaws.{indicated-request, indicated-response, indicated-open-request, indicated-open-response, indicated-other}
 use Rattle.binary_reader.proofs.whole.after_indicator.Goals as goal
 

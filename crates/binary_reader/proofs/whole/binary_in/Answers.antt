@@ -1,5 +1,3 @@
-use borrow.Author.Rules.{rules}
-use native.Mathlib.Omega.{arith}
 use mathlib.Core.Path.{sym, ◌∙◌}
 use Rattle.binary_reader.proofs.WholeLaws.{edition-told, edition-other}
 use Rattle.binary_reader.proofs.whole.binary_in.Goals as goal

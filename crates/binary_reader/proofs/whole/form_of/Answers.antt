@@ -1,4 +1,3 @@
-use borrow.Author.Rules.{rules}
 use Rattle.messages.proofs.Picks.{picks}
 use Rattle.binary.specs.Read.{form_of}
 use Rattle.binary_reader.proofs.whole.form_of.Goals as goal

@@ -1,5 +1,3 @@
-use borrow.Author.Rules.{rules}
-use native.Mathlib.Omega.{arith}
 use mathlib.Core.Path.{◌∙◌}
 use Rattle.binary_reader.proofs.WholeLaws.{binary-counts, binary-by-value}
 use Rattle.binary_reader.proofs.whole.read_binary.Goals as goal

@@ -1,6 +1,5 @@
 use native.Mathlib.Omega.{arith}
 use Rattle.binary_writer.proofs.Steps.{counted-most}
-use borrow.Author.Rules.{rules}
 use Rattle.binary_writer.proofs.measure.counted_size.Goals as goal
 
 pub overflow_add-result : goal.overflow_add-result

@@ -1,9 +1,6 @@
-use Prim.Native.Nat.{ℕ, ◌+◌, ◌-◌, ◌*◌, ◌≤◌, ◌<◌}
-use mathlib.Core.Path.{◌≡◌, refl, sym, ap, ◌∙◌}
+use Prim.Native.Nat.{◌-◌}
 use native.Mathlib.Omega.{arith}
-use lib.ListN.{length}
-use Rattle.binary_writer.specs.Sizes.{entry_most, fields_size}
-use Rattle.binary_writer.proofs.Steps.{size-start, size-more, size_none}
+use Rattle.binary_writer.proofs.Steps.{size-more, size_none}
 use Rattle.binary_writer.proofs.measure.fields_size.Goals as goal
 
 pub loop-i-preserved : goal.loop-i-preserved

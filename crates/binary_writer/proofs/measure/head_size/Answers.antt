@@ -1,8 +1,5 @@
-use mathlib.Core.Path.{◌≡◌, refl, sym, ap, ◌∙◌}
 use native.Mathlib.Omega.{arith}
-use borrow.Author.Rules.{rules}
 use Rattle.numbers.proofs.IntegerLaws.{int-some}
-use borrow.Author.Rules.{rules}
 use Rattle.binary_writer.proofs.measure.head_size.Goals as goal
 
 pub overflow_add-result : goal.overflow_add-result

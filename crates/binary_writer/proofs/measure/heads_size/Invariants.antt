@@ -1,11 +1,7 @@
-use Prim.Native.Nat.{ℕ, ◌+◌, ◌-◌, ◌*◌, ◌≤◌, ◌<◌}
-use mathlib.Core.Path.{◌≡◌, refl, sym, ap, ◌∙◌}
-use native.Mathlib.Omega.{arith}
-use lib.ListN.{length, get_or}
+use Prim.Native.Nat.{◌+◌, ◌-◌, ◌*◌, ◌≤◌}
+use mathlib.Core.Path.{◌≡◌}
 use Rattle.ranges.specs.Entries.{fields_before}
-use Rattle.ranges.proofs.Entries.{before-next, before-none}
 use Rattle.binary_writer.specs.Sizes.{heads_size}
-use Rattle.binary_writer.proofs.Steps.{heads-start, heads-size-more, heads-size-none, head_as}
 use Rattle.binary_writer.proofs.measure.heads_size.Given as goal
 
 abbrev pub invariant-loop-i : goal.invariant-loop-i

@@ -1,7 +1,3 @@
-use mathlib.Core.Path.{◌≡◌, refl, sym, ap, ◌∙◌}
-use native.Mathlib.Omega.{arith}
-use borrow.Author.Rules.{rules}
-use lib.ListN.{length}
 use Rattle.binary_writer.proofs.Steps.{size-message}
 use Rattle.binary_writer.proofs.measure.message_size.Goals as goal
 

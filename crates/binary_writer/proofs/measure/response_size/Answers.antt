@@ -1,7 +1,5 @@
 use native.Mathlib.Omega.{arith}
-use mathlib.Core.Path.{◌≡◌, refl, sym, ap, ◌∙◌}
 use Rattle.numbers.proofs.IntegerLaws.{int-some}
-use borrow.Author.Rules.{rules}
 use Rattle.binary_writer.proofs.measure.response_size.Goals as goal
 
 pub overflow_add-result-2 : goal.overflow_add-result-2

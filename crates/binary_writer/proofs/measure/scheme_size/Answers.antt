@@ -1,5 +1,5 @@
 use native.Mathlib.Omega.{arith}
-use mathlib.Core.Path.{◌≡◌, refl, sym, ap, ◌∙◌}
+use mathlib.Core.Path.{sym}
 use Rattle.binary_writer.proofs.Steps.{scheme-http, scheme-https}
 use Rattle.binary_writer.proofs.measure.scheme_size.Goals as goal
 

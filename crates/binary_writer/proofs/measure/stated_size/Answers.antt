@@ -1,10 +1,9 @@
-use borrow.Author.Rules.{rules}
 use native.Mathlib.Omega.{arith}
-use mathlib.Core.Path.{sym, ap, ◌∙◌}
-use Prim.Native.Nat.{ℕ, ◌+◌}
+use mathlib.Core.Path.{ap}
+use Prim.Native.Nat.{ℕ}
 use Rattle.numbers.proofs.DigitLaws.{count_most}
 use Rattle.binary_writer.specs.Sizes.{counted_size}
-use Rattle.binary_writer.proofs.Lengths.{is-missing, is-of}
+use Rattle.binary_writer.proofs.Lengths.{is-of}
 use Rattle.binary_writer.proofs.measure.stated_size.Goals as goal
 
 pub counted_size-requires : goal.counted_size-requires

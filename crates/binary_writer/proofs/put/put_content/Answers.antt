@@ -1,5 +1,4 @@
 use native.Mathlib.Omega.{arith}
-use borrow.Author.Rules.{rules}
 use Rattle.output.proofs.Laws.{put_then, put_count}
 use Rattle.output.proofs.Room.{puts}
 use Rattle.binary_writer.proofs.Lengths.{counted_is}

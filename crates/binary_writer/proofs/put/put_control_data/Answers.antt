@@ -1,6 +1,4 @@
-use mathlib.Core.Path.{◌≡◌, refl, sym, ap, ◌∙◌}
 use native.Mathlib.Omega.{arith}
-use borrow.Author.Rules.{rules}
 use Rattle.binary_writer.proofs.Steps.{size-response, size-request, control-response, control-request}
 use Rattle.binary_writer.proofs.put.put_control_data.Goals as goal
 

@@ -1,4 +1,3 @@
-use borrow.Author.Rules.{rules}
 use borrow.Author.Tests.{le-leb}
 use Rattle.output.proofs.Room.{puts, puts-part, puts_then}
 use Rattle.binary_writer.proofs.Lengths.{counted_is, part_length}

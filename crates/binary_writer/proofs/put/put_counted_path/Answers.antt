@@ -1,5 +1,3 @@
-use borrow.Author.Rules.{rules}
-use native.Mathlib.Omega.{arith}
 use mathlib.Core.Path.{refl}
 use Rattle.binary_writer.proofs.Lengths.{counted_is, path-long}
 use Rattle.output.proofs.Laws.{put_as}

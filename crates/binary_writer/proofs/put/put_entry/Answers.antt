@@ -1,10 +1,4 @@
-use mathlib.Core.Path.{◌≡◌, refl, sym, ap, ◌∙◌}
-use Prim.Native.Nat.{ℕ}
-use native.Mathlib.Omega.{arith}
-use borrow.Author.Rules.{rules}
-use Rattle.binary_writer.specs.Sizes.{counted_size}
 use Rattle.binary_writer.proofs.Steps.{put-field}
-use borrow.Author.Rules.{rules}
 use Rattle.binary_writer.proofs.put.put_entry.Goals as goal
 
 pub returns : goal.returns

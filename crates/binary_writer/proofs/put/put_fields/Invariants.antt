@@ -1,16 +1,10 @@
-use Prim.Native.Nat.{ℕ, ◌+◌, ◌-◌, ◌*◌, ◌≤◌, ◌<◌}
-use mathlib.Core.Path.{◌≡◌, refl, sym, ap, ◌∙◌}
+use Prim.Native.Nat.{◌+◌, ◌-◌, ◌≤◌}
 use mathlib.Core.List.{map}
-use native.Mathlib.Omega.{arith}
-use lib.ListN.{length, get_or}
 use Rattle.output.specs.Splice.{Left}
-use Rattle.output.proofs.Laws.{left-none}
 use Rattle.messages.specs.Meaning.{field_means}
 use Rattle.ranges.specs.Entries.{fields_in}
 use Rattle.binary_writer.specs.Write.{fields_bytes}
 use Rattle.binary_writer.specs.Sizes.{fields_size}
-use Rattle.binary_writer.proofs.Lengths.{fields-length}
-use Rattle.binary_writer.proofs.Steps.{size-more, size_none, fields-begin, left-field, fields-bytes-none}
 use Rattle.binary_writer.proofs.put.put_fields.Given as goal
 
 abbrev pub invariant-loop-i : goal.invariant-loop-i

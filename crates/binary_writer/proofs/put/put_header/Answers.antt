@@ -1,7 +1,6 @@
 use mathlib.Core.Path.{ap}
 use Prim.Native.Nat.{ℕ}
 use native.Mathlib.Omega.{arith}
-use borrow.Author.Rules.{rules}
 use Rattle.numbers.specs.Integer.{int_len}
 use Rattle.output.proofs.Room.{puts}
 use Rattle.binary_writer.proofs.Steps.{header-sum, put-header}

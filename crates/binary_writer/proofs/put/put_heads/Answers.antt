@@ -1,13 +1,8 @@
-use Prim.Native.Nat.{ℕ, ◌+◌, ◌-◌, ◌*◌, ◌≤◌, ◌<◌}
-use mathlib.Core.Path.{◌≡◌, refl, sym, ap, ◌∙◌}
+use Prim.Native.Nat.{◌-◌}
+use mathlib.Core.Path.{refl, sym}
 use native.Mathlib.Omega.{arith}
-use lib.ListN.{length, get_or}
-use Rattle.output.specs.Splice.{Left}
 use Rattle.output.proofs.Laws.{left-none}
-use Rattle.ranges.specs.Entries.{fields_before, heads_in}
 use Rattle.ranges.proofs.Entries.{before-next, before-none}
-use Rattle.binary_writer.specs.Write.{informational_bytes}
-use Rattle.binary_writer.specs.Sizes.{heads_size}
 use Rattle.binary_writer.proofs.Lengths.{heads-length}
 use Rattle.binary_writer.proofs.Steps.{heads-size-more, heads-size-none, head_as, within-as, heads-begin, left-head, heads-bytes-none}
 use Rattle.binary_writer.proofs.put.put_heads.Goals as goal

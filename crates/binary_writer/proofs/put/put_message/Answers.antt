@@ -1,6 +1,5 @@
-use mathlib.Core.Path.{◌≡◌, refl, sym, ap, ◌∙◌}
+use mathlib.Core.Path.{refl}
 use native.Mathlib.Omega.{arith}
-use borrow.Author.Rules.{rules}
 use Rattle.binary_writer.proofs.Steps.{size-message, within-as, put-message}
 use Rattle.binary_writer.proofs.put.put_message.Goals as goal
 

@@ -1,5 +1,4 @@
 use native.Mathlib.Omega.{arith}
-use borrow.Author.Rules.{rules}
 use Rattle.output.proofs.Room.{puts}
 use Rattle.binary_writer.proofs.Steps.{put-request}
 use Rattle.binary_writer.proofs.put.put_request.Goals as goal

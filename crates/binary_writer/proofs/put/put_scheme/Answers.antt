@@ -1,5 +1,4 @@
 use native.Mathlib.Omega.{arith}
-use borrow.Author.Rules.{rules}
 use Rattle.output.proofs.Room.{puts}
 use Rattle.binary_writer.proofs.Steps.{scheme-http, scheme-https, put-http, put-https}
 use Rattle.binary_writer.proofs.put.put_scheme.Goals as goal

@@ -1,5 +1,3 @@
-use borrow.Author.Rules.{rules}
-use native.Mathlib.Omega.{arith}
 use Rattle.output.proofs.Laws.{put-none, put_as}
 use Rattle.output.proofs.Room.{puts}
 use Rattle.binary_writer.proofs.Lengths.{is-missing}

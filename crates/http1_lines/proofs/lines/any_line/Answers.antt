@@ -1,10 +1,7 @@
-use borrow.Author.Rules.{rules}
 use native.Mathlib.Omega.{arith}
-use Prim.Native.Nat.{ℕ, ◌+◌, ◌-◌, ◌≤◌}
-use mathlib.Core.Path.{◌≡◌, refl, sym, ap, ◌∙◌}
-use lib.ListN.{length, take, drop}
-use Rattle.script.specs.Script.{line_of}
-use Rattle.script.specs.declared.Line.TheVariants.{Ends}
+use Prim.Native.Nat.{◌+◌, ◌-◌, ◌≤◌}
+use mathlib.Core.Path.{sym, ◌∙◌}
+use lib.ListN.{length}
 use Rattle.http1_lines.proofs.Next.{judged-empty, judged-some, part-long, next_more, next-bad, next-long, next-ends, ends-within}
 use Rattle.http1_lines.proofs.lines.any_line.Goals as goal
 

@@ -1,7 +1,5 @@
-use native.Mathlib.Omega.{arith}
-use Rattle.octets.proofs.Kit.{kit}
 use Rattle.messages.proofs.Picks.{by-table}
-use Rattle.http1_lines.proofs.Judges.{front-count, chunk-none, chunk-good, chunk-bad}
+use Rattle.http1_lines.proofs.Judges.{chunk-none, chunk-good, chunk-bad}
 use Rattle.http1_lines.proofs.lines.chunk_line.Goals as goal
 
 pub returns-then-is_value_from : goal.returns-then-is_value_from

@@ -1,5 +1,4 @@
-use Rattle.octets.proofs.Kit.{kit}
-use Rattle.http1_lines.proofs.Judges.{all_past, all-part}
+use Rattle.http1_lines.proofs.Judges.{all_past}
 use Rattle.http1_lines.proofs.lines.is_value_from.Goals as goal
 
 pub returns-then-w-from : goal.returns-then-w-from

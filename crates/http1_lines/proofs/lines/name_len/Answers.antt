@@ -1,4 +1,3 @@
-use borrow.Author.Rules.{rules}
 use native.Mathlib.Omega.{arith}
 use Rattle.http1_lines.proofs.Judges.{name-short, name-other, name-colon, span-by-table}
 use Rattle.http1_lines.proofs.lines.name_len.Goals as goal

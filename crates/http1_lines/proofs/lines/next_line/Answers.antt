@@ -1,4 +1,3 @@
-use borrow.Author.Rules.{rules}
 use native.Mathlib.Omega.{arith}
 use Rattle.http1_lines.proofs.Judges.{span-by-table}
 use Rattle.http1_lines.proofs.Next.{run-all, next-walked}

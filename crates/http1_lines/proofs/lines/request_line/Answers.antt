@@ -1,4 +1,3 @@
-use Rattle.octets.proofs.Kit.{kit}
 use Rattle.http1_lines.proofs.Judges.{spaces-none, spaces-one, request-on}
 use Rattle.http1_lines.proofs.lines.request_line.Goals as goal
 

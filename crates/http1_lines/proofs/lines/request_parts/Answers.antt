@@ -1,6 +1,5 @@
-use native.Mathlib.Omega.{arith}
 use Rattle.octets.proofs.Kit.{kit}
-use Rattle.http1_lines.proofs.Judges.{front-count, method-bad, parts-on}
+use Rattle.http1_lines.proofs.Judges.{method-bad, parts-on}
 use Rattle.http1_lines.proofs.lines.request_parts.Goals as goal
 
 pub returns-then-verdict-eq0 : goal.returns-then-verdict-eq0

@@ -1,4 +1,3 @@
-use Rattle.octets.proofs.Kit.{kit}
 use Rattle.http1_lines.proofs.Judges.{spaces-more, version-other, version-on}
 use Rattle.http1_lines.proofs.lines.request_version.Goals as goal
 

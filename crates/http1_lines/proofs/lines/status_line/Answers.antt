@@ -1,4 +1,3 @@
-use Rattle.octets.proofs.Kit.{kit}
 use Rattle.http1_lines.proofs.Judges.{status-shape, status-on}
 use Rattle.http1_lines.proofs.lines.status_line.Goals as goal
 

@@ -1,6 +1,4 @@
-use native.Mathlib.Omega.{arith}
-use Rattle.octets.proofs.Kit.{kit}
-use Rattle.http1_lines.proofs.Judges.{front-count, version-bad, status-good, status-bad}
+use Rattle.http1_lines.proofs.Judges.{version-bad, status-good, status-bad}
 use Rattle.http1_lines.proofs.lines.status_version.Goals as goal
 
 pub returns-then-verdict-eq0 : goal.returns-then-verdict-eq0

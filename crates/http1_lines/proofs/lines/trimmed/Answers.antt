@@ -1,4 +1,3 @@
-use borrow.Author.Rules.{rules}
 use native.Mathlib.Omega.{arith}
 use Rattle.octets.specs.Class.{is_blank}
 use Rattle.octets.proofs.Texts.{run-within}

@@ -1,4 +1,3 @@
-use Rattle.octets.proofs.Kit.{kit}
 use Rattle.http1_lines.proofs.Judges.{value-good, value-bad, span-by-table}
 use Rattle.http1_lines.proofs.lines.value_in.Goals as goal
 

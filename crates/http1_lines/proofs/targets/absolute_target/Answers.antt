@@ -1,4 +1,3 @@
-use Rattle.octets.proofs.Kit.{kit}
 use Rattle.messages.proofs.Picks.{by-table}
 use Rattle.http1_lines.proofs.RequestTargets.{absolute-octets, absolute-host, absolute-on}
 use Rattle.http1_lines.proofs.targets.absolute_target.Goals as goal

@@ -1,11 +1,8 @@
 use Prim.Native.Nat.{◌+◌, ◌-◌, ◌≤◌}
-use mathlib.Core.Path.{◌≡◌, refl}
+use mathlib.Core.Path.{◌≡◌}
 use lib.ListN.{length, drop}
 use Rattle.octets.specs.Text.{span_len}
-use Rattle.octets.proofs.Texts.{span-step, span-end}
-use Rattle.octets.proofs.Kit.{kit}
 use Rattle.http1_lines.specs.Target.{is_before_path}
-use Rattle.http1_lines.proofs.RequestTargets.{slash-ends, query-ends, before-path}
 use Rattle.http1_lines.proofs.targets.authority_end.Given as goal
 
 abbrev pub invariant-loop-i : goal.invariant-loop-i

@@ -1,6 +1,5 @@
 use Rattle.octets.proofs.Kit.{kit}
 use Rattle.http1_lines.specs.Target.{starts_with}
-use Rattle.http1_lines.proofs.Judges.{front-count}
 use Rattle.http1_lines.proofs.RequestTargets.{starts-short}
 use Rattle.http1_lines.proofs.targets.starts_with.Goals as goal
 

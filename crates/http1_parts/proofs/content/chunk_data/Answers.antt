@@ -1,6 +1,4 @@
-use native.Mathlib.Omega.{arith}
 use Rattle.http1_parts.proofs.ChunkTurns.{data-short, data-good, data-lf, data-cr}
-use borrow.Author.Rules.{rules}
 use Rattle.http1_parts.proofs.content.chunk_data.Goals as goal
 
 pub returns-then-s-start : goal.returns-then-s-start

@@ -1,19 +1,14 @@
 use native.Mathlib.Omega.{arith}
-use Prim.Native.Nat.{ℕ, suc, ◌+◌, ◌-◌, ◌*◌, ◌≤◌, ◌<◌}
-use mathlib.Core.Path.{◌≡◌, refl, ap, ◌∙◌}
-use mathlib.Core.List.{List, [], ◌∷◌, ◌++◌}
+use Prim.Native.Nat.{◌+◌, ◌-◌, ◌*◌}
+use mathlib.Core.Path.{refl, ap, ◌∙◌}
+use mathlib.Core.List.{[], ◌∷◌, ◌++◌}
 use lib.ListN.{length, take, drop, length-append}
-use Rattle.octets.specs.Table.{classes}
-use Rattle.octets.specs.Limits.{chunks_most, content_most}
-use Rattle.script.specs.Script.{run}
-use Rattle.script.specs.Do.{Piece, piece}
-use Rattle.output.specs.Splice.{splice}
+use Rattle.script.specs.Do.{piece}
 use Rattle.output.proofs.Laws.{splice-length}
 use Rattle.messages.specs.Meaning.{content_of}
 use Rattle.messages.specs.Answers.{chunks_numbers}
-use Rattle.messages.specs.declared.Body.TheVariants.{InChunks}
-use Rattle.http1_lines.specs.Read.{chunks_from, content}
-use Rattle.http1_parts.proofs.Contents.{contented-more, contented-refused, chunks-end, chunk-bounds, last-bounds, more-said, refused-said, last-said, next-said, content-next, chunk-stored}
+use Rattle.http1_lines.specs.Read.{content}
+use Rattle.http1_parts.proofs.Contents.{chunk-bounds, next-said, content-next, chunk-stored}
 use Rattle.http1_parts.proofs.content.read_chunks.Goals as goal
 
 pub loop-number-init : goal.loop-number-init

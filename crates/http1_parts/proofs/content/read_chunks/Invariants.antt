@@ -1,19 +1,16 @@
-use native.Mathlib.Omega.{arith}
-use Prim.Native.Nat.{ℕ, suc, ◌+◌, ◌-◌, ◌*◌, ◌≤◌, ◌<◌}
-use mathlib.Core.Path.{◌≡◌, refl, ap, ◌∙◌}
-use mathlib.Core.List.{List, [], ◌∷◌, ◌++◌}
-use lib.ListN.{length, take, drop, length-append}
+use Prim.Native.Nat.{suc, ◌+◌, ◌-◌, ◌*◌, ◌≤◌}
+use mathlib.Core.Path.{◌≡◌}
+use mathlib.Core.List.{List}
+use lib.ListN.{length, drop}
 use Rattle.octets.specs.Table.{classes}
 use Rattle.octets.specs.Limits.{chunks_most, content_most}
 use Rattle.script.specs.Script.{run}
-use Rattle.script.specs.Do.{Piece, piece}
+use Rattle.script.specs.Do.{Piece}
 use Rattle.output.specs.Splice.{splice}
-use Rattle.output.proofs.Laws.{splice-length}
 use Rattle.messages.specs.Meaning.{content_of}
 use Rattle.messages.specs.Answers.{chunks_numbers}
 use Rattle.messages.specs.declared.Body.TheVariants.{InChunks}
 use Rattle.http1_lines.specs.Read.{chunks_from, content}
-use Rattle.http1_parts.proofs.Contents.{contented-more, contented-refused, chunks-end, chunk-bounds, last-bounds, more-said, refused-said, last-said, next-said, content-next, chunk-stored}
 use Rattle.http1_parts.proofs.content.read_chunks.Given as goal
 
 abbrev pub invariant-loop-number : goal.invariant-loop-number

@@ -1,6 +1,4 @@
-use native.Mathlib.Omega.{arith}
 use Rattle.http1_parts.proofs.Contents.{sized-more, sized-none, sized-one}
-use borrow.Author.Rules.{rules}
 use Rattle.http1_parts.proofs.content.read_sized.Goals as goal
 
 pub returns-then-s-from : goal.returns-then-s-from

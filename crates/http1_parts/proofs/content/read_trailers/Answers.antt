@@ -1,6 +1,4 @@
-use native.Mathlib.Omega.{arith}
 use Rattle.http1_parts.proofs.Contents.{trailers-more, trailers-refused, trailers-good, trailers-bad}
-use borrow.Author.Rules.{rules}
 use Rattle.http1_parts.proofs.content.read_trailers.Goals as goal
 
 pub returns-in-More : goal.returns-in-More

@@ -1,4 +1,3 @@
-use borrow.Author.Rules.{rules}
 use Rattle.http1_parts.proofs.Contents.{unmeasured-more, unmeasured-over}
 use Rattle.http1_parts.proofs.content.read_unmeasured.Goals as goal
 

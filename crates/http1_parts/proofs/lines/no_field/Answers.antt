@@ -1,4 +1,3 @@
-use borrow.Author.Rules.{rules}
 use mathlib.Core.Path.{sym, ◌∙◌}
 use Rattle.http1_parts.specs.Section.{no_field}
 use Rattle.http1_parts.proofs.lines.no_field.Goals as goal

@@ -1,7 +1,6 @@
-use borrow.Author.Rules.{rules}
 use native.Mathlib.Omega.{arith}
 use Rattle.http1_parts.proofs.Outcomes.{section-done}
-use Rattle.http1_parts.proofs.Headers.{headers-more, headers-refused, headers-gathered, headers-done}
+use Rattle.http1_parts.proofs.Headers.{headers-gathered, headers-done}
 use Rattle.http1_parts.proofs.lines.read_headers.Goals as goal
 
 pub drop_named-kept-requires : goal.drop_named-kept-requires

@@ -1,20 +1,13 @@
-use native.Mathlib.Omega.{arith}
-use borrow.Author.Tests.{leb-true, leb-false}
-use Prim.Native.Nat.{ℕ, suc, ◌+◌, ◌-◌, ◌≤◌}
-use mathlib.Core.Path.{◌≡◌, refl, sym, ap, ◌∙◌}
-use mathlib.Core.List.{List, [], ◌∷◌, ◌++◌}
+use Prim.Native.Nat.{suc, ◌+◌, ◌-◌, ◌≤◌}
+use mathlib.Core.Path.{◌≡◌}
+use mathlib.Core.List.{List}
 use lib.ListN.{length, drop}
 use Rattle.octets.specs.Limits.{lines_most}
 use Rattle.octets.specs.Table.{classes}
 use Rattle.script.specs.Script.{run}
-use Rattle.script.proofs.Places.{line-within}
 use Rattle.messages.specs.Message.{FieldRead}
 use Rattle.http1_lines.specs.Read.{field_lines, section}
-use Rattle.http1_parts.specs.Section.{no_field, line_at}
-use Rattle.http1_parts.specs.declared.Section.TheVariants.{Refused}
-use Rattle.http1_parts.proofs.Line.{FieldAt, EmptyLine, tells_more, tells-bad, tells-long, tells-empty, tells-field, tells_none}
-use Rattle.http1_parts.proofs.Turns.{sectioned-as, turn_more, turn-bad, turn-long, empty-at, turn-empty, turn-none, turn-over, turn-taken, field-bounds}
-use Rattle.http1_parts.proofs.Taking.{LinesTaken, taken_none, taken-altered, field_room, taken-room, taken-noted, taken-passed, taken-all}
+use Rattle.http1_parts.proofs.Taking.{LinesTaken}
 use Rattle.http1_parts.proofs.lines.read_section.Given as goal
 
 abbrev pub invariant-loop-next : goal.invariant-loop-next

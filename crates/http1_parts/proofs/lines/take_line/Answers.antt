@@ -1,6 +1,4 @@
-use native.Mathlib.Omega.{arith}
 use Rattle.http1_parts.proofs.Line.{line-taken}
-use borrow.Author.Rules.{rules}
 use Rattle.http1_parts.proofs.lines.take_line.Goals as goal
 
 pub returns : goal.returns

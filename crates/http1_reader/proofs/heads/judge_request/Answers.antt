@@ -1,5 +1,4 @@
-use borrow.Author.Rules.{rules}
-use mathlib.Core.Path.{◌≡◌, refl, sym, ap, ◌∙◌}
+use mathlib.Core.Path.{sym, ◌∙◌}
 use Rattle.http1_reader.proofs.HeadLaws.{answer-host, answer-length, answer-good, judged-host, judged-length, judged-good}
 use Rattle.http1_reader.proofs.heads.judge_request.Goals as goal
 

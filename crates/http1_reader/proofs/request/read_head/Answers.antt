@@ -1,5 +1,4 @@
-use borrow.Author.Rules.{rules}
-use mathlib.Core.Path.{◌≡◌, refl, sym, ap, ◌∙◌}
+use mathlib.Core.Path.{refl}
 use native.Mathlib.Omega.{arith}
 use Rattle.http1_parts.proofs.Outcomes.{section-more, section-refused, section-done, behind_more, behind-refused}
 use Rattle.http1_reader.specs.Readers.{request_is}

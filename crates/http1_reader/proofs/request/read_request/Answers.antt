@@ -1,5 +1,3 @@
-use borrow.Author.Rules.{rules}
-use native.Mathlib.Omega.{arith}
 use mathlib.Core.Path.{◌∙◌}
 use Rattle.http1_reader.proofs.Values.{request-counts, request-by-value}
 use Rattle.http1_reader.proofs.request.read_request.Goals as goal

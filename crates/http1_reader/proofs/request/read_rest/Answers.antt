@@ -1,5 +1,3 @@
-use borrow.Author.Rules.{rules}
-use mathlib.Core.Path.{◌≡◌, refl, sym, ap, ◌∙◌}
 use native.Mathlib.Omega.{arith}
 use Rattle.http1_reader.proofs.Requests.{rest-wrong, rest-good, rest-bounds}
 use Rattle.http1_reader.proofs.request.read_rest.Goals as goal

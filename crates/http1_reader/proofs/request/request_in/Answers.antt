@@ -1,7 +1,5 @@
-use borrow.Author.Rules.{rules}
-use mathlib.Core.Path.{◌≡◌, refl, sym, ap, ◌∙◌}
+use mathlib.Core.Path.{refl, sym, ◌∙◌}
 use native.Mathlib.Omega.{arith}
-use lib.ListN.{length, take, drop}
 use Rattle.http1_lines.proofs.Judges.{front-count}
 use Rattle.script.proofs.Places.{line-within}
 use Rattle.octets.specs.Limits.{head_most}

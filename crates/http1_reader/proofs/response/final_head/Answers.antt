@@ -1,4 +1,3 @@
-use borrow.Author.Rules.{rules}
 use Rattle.ranges.specs.Ranges.{AnyHeads}
 use Rattle.http1_reader.proofs.ResponseHeads.{headed-more, headed-refused, final-ends}
 use Rattle.http1_reader.proofs.response.final_head.Goals as goal

@@ -1,4 +1,3 @@
-use borrow.Author.Rules.{rules}
 use mathlib.Core.Path.{sym, ◌∙◌}
 use Rattle.ranges.specs.Ranges.{FewHeads}
 use Rattle.http1_lines.specs.Read.{after_informational}

@@ -1,9 +1,7 @@
 use native.Mathlib.Omega.{arith}
-use Prim.Native.Nat.{ℕ, suc, ◌+◌, ◌-◌, ◌*◌, ◌≤◌, ◌<◌}
-use mathlib.Core.Path.{◌≡◌, refl, sym, ◌∙◌}
-use lib.ListN.{length}
-use Rattle.octets.specs.Table.{classes}
-use Rattle.http1_reader.proofs.ResponseTurns.{HeadsTo, heads-start, heads-more, heads-refused, heads-final, final-some, informational-some, heads-next}
+use Prim.Native.Nat.{◌-◌}
+use mathlib.Core.Path.{refl}
+use Rattle.http1_reader.proofs.ResponseTurns.{heads-start, heads-more, heads-refused, heads-final, informational-some, heads-next}
 use Rattle.http1_reader.proofs.response.read_heads.Goals as goal
 
 pub loop-number-init : goal.loop-number-init

@@ -1,9 +1,8 @@
-use native.Mathlib.Omega.{arith}
-use Prim.Native.Nat.{ℕ, suc, ◌+◌, ◌-◌, ◌*◌, ◌≤◌, ◌<◌}
-use mathlib.Core.Path.{◌≡◌, refl, sym, ◌∙◌}
+use Prim.Native.Nat.{◌-◌}
+use mathlib.Core.Path.{◌≡◌}
 use lib.ListN.{length}
 use Rattle.octets.specs.Table.{classes}
-use Rattle.http1_reader.proofs.ResponseTurns.{HeadsTo, heads-start, heads-more, heads-refused, heads-final, final-some, informational-some, heads-next}
+use Rattle.http1_reader.proofs.ResponseTurns.{HeadsTo}
 use Rattle.http1_reader.proofs.response.read_heads.Given as goal
 
 abbrev pub invariant-loop-number : goal.invariant-loop-number

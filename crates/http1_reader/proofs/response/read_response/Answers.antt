@@ -1,5 +1,3 @@
-use borrow.Author.Rules.{rules}
-use native.Mathlib.Omega.{arith}
 use mathlib.Core.Path.{◌∙◌}
 use Rattle.http1_reader.proofs.Values.{response-counts, response-by-value}
 use Rattle.http1_reader.proofs.response.read_response.Goals as goal

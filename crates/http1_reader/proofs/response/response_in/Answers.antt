@@ -1,6 +1,4 @@
-use borrow.Author.Rules.{rules}
-use native.Mathlib.Omega.{arith}
-use Rattle.http1_reader.proofs.ResponseLaws.{responded-more, responded-refused, final-place, responded-final}
+use Rattle.http1_reader.proofs.ResponseLaws.{responded-more, responded-refused, responded-final}
 use Rattle.http1_reader.proofs.response.response_in.Goals as goal
 
 pub returns-in-More : goal.returns-in-More

@@ -1,5 +1,4 @@
 use Rattle.ranges.specs.Entries.{content_in}
-use borrow.Author.Rules.{rules}
 use native.Mathlib.Omega.{arith}
 use Rattle.output.proofs.Laws.{put_count, put-none}
 use Rattle.output.proofs.Room.{puts, puts_then}

@@ -1,6 +1,4 @@
-use borrow.Author.Rules.{rules}
 use native.Mathlib.Omega.{arith}
-use mathlib.Core.Path.{◌≡◌, refl, sym, ap, ◌∙◌}
 use Rattle.http1_writer.proofs.Fits.{count-response, count-request}
 use Rattle.http1_writer.proofs.fitting.head_count.Goals as goal
 

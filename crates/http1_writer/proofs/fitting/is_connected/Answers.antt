@@ -1,6 +1,3 @@
-use borrow.Author.Rules.{rules}
-use native.Mathlib.Omega.{arith}
-use mathlib.Core.Path.{◌≡◌, refl, sym, ap, ◌∙◌}
 use Rattle.http1_writer.proofs.Fits.{connected-response, connected-request}
 use Rattle.http1_writer.proofs.fitting.is_connected.Goals as goal
 

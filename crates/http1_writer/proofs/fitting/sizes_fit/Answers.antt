@@ -1,8 +1,4 @@
-use borrow.Author.Rules.{rules}
-use native.Mathlib.Omega.{arith}
-use mathlib.Core.Path.{◌≡◌, refl, sym, ap, ◌∙◌}
-use lib.Dec.{leb}
-use Rattle.octets.specs.Limits.{lines_most}
+use mathlib.Core.Path.{sym, ◌∙◌}
 use Rattle.http1_writer.proofs.Fits.{fits_head, fits-lines, fits-trailers}
 use Rattle.http1_writer.proofs.fitting.sizes_fit.Goals as goal
 

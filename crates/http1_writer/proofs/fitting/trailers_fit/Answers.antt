@@ -1,6 +1,4 @@
-use borrow.Author.Rules.{rules}
-use native.Mathlib.Omega.{arith}
-use mathlib.Core.Path.{◌≡◌, refl, sym, ap, ◌∙◌}
+use mathlib.Core.Path.{◌∙◌}
 use Rattle.http1_writer.proofs.Fits.{trailers-none, trailers-some}
 use Rattle.http1_writer.proofs.fitting.trailers_fit.Goals as goal
 

@@ -1,14 +1,7 @@
-use borrow.Author.Rules.{rules}
-use Prim.Native.Nat.{ℕ, ◌+◌, ◌-◌, ◌*◌, ◌≤◌, ◌<◌}
-use mathlib.Core.Path.{◌≡◌, refl, sym, ap, ◌∙◌}
-use mathlib.Core.List.{[]}
-use native.Mathlib.Nat.{sub-zero}
-use native.Mathlib.Omega.{arith}
-use lib.ListN.{length}
-use Rattle.ranges.specs.Entries.{fields_before, FieldsWithin, HeadsWithin}
-use Rattle.ranges.proofs.Entries.{before-next, before-none}
+use Prim.Native.Nat.{◌+◌, ◌-◌, ◌*◌, ◌≤◌}
+use mathlib.Core.Path.{◌≡◌}
+use Rattle.ranges.specs.Entries.{fields_before}
 use Rattle.http1_writer.specs.Numbered.{heads_size}
-use Rattle.http1_writer.proofs.Turns.{head-next, head-none, head-within}
 use Rattle.http1_writer.proofs.heads.heads_size.Given as goal
 
 abbrev pub invariant-loop-i : goal.invariant-loop-i

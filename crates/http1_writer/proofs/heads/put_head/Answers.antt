@@ -1,6 +1,4 @@
-use borrow.Author.Rules.{rules}
 use native.Mathlib.Omega.{arith}
-use mathlib.Core.Path.{sym}
 use Rattle.output.proofs.Laws.{put_then}
 use Rattle.output.proofs.Laws.{put_as}
 use Rattle.http1_writer.proofs.Head.{head-parts}

@@ -1,12 +1,9 @@
-use borrow.Author.Rules.{rules}
-use Prim.Native.Nat.{ℕ, ◌+◌, ◌-◌, ◌*◌, ◌≤◌, ◌<◌}
-use mathlib.Core.Path.{◌≡◌, refl, sym, ap, ◌∙◌}
+use Prim.Native.Nat.{◌-◌}
+use mathlib.Core.Path.{sym}
 use native.Mathlib.Omega.{arith}
-use lib.ListN.{length}
-use Rattle.ranges.specs.Entries.{fields_before, FieldsWithin, HeadsWithin}
 use Rattle.ranges.proofs.Entries.{before-next, before-none}
 use Rattle.output.proofs.Laws.{left-turn, left-none}
-use Rattle.http1_writer.proofs.Turns.{HeadsLeft, heads-start, heads-length, head-next, head-none, head-within}
+use Rattle.http1_writer.proofs.Turns.{heads-start, heads-length, head-next, head-none}
 use Rattle.http1_writer.proofs.heads.put_heads.Goals as goal
 
 pub loop-i-init : goal.loop-i-init

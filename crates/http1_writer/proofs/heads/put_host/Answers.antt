@@ -1,4 +1,3 @@
-use borrow.Author.Rules.{rules}
 use borrow.Author.Tests.{le-leb}
 use Rattle.output.proofs.Room.{puts, puts-part, puts_then}
 use Rattle.http1_writer.specs.Write.{field_text, host_field}

@@ -1,4 +1,3 @@
-use borrow.Author.Rules.{rules}
 use Rattle.output.proofs.Room.{puts, puts_then}
 use Rattle.http1_writer.specs.Write.{status_line}
 use Rattle.http1_writer.proofs.heads.put_status.Goals as goal

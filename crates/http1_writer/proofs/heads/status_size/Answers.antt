@@ -1,7 +1,5 @@
-use borrow.Author.Rules.{rules}
 use native.Mathlib.Omega.{arith}
 use Rattle.numbers.proofs.DigitLaws.{count_most}
-use borrow.Author.Rules.{rules}
 use Rattle.http1_writer.proofs.heads.status_size.Goals as goal
 
 pub overflow_add-result : goal.overflow_add-result

@@ -1,4 +1,3 @@
-use borrow.Author.Rules.{rules}
 use Rattle.http1_writer.specs.Write.{is_get_or_head}
 use Rattle.messages.proofs.Picks.{picks}
 use Rattle.http1_writer.proofs.lengths.is_get_or_head.Goals as goal

@@ -1,4 +1,3 @@
-use borrow.Author.Rules.{rules}
 use Rattle.http1_writer.proofs.Length.{silent-former, silent-method}
 use Rattle.http1_writer.proofs.lengths.is_silent.Goals as goal
 

@@ -1,5 +1,3 @@
-use borrow.Author.Rules.{rules}
-use native.Mathlib.Omega.{arith}
 use mathlib.Core.Path.{◌∙◌}
 use Rattle.http1_writer.proofs.Length.{unmeasured-response, unmeasured-empty, unmeasured-full}
 use Rattle.http1_writer.proofs.lengths.is_unmeasured.Goals as goal

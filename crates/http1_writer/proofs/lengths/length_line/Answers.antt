@@ -1,4 +1,3 @@
-use borrow.Author.Rules.{rules}
 use mathlib.Core.Path.{sym, ◌∙◌}
 use Rattle.http1_writer.proofs.Length.{line-stated, line-length, line-chunked}
 use Rattle.http1_writer.proofs.lengths.length_line.Goals as goal

@@ -1,4 +1,3 @@
-use borrow.Author.Rules.{rules}
 use borrow.Author.Tests.{le-leb}
 use Rattle.messages.specs.Meaning.{field_means}
 use Rattle.http1_writer.specs.Write.{field_text}

@@ -1,11 +1,8 @@
-use borrow.Author.Rules.{rules}
-use Prim.Native.Nat.{ℕ, ◌+◌, ◌-◌, ◌*◌, ◌≤◌, ◌<◌}
-use mathlib.Core.Path.{◌≡◌, refl, sym, ap, ◌∙◌}
+use Prim.Native.Nat.{◌-◌}
 use native.Mathlib.Omega.{arith}
-use lib.ListN.{length}
 use Rattle.output.proofs.Room.{puts}
 use Rattle.output.proofs.Laws.{left-turn, left-last}
-use Rattle.http1_writer.proofs.Turns.{LinesLeft, section-start, section-length, section-more, section-none}
+use Rattle.http1_writer.proofs.Turns.{section-length, section-more, section-none}
 use Rattle.http1_writer.proofs.sections.put_section.Goals as goal
 
 pub loop-i-preserved : goal.loop-i-preserved

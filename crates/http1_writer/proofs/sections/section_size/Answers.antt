@@ -1,12 +1,7 @@
-use borrow.Author.Rules.{rules}
-use Prim.Native.Nat.{ℕ, ◌+◌, ◌-◌, ◌*◌, ◌≤◌, ◌<◌}
-use mathlib.Core.Path.{◌≡◌, refl, sym, ap, ◌∙◌}
+use Prim.Native.Nat.{◌-◌}
 use mathlib.Core.List.{[]}
-use native.Mathlib.Nat.{add-zero, sub-zero}
 use native.Mathlib.Omega.{arith}
-use lib.ListN.{length}
-use Rattle.http1_writer.specs.Numbered.{section_size}
-use Rattle.http1_writer.proofs.Turns.{section-more, section-none}
+use Rattle.http1_writer.proofs.Turns.{section-more}
 use Rattle.http1_writer.proofs.sections.section_size.Goals as goal
 
 pub loop-i-preserved : goal.loop-i-preserved

@@ -1,9 +1,6 @@
-use Prim.Native.Nat.{◌-◌, ◌≤◌}
-use mathlib.Core.Path.{◌≡◌, refl}
+use Prim.Native.Nat.{◌-◌}
 use native.Mathlib.Omega.{arith}
 use borrow.Author.Rules.{rules}
-use lib.ListN.{length, drop}
-use Rattle.messages.specs.Connection.{members, any_member, MemberFrom}
 use Rattle.messages.proofs.Members.{any_found, any-more, any_last}
 use Rattle.messages.proofs.lists.has_member.Goals as goal
 

@@ -1,10 +1,7 @@
 use Prim.Native.Nat.{◌-◌, ◌≤◌}
-use mathlib.Core.Path.{◌≡◌, refl}
-use native.Mathlib.Omega.{arith}
-use borrow.Author.Rules.{rules}
+use mathlib.Core.Path.{◌≡◌}
 use lib.ListN.{length, drop}
 use Rattle.messages.specs.Connection.{members, any_member, MemberFrom}
-use Rattle.messages.proofs.Members.{any_found, any-more, any_last}
 use Rattle.messages.proofs.lists.has_member.Given as goal
 
 abbrev pub invariant-loop-m : goal.invariant-loop-m

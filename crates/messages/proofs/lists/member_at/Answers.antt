@@ -1,7 +1,3 @@
-use mathlib.Core.Path.{sym}
-use lib.Seq.{length-take-le}
-use borrow.Author.Rules.{rules}
-use native.Mathlib.Omega.{arith}
 use Rattle.messages.proofs.Members.{member-past, start-before, member-found}
 use Rattle.messages.proofs.lists.member_at.Goals as goal
 

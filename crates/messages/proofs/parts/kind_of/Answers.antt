@@ -1,6 +1,5 @@
 use mathlib.Core.Logic.{inl, inr}
 use Rattle.messages.proofs.NameLengths.{ordinary-length}
-use borrow.Author.Rules.{rules}
 use Rattle.messages.proofs.parts.kind_of.Goals as goal
 
 pub returns-in_default : goal.returns-in_default

@@ -1,5 +1,3 @@
-use mathlib.Core.Path.{sym, ◌∙◌}
-use borrow.Author.Rules.{rules}
 use borrow.Author.Tests.{eq-eqb, ne_eqb}
 use Rattle.messages.specs.Rules.{bodyless_rule}
 use Rattle.messages.proofs.sections.bodyless_rule.Goals as goal

@@ -1,4 +1,3 @@
-use borrow.Author.Rules.{rules}
 use Rattle.messages.specs.Rules.{content_body}
 use Rattle.messages.proofs.sections.content_body.Goals as goal
 

@@ -1,4 +1,3 @@
-use borrow.Author.Rules.{rules}
 use Rattle.messages.specs.Rules.{length_alone}
 use Rattle.messages.proofs.Lengths.{alone-fits, alone-over, alone-announced, alone-coded}
 use Rattle.messages.proofs.sections.length_alone.Goals as goal

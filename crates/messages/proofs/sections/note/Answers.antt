@@ -1,4 +1,3 @@
-use borrow.Author.Rules.{rules}
 use mathlib.Core.Path.{refl}
 use Rattle.messages.specs.Notes.{note_of}
 use Rattle.messages.proofs.sections.note.Goals as goal

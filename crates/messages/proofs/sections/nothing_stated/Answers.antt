@@ -1,4 +1,3 @@
-use borrow.Author.Rules.{rules}
 use Rattle.messages.specs.Rules.{nothing_stated}
 use Rattle.messages.proofs.sections.nothing_stated.Goals as goal
 

@@ -1,4 +1,3 @@
-use borrow.Author.Rules.{rules}
 use Rattle.messages.specs.Rules.{request_body}
 use Rattle.messages.proofs.Lengths.{stated-fits, stated-over}
 use Rattle.messages.proofs.sections.request_body.Goals as goal

@@ -1,5 +1,4 @@
 use mathlib.Core.Path.{sym, ◌∙◌}
-use borrow.Author.Rules.{rules}
 use Rattle.messages.specs.Rules.{response_body}
 use Rattle.messages.proofs.sections.response_body.Goals as goal
 

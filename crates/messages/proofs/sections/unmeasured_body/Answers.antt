@@ -1,4 +1,3 @@
-use borrow.Author.Rules.{rules}
 use Rattle.messages.specs.Rules.{unmeasured_body}
 use Rattle.messages.proofs.Lengths.{closed-fits, closed-over}
 use Rattle.messages.proofs.sections.unmeasured_body.Goals as goal

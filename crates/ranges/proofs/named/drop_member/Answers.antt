@@ -1,6 +1,6 @@
-use Prim.Native.Nat.{◌-◌, ◌≤◌}
+use Prim.Native.Nat.{◌-◌}
 use native.Mathlib.Omega.{arith}
-use Rattle.ranges.proofs.Dropping.{LeftTo, drop-start, drop-it, keep-it, drop_all, name-inside}
+use Rattle.ranges.proofs.Dropping.{drop-start, drop-it, keep-it, name-inside}
 use Rattle.ranges.proofs.named.drop_member.Goals as goal
 
 pub loop-i-init : goal.loop-i-init

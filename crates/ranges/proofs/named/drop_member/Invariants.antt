@@ -1,6 +1,5 @@
 use Prim.Native.Nat.{◌-◌, ◌≤◌}
-use native.Mathlib.Omega.{arith}
-use Rattle.ranges.proofs.Dropping.{LeftTo, drop-start, drop-it, keep-it, drop_all, name-inside}
+use Rattle.ranges.proofs.Dropping.{LeftTo}
 use Rattle.ranges.proofs.named.drop_member.Given as goal
 
 abbrev pub invariant-loop-i : goal.invariant-loop-i

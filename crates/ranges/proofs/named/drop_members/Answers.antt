@@ -1,7 +1,5 @@
-use native.Mathlib.Omega.{arith}
 use Prim.Native.Nat.{◌-◌}
-use lib.ListN.{length}
-use Rattle.ranges.proofs.Dropping.{MembersLeft, members-start, members-more, members-done, member-part}
+use Rattle.ranges.proofs.Dropping.{members-start, members-more, members-done, member-part}
 use Rattle.ranges.proofs.named.drop_members.Goals as goal
 
 pub loop-m-init : goal.loop-m-init

@@ -1,7 +1,6 @@
-use native.Mathlib.Omega.{arith}
 use Prim.Native.Nat.{◌-◌}
 use lib.ListN.{length}
-use Rattle.ranges.proofs.Dropping.{MembersLeft, members-start, members-more, members-done, member-part}
+use Rattle.ranges.proofs.Dropping.{MembersLeft}
 use Rattle.ranges.proofs.named.drop_members.Given as goal
 
 abbrev pub invariant-loop-m : goal.invariant-loop-m

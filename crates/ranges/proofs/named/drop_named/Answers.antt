@@ -1,5 +1,4 @@
-use borrow.Author.Rules.{rules}
-use Rattle.ranges.proofs.Leaving.{named-dropped, none_dropped, trailers-left, values-gathered}
+use Rattle.ranges.proofs.Leaving.{named-dropped, none_dropped, values-gathered}
 use Rattle.ranges.proofs.named.drop_named.Goals as goal
 
 pub drop_values-requires : goal.drop_values-requires

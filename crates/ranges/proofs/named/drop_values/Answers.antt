@@ -1,6 +1,5 @@
 use Prim.Native.Nat.{◌-◌}
-use native.Mathlib.Omega.{arith}
-use Rattle.ranges.proofs.Dropping.{ValuesLeft, values-start, value_room, value-inside, values-turn, values-done}
+use Rattle.ranges.proofs.Dropping.{value-inside, values-turn, values-done}
 use Rattle.ranges.proofs.named.drop_values.Goals as goal
 
 pub slice_bounds-drop_members-end : goal.slice_bounds-drop_members-end

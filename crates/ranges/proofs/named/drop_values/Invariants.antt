@@ -1,6 +1,5 @@
 use Prim.Native.Nat.{◌-◌}
-use native.Mathlib.Omega.{arith}
-use Rattle.ranges.proofs.Dropping.{ValuesLeft, values-start, value_room, value-inside, values-turn, values-done}
+use Rattle.ranges.proofs.Dropping.{ValuesLeft}
 use Rattle.ranges.proofs.named.drop_values.Given as goal
 
 abbrev pub invariant-loop-i : goal.invariant-loop-i

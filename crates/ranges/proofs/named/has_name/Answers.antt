@@ -1,4 +1,3 @@
-use borrow.Author.Rules.{rules}
 use Rattle.ranges.proofs.Dropping.{name-here, name-other}
 use Rattle.ranges.proofs.named.has_name.Goals as goal
 

@@ -1,4 +1,3 @@
-use borrow.Author.Rules.{rules}
 use Rattle.ranges.proofs.Dropping.{entry-stays}
 use mathlib.Core.Path.{refl}
 use Rattle.ranges.proofs.named.move_entry.Goals as goal

@@ -1,9 +1,5 @@
-use borrow.Author.Rules.{rules}
 use native.Mathlib.Omega.{arith}
-use Prim.Native.Nat.{◌-◌, ◌+◌, ◌≤◌}
-use mathlib.Core.Path.{◌≡◌, refl}
-use lib.ListN.{length, drop}
-use Rattle.step_lines.specs.Entries.{entries, count_in}
+use Prim.Native.Nat.{◌-◌}
 use Rattle.step_lines.proofs.Counting.{count-more, count_none}
 use Rattle.step_lines.proofs.names.count.Goals as goal
 

@@ -1,10 +1,7 @@
-use borrow.Author.Rules.{rules}
-use native.Mathlib.Omega.{arith}
 use Prim.Native.Nat.{◌-◌, ◌+◌, ◌≤◌}
-use mathlib.Core.Path.{◌≡◌, refl}
+use mathlib.Core.Path.{◌≡◌}
 use lib.ListN.{length, drop}
 use Rattle.step_lines.specs.Entries.{entries, count_in}
-use Rattle.step_lines.proofs.Counting.{count-more, count_none}
 use Rattle.step_lines.proofs.names.count.Given as goal
 
 abbrev pub invariant-loop-i : goal.invariant-loop-i

@@ -1,4 +1,3 @@
-use borrow.Author.Rules.{rules}
 use Rattle.step_lines.proofs.Counting.{does-none, does-some, does-other}
 use Rattle.step_lines.proofs.names.does_name.Goals as goal
 

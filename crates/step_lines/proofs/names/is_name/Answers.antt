@@ -1,4 +1,3 @@
-use borrow.Author.Rules.{rules}
 use Rattle.step_lines.proofs.Counting.{name-none, name-connection, name-host, name-some}
 use Rattle.step_lines.proofs.names.is_name.Goals as goal
 

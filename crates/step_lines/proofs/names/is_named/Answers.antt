@@ -1,9 +1,4 @@
-use borrow.Author.Rules.{rules}
-use native.Mathlib.Omega.{arith}
-use Prim.Native.Nat.{◌-◌, ◌+◌, ◌≤◌}
-use mathlib.Core.Path.{◌≡◌, refl}
-use lib.ListN.{length, drop}
-use Rattle.step_lines.specs.Entries.{entries, named_in}
+use Prim.Native.Nat.{◌-◌}
 use Rattle.step_lines.proofs.Counting.{named-found, named_more, named_none}
 use Rattle.step_lines.proofs.names.is_named.Goals as goal
 

@@ -1,10 +1,7 @@
-use borrow.Author.Rules.{rules}
-use native.Mathlib.Omega.{arith}
-use Prim.Native.Nat.{◌-◌, ◌+◌, ◌≤◌}
-use mathlib.Core.Path.{◌≡◌, refl}
+use Prim.Native.Nat.{◌-◌}
+use mathlib.Core.Path.{◌≡◌}
 use lib.ListN.{length, drop}
 use Rattle.step_lines.specs.Entries.{entries, named_in}
-use Rattle.step_lines.proofs.Counting.{named-found, named_more, named_none}
 use Rattle.step_lines.proofs.names.is_named.Given as goal
 
 abbrev pub invariant-loop-i : goal.invariant-loop-i

@@ -1,4 +1,3 @@
-use borrow.Author.Rules.{rules}
 use native.Mathlib.Omega.{arith}
 use Rattle.step_lines.proofs.Counting.{worth-named, worth-one, worth-none}
 use Rattle.step_lines.proofs.names.worth_of.Goals as goal

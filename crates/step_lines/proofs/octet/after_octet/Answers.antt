@@ -1,4 +1,3 @@
-use borrow.Author.Rules.{rules}
 use Rattle.octets.proofs.Kit.{tests}
 use Rattle.script.specs.Script.{cr_state}
 use Rattle.step_lines.proofs.octet.after_octet.Goals as goal

@@ -1,4 +1,3 @@
-use borrow.Author.Rules.{rules}
 use Rattle.octets.proofs.Kit.{tests}
 use Rattle.step_lines.specs.Stepping.{line_step}
 use Rattle.step_lines.proofs.octet.line_step.Goals as goal

@@ -1,6 +1,3 @@
-use borrow.Author.Rules.{rules}
-use native.Mathlib.Omega.{arith}
-use mathlib.Core.Path.{◌≡◌, refl, sym, ap, ◌∙◌}
 use Rattle.step_lines.proofs.Moving.{name-kept}
 use Rattle.step_lines.proofs.room.keep_name.Goals as goal
 

@@ -1,7 +1,4 @@
-use borrow.Author.Rules.{rules}
-use native.Mathlib.Omega.{arith}
-use mathlib.Core.Path.{◌≡◌, refl, sym, ap, ◌∙◌}
-use Rattle.step_lines.proofs.Moving.{value-kept, value-inside}
+use Rattle.step_lines.proofs.Moving.{value-kept}
 use Rattle.step_lines.proofs.room.keep_value.Goals as goal
 
 pub returns : goal.returns

@@ -1,9 +1,7 @@
-use borrow.Author.Rules.{rules}
-use native.Mathlib.Omega.{arith}
 use Prim.Native.Nat.{◌-◌}
 use mathlib.Core.Path.{refl}
 use Rattle.octets.proofs.Texts.{itself}
-use Rattle.step_lines.proofs.Moving.{Moving, moving-start, moving-next, moved-end}
+use Rattle.step_lines.proofs.Moving.{moving-next, moved-end}
 use Rattle.step_lines.proofs.room.move_down.Goals as goal
 
 pub loop-i-preserved : goal.loop-i-preserved

@@ -1,9 +1,6 @@
-use borrow.Author.Rules.{rules}
-use native.Mathlib.Omega.{arith}
 use Prim.Native.Nat.{◌-◌}
-use mathlib.Core.Path.{refl}
 use Rattle.octets.proofs.Texts.{itself}
-use Rattle.step_lines.proofs.Moving.{Moving, moving-start, moving-next, moved-end}
+use Rattle.step_lines.proofs.Moving.{Moving}
 use Rattle.step_lines.proofs.room.move_down.Given as goal
 
 abbrev pub invariant-loop-i : goal.invariant-loop-i

@@ -1,8 +1,7 @@
-use borrow.Author.Rules.{rules}
 use native.Mathlib.Omega.{arith}
 use Prim.Native.Nat.{◌-◌}
 use Rattle.octets.specs.Text.{lower_of}
-use Rattle.step_lines.proofs.Moving.{Moving, moving-start, moving-next, lowered-end}
+use Rattle.step_lines.proofs.Moving.{moving-next, lowered-end}
 use Rattle.step_lines.proofs.room.put_lower.Goals as goal
 
 pub loop-i-preserved : goal.loop-i-preserved

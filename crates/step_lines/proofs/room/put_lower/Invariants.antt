@@ -1,8 +1,6 @@
-use borrow.Author.Rules.{rules}
-use native.Mathlib.Omega.{arith}
 use Prim.Native.Nat.{◌-◌}
 use Rattle.octets.specs.Text.{lower_of}
-use Rattle.step_lines.proofs.Moving.{Moving, moving-start, moving-next, lowered-end}
+use Rattle.step_lines.proofs.Moving.{Moving}
 use Rattle.step_lines.proofs.room.put_lower.Given as goal
 
 abbrev pub invariant-loop-i : goal.invariant-loop-i

@@ -1,6 +1,3 @@
-use borrow.Author.Rules.{rules}
-use native.Mathlib.Omega.{arith}
-use mathlib.Core.Path.{◌≡◌, refl, sym, ap, ◌∙◌}
 use Rattle.steps.proofs.Picks.{end-no-cr, end-no-lf, end-good}
 use Rattle.steps.proofs.body.chunk_end.Goals as goal
 

@@ -1,6 +1,4 @@
-use borrow.Author.Rules.{rules}
-use native.Mathlib.Omega.{arith}
-use mathlib.Core.Path.{◌≡◌, refl, sym, ap, ◌∙◌}
+use mathlib.Core.Path.{sym, ◌∙◌}
 use Rattle.http1_lines.proofs.Views.{chunk-within}
 use Rattle.steps.proofs.Picks.{chunk-good, chunk-bad}
 use Rattle.steps.proofs.body.chunk_in.Goals as goal

@@ -1,6 +1,3 @@
-use borrow.Author.Rules.{rules}
-use native.Mathlib.Omega.{arith}
-use mathlib.Core.Path.{◌≡◌, refl, sym, ap, ◌∙◌}
 use Rattle.steps.proofs.Picks.{data-last, data-more}
 use Rattle.steps.proofs.body.chunk_octet.Goals as goal
 

@@ -1,6 +1,4 @@
-use borrow.Author.Rules.{rules}
-use native.Mathlib.Omega.{arith}
-use mathlib.Core.Path.{◌≡◌, refl, sym, ap, ◌∙◌}
+use mathlib.Core.Path.{refl}
 use Rattle.steps.proofs.Picks.{chunk-none, chunk-many, chunk-large, chunk-some}
 use Rattle.steps.proofs.body.chunk_sized.Goals as goal
 

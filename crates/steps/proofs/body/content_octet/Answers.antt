@@ -1,6 +1,4 @@
-use borrow.Author.Rules.{rules}
-use native.Mathlib.Omega.{arith}
-use mathlib.Core.Path.{◌≡◌, refl, sym, ap, ◌∙◌}
+use mathlib.Core.Path.{refl}
 use Rattle.steps.proofs.Picks.{content-last, content-more}
 use Rattle.steps.proofs.body.content_octet.Goals as goal
 

@@ -1,4 +1,3 @@
-use borrow.Author.Rules.{rules}
 use Rattle.octets.proofs.Kit.{tests}
 use Rattle.steps.specs.Bodies.{data_cr}
 use Rattle.steps.proofs.body.data_cr.Goals as goal

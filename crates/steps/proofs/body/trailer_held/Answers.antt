@@ -1,7 +1,3 @@
-use borrow.Author.Rules.{rules}
-use native.Mathlib.Omega.{arith}
-use mathlib.Core.Path.{◌≡◌, refl, sym, ap, ◌∙◌}
-use lib.Seq.{length-take-le}
 use Rattle.steps.proofs.Picks.{trailer-kept}
 use Rattle.steps.proofs.body.trailer_held.Goals as goal
 

@@ -1,6 +1,5 @@
-use borrow.Author.Rules.{rules}
 use native.Mathlib.Omega.{arith}
-use mathlib.Core.Path.{◌≡◌, refl, sym, ap, ◌∙◌}
+use mathlib.Core.Path.{sym, ◌∙◌}
 use Rattle.http1_lines.proofs.Views.{field-within}
 use Rattle.steps.proofs.Picks.{trailer-empty, trailer-many, trailer-bad, trailer-good}
 use Rattle.steps.proofs.body.trailer_in.Goals as goal

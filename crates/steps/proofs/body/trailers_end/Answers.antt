@@ -1,4 +1,3 @@
-use borrow.Author.Rules.{rules}
 use Rattle.steps.proofs.Picks.{trailers-good, trailers-bad}
 use Rattle.steps.proofs.body.trailers_end.Goals as goal
 

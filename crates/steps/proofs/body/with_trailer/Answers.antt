@@ -1,4 +1,3 @@
-use borrow.Author.Rules.{rules}
 use mathlib.Core.Path.{refl}
 use Rattle.steps.specs.Bodies.{trailer_tally}
 use Rattle.steps.proofs.body.with_trailer.Goals as goal

@@ -1,4 +1,3 @@
-use borrow.Author.Rules.{rules}
 use Rattle.steps.proofs.Picks.{begins-full, begins-on}
 use Rattle.steps.proofs.change.begin_line.Goals as goal
 

@@ -1,4 +1,3 @@
-use borrow.Author.Rules.{rules}
 use Rattle.octets.proofs.Kit.{tests}
 use Rattle.steps.specs.States.{is_counted}
 use Rattle.steps.proofs.change.is_counted.Goals as goal

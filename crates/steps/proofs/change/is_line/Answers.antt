@@ -1,4 +1,3 @@
-use borrow.Author.Rules.{rules}
 use Rattle.octets.proofs.Kit.{tests}
 use Rattle.steps.specs.States.{is_line}
 use Rattle.steps.proofs.change.is_line.Goals as goal

@@ -1,8 +1,3 @@
-use borrow.Author.Rules.{rules}
-use Rattle.steps.proofs.Rooms.{kept-within}
-use Prim.Native.Nat.{◌+◌}
-use native.Mathlib.Omega.{arith}
-use mathlib.Core.Path.{◌≡◌, refl, sym, ap, ◌∙◌}
 use Rattle.steps.proofs.Picks.{field-kept}
 use Rattle.steps.proofs.head.field_held.Goals as goal
 

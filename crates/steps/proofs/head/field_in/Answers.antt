@@ -1,6 +1,3 @@
-use borrow.Author.Rules.{rules}
-use native.Mathlib.Omega.{arith}
-use mathlib.Core.Path.{◌≡◌, refl, sym, ap, ◌∙◌}
 use Rattle.steps.proofs.Picks.{field-empty, field-many, field-bad, field-good, field-size}
 use Rattle.steps.proofs.head.field_in.Goals as goal
 

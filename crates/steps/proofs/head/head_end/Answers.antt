@@ -1,6 +1,3 @@
-use borrow.Author.Rules.{rules}
-use native.Mathlib.Omega.{arith}
-use mathlib.Core.Path.{◌≡◌, refl, sym, ap, ◌∙◌}
 use Rattle.steps.proofs.Picks.{stood, head-hosted, head-unhosted}
 use Rattle.steps.proofs.head.head_end.Goals as goal
 

@@ -1,5 +1,3 @@
-use borrow.Author.Rules.{rules}
-use native.Mathlib.Omega.{arith}
 use Rattle.steps.proofs.Rooms.{target-moved}
 use Rattle.steps.proofs.head.hold_target.Goals as goal
 

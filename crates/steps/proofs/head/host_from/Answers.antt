@@ -1,5 +1,4 @@
-use borrow.Author.Rules.{rules}
-use mathlib.Core.Path.{◌≡◌, refl, sym, ap, ◌∙◌}
+use mathlib.Core.Path.{refl}
 use Rattle.steps.proofs.Picks.{host-given, host-new}
 use Rattle.steps.proofs.head.host_from.Goals as goal
 

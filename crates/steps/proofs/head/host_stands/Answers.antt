@@ -1,6 +1,3 @@
-use borrow.Author.Rules.{rules}
-use native.Mathlib.Omega.{arith}
-use mathlib.Core.Path.{◌≡◌, refl, sym, ap, ◌∙◌}
 use Rattle.steps.proofs.Picks.{stands-given, stands-before, stands-behind, stands_by}
 use Rattle.steps.proofs.head.host_stands.Goals as goal
 

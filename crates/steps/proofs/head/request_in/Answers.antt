@@ -1,6 +1,4 @@
-use borrow.Author.Rules.{rules}
-use native.Mathlib.Omega.{arith}
-use mathlib.Core.Path.{◌≡◌, refl, sym, ap, ◌∙◌}
+use mathlib.Core.Path.{refl}
 use Rattle.steps.proofs.Picks.{request-size, request-good, request-bad}
 use Rattle.steps.proofs.head.request_in.Goals as goal
 

@@ -1,6 +1,4 @@
-use borrow.Author.Rules.{rules}
 use mathlib.Core.Path.{sym, ◌∙◌}
-use Rattle.steps.proofs.Passing.{pass-none}
 use Rattle.steps.proofs.Turns.{data_is}
 use Rattle.steps.proofs.many.may_pass.Goals as goal
 

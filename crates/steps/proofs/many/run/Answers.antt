@@ -1,8 +1,6 @@
 use borrow.Author.Rules.{rules}
-use native.Mathlib.Omega.{arith}
 use Prim.Native.Nat.{◌-◌}
-use lib.ListN.{length}
-use Rattle.steps.proofs.Running.{Running, run-start, run-again, run-pass, run_settled, run_end, run_small}
+use Rattle.steps.proofs.Running.{run-again, run-pass, run_settled, run_end}
 use Rattle.steps.proofs.many.run.Goals as goal
 
 pub returns-then-is_settled : goal.returns-then-is_settled

@@ -1,8 +1,6 @@
-use borrow.Author.Rules.{rules}
-use native.Mathlib.Omega.{arith}
 use Prim.Native.Nat.{◌-◌}
 use lib.ListN.{length}
-use Rattle.steps.proofs.Running.{Running, run-start, run-again, run-pass, run_settled, run_end, run_small}
+use Rattle.steps.proofs.Running.{Running}
 use Rattle.steps.proofs.many.run.Given as goal
 
 abbrev pub invariant-loop-i : goal.invariant-loop-i

@@ -1,6 +1,3 @@
-use borrow.Author.Rules.{rules}
-use native.Mathlib.Omega.{arith}
-use mathlib.Core.Path.{◌≡◌, refl, sym, ap, ◌∙◌}
 use Rattle.steps.proofs.Turns.{begun-small, begun-good, begun-not}
 use Rattle.steps.proofs.reader.begin.Goals as goal
 

@@ -1,6 +1,3 @@
-use borrow.Author.Rules.{rules}
-use native.Mathlib.Omega.{arith}
-use mathlib.Core.Path.{◌≡◌, refl, sym, ap, ◌∙◌}
 use Rattle.step_lines.specs.declared.LineStep.TheVariants.{Whole}
 use Rattle.steps.proofs.Turns.{octet-as, octet-goes, octet-bad, octet-long}
 use Rattle.steps.proofs.reader.line_octet.Goals as goal

@@ -1,6 +1,3 @@
-use borrow.Author.Rules.{rules}
-use native.Mathlib.Omega.{arith}
-use mathlib.Core.Path.{◌≡◌, refl, sym, ap, ◌∙◌}
 use Rattle.steps.proofs.Turns.{data_is, counts-are, data-none, data-uncounted, data-taken}
 use Rattle.steps.proofs.reader.take_data.Goals as goal
 

@@ -1,6 +1,3 @@
-use borrow.Author.Rules.{rules}
-use native.Mathlib.Omega.{arith}
-use mathlib.Core.Path.{◌≡◌, refl, sym, ap, ◌∙◌}
 use Rattle.steps.proofs.Turns.{line-is, counts-are, line-none, line-uncounted, line-taken}
 use Rattle.steps.proofs.reader.take_line.Goals as goal
 

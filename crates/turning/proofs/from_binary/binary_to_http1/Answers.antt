@@ -1,6 +1,4 @@
-use borrow.Author.Rules.{rules}
-use native.Mathlib.Omega.{arith}
-use mathlib.Core.Path.{◌≡◌, refl, sym, ap, ◌∙◌}
+use mathlib.Core.Path.{sym, ◌∙◌}
 use Rattle.turning.proofs.Replies.{told-edition, told-scheme, told-other}
 use Rattle.turning.proofs.from_binary.binary_to_http1.Goals as goal
 

@@ -1,6 +1,3 @@
-use borrow.Author.Rules.{rules}
-use mathlib.Core.Path.{◌≡◌, refl, sym, ap, ◌∙◌}
-use lib.ListN.{length}
 use Rattle.ranges.proofs.Outcomes.{given-refusal, given-more}
 use Rattle.http1_reader.proofs.Values.{request-held}
 use Rattle.binary_writer.specs.Write.{to_binary}
