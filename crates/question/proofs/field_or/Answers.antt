@@ -4,6 +4,5 @@ use native.Mathlib.Omega.{arith}
 use Rattle.question.proofs.Laws.{cut-part, cut-nothing}
 use Rattle.question.proofs.field_or.Goals as goal
 
--- TODO clause 0 of a whole
 pub returns-in-Part-clause-result_value : goal.returns-in-Part-clause-result_value
-returns-in-Part-clause-result_value c = let z = cut-part c.args.s.now c.args.default.now c.args.s.ref_ptr c.args.default.ref_ptr c.in-Part.is (c.requires.part _ _ c.in-Part.is) in (z.0, (z.1, (refl, refl)))
+returns-in-Part-clause-result_value c = let z = cut-part c.args.s.now c.args.default.now c.args.s.ref_ptr c.args.default.ref_ptr c.in-Part.is (c.requires.part _ _ c.in-Part.is) in z.0
