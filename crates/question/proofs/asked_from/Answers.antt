@@ -1,0 +1,8 @@
+use borrow.Author.Rules.{rules}
+use mathlib.Core.Path.{◌≡◌, refl, sym, ap, subst, ◌∙◌}
+use Rattle.binary_writer.proofs.Steps.{within-as}
+use Rattle.question.proofs.Laws.{asked-when, asked-message}
+use Rattle.question.proofs.asked_from.Goals as goal
+
+pub fields_before-k-requires : goal.fields_before-k-requires
+fields_before-k-requires c = let w = c.requires.message _ c.in-Message.is in (w.heads, w.few)

@@ -1,0 +1,15 @@
+use Prim.Native.Nat.{ℕ, ◌+◌, ◌-◌, ◌≤◌}
+use mathlib.Core.Path.{◌≡◌, refl, sym, ap, ◌∙◌}
+use native.Mathlib.Omega.{arith}
+use Rattle.question.specs.Asking.{found_in}
+use Rattle.question.proofs.Laws.{found_here, found-behind, found_none, found_all}
+use Rattle.question.proofs.first_in.Goals as goal
+
+pub returns-then-is_named : goal.returns-then-is_named
+returns-then-is_named c = c.value_of.ensures ∙ sym (found_here c.args.s.now c.args.ranges.now c.args.name.now c.args.k c.loop-i.i c.args.n c.loop-i-test.true (sym c.if-is_named.true ∙ c.is_named.ensures)) ∙ c.loop-i.invariant.1
+
+pub loop-i-preserved : goal.loop-i-preserved
+loop-i-preserved c = (omega arith, sym (found-behind c.args.s.now c.args.ranges.now c.args.name.now c.args.k c.loop-i.i c.args.n c.loop-i-test.true (sym c.if-is_named.false ∙ c.is_named.ensures)) ∙ c.loop-i.invariant.1)
+
+pub returns : goal.returns
+returns c = sym (found_none c.args.s.now c.args.ranges.now c.args.name.now c.args.k c.loop-i.i c.args.n c.loop-i-test.false) ∙ c.loop-i.invariant.1
