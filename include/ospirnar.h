@@ -1,4 +1,4 @@
-/* Ospirnar: the HTTP message layer, proved in Rattle. Link with libcapi.a (rt staticlib capi); for bundles with libbundle_capi.a (rt staticlib bundle_capi) too.
+/* Ospirnar: the HTTP message layer, proved in Rattle. Link with libcapi.a, for bundles with libbundle_capi.a too (compare/build library: both in target/staticlib).
  *
  * Slices. A slice is a pointer and a number of elements. The pointer is not null and is aligned for its element, also where the slice is empty
  * (any such pointer serves then). Nothing lent for writing overlaps anything else that is lent to the same call. The caller owns all that it lends; no

@@ -1,4 +1,7 @@
-# What wrong-answers and definition-edits share: entries of a text file, a copy of the repository, an edit in it, and what `rt dev` says of the copy.
+# What wrong-answers, definition-edits and archive share: entries of a text file, a copy of crates with an edit in it, and what the prover says of the copy.
+#
+# `rt check` proves a crate where it stands, over out/ of the crates below. A copy with an edit is checked by what `rt` itself calls, the kit's `rattle check`, over the
+# same libraries and what earlier checks kept: as `rt must-fail` does, but with every function's line.
 import os
 import re
 import shutil
@@ -6,6 +9,10 @@ import subprocess
 import tempfile
 
 ROOT = os.path.dirname(os.path.dirname(os.path.realpath(__file__)))
+KIT = os.path.dirname(os.path.dirname(os.path.realpath(shutil.which("rt") or "/usr/local/bin/rt")))
+PARTS = ("src", "specs", "proofs")
+# Set by ./test where the libraries in crates/*/out are those that the `rt ci` just before proved and built, none older: then none is built again.
+AFTER_CI = os.environ.get("AFTER_RT_CI") == "yes"
 
 
 class BadEdit(Exception):
@@ -43,33 +50,105 @@ def replace_once(text, old, new, where):
     return re.sub(pattern, lambda _: new, text)
 
 
+def listed():
+    """What each crate of crates.txt is built on, by its line, and whether it is a static library."""
+    found = {}
+    for line in open(os.path.join(ROOT, "crates.txt")):
+        name, colon, rest = line.partition("#")[0].partition(":")
+        if colon:
+            words = name.split()
+            found[words[0]] = (rest.split(), "staticlib" in words[1:])
+    return found
+
+
 def built_on(crate):
-    """What a crate is built on by crates.txt, and what those are built on. (io, libc and os, of the toolchain, have no line.)"""
-    lines = (line.partition(":") for line in open(os.path.join(ROOT, "crates.txt")) if not line.startswith("#"))
-    below = {name: rest.split() for name, colon, rest in lines if colon}
-    if crate not in below:
+    """The crates of the repository that one is built on, each behind those that it is built on itself."""
+    lines = listed()
+    if crate not in lines:
         raise BadEdit(f"crates.txt has no crate {crate}")
-    found, left = set(), [crate]
-    while left:
-        for name in below.get(left.pop(), []):
-            if name not in found:
-                found.add(name)
-                left.append(name)
-    return sorted(found)
+    found = []
+
+    def take(name):
+        for below in lines[name][0]:
+            if below in lines and below not in found:
+                take(below)
+                found.append(below)
+
+    take(crate)
+    return found
+
+
+def rlib(name):
+    return os.path.join(ROOT, "crates", name, "out", "rlib", f"{name}.rlib")
+
+
+def words_for(crate, rlibs):
+    """What `rattle check` and `rattle build` are told of a crate: its name, its root, its libraries (those of rlibs in the place of the repository's) and the kit."""
+    uses, is_static = listed()[crate]
+    below = built_on(crate)
+    of = lambda name: rlibs.get(name, rlib(name))
+    words = ["--crate-name", crate, "src/main.rt" if os.path.exists(os.path.join(ROOT, "crates", crate, "src", "main.rt")) else "src/lib.rt"]
+    for name in ["std"] + [n for n in uses if n not in below]:
+        words += ["--extern", f"{name}={KIT}/rlibs/{name}.rlib"]
+    words += ["-L", f"dependency={KIT}/rlibs"]
+    for name in uses:
+        if name in below:
+            words += ["--extern", f"{name}={of(name)}"]
+    for name in below:
+        words += ["-L", f"dependency={os.path.dirname(of(name))}"]
+    words += ["--antt-project", f"{KIT}/rattle/logic/antt-project.json", "--logic-built", f"{KIT}/logic_built"]
+    return words + (["--crate-type", "staticlib"] if is_static else [])
+
+
+def run(words, folder):
+    """What a command prints, and its exit status."""
+    done = subprocess.run(words, cwd=folder, stdin=subprocess.DEVNULL, stdout=subprocess.PIPE, stderr=subprocess.STDOUT, text=True, errors="replace")
+    return done.stdout, done.returncode
+
+
+def ready(crate):
+    """Sees to it that the libraries below a crate stand in out/: right behind `rt ci` they do; else by `rt check` of the crate, which builds them and proves the crate as it is."""
+    if AFTER_CI:
+        lacking = [name for name in built_on(crate) if not os.path.isfile(os.path.join(rlib(name), "format"))]
+        if lacking:
+            raise BadEdit(f"rt ci left no library of {lacking[0]}")
+        return
+    output, code = run(["rt", "check"], os.path.join(ROOT, "crates", crate))
+    if code:
+        raise BadEdit(f"{crate} is not proved as it is: {output[-3000:]}")
 
 
 class Copy:
-    """A copy of the repository in a temporary folder, with what target/ holds of the crates that one is built on."""
+    """A copy of some crates' texts in a temporary folder, the last of which is checked, over the repository's libraries but for those that were built anew here."""
 
-    def __init__(self, crate):
+    def __init__(self, crate, others=()):
         self.crate = crate
+        self.rlibs = {}
         self.folder = tempfile.mkdtemp(prefix="edited-copy-")
-        names = built_on(crate)
-        parts = ["crates", "crates.txt", f"target/inc/{crate}"] + [f"target/stamp/{n}" for n in names] + [f"target/rlib/{n}.rlib" for n in names]
-        for part in parts:
-            if os.path.exists(os.path.join(ROOT, part)):
-                os.makedirs(os.path.dirname(self.path(part)), exist_ok=True)
-                subprocess.run(["cp", "-r", os.path.join(ROOT, part), self.path(part)], check=True)
+        for name in [*others, crate]:
+            for part in PARTS:
+                if os.path.isdir(os.path.join(ROOT, "crates", name, part)):
+                    shutil.copytree(os.path.join(ROOT, "crates", name, part), self.path("crates", name, part))
+            if not AFTER_CI:
+                self.begin(name)
+
+    def begin(self, name):
+        """What the crate's own checks kept, for those here to begin with: proved files by links, since a check replaces such a file and changes none."""
+        kept = os.path.join(ROOT, "crates", name, "out", "incremental")
+
+        def copy(one, other):
+            if one.endswith(".oantt"):
+                try:
+                    return os.link(one, other)
+                except OSError:
+                    pass
+            return shutil.copy2(one, other)
+
+        if os.path.isdir(kept):
+            shutil.copytree(kept, self.kept(name), copy_function=copy)
+
+    def kept(self, name):
+        return self.path("kept", name)
 
     def __enter__(self):
         return self
@@ -90,15 +169,48 @@ class Copy:
     def restore(self, name):
         shutil.copy(os.path.join(ROOT, name), self.path(name))
 
-    def rt(self, command, *words):
-        """What `rt` prints of a command on the crate, with paths from the copy's folder on, and its exit status."""
-        done = subprocess.run(["rt", command, self.crate, *words], cwd=self.folder, stdout=subprocess.PIPE, stderr=subprocess.STDOUT, text=True, env=dict(os.environ, RT_CUT="0"))
-        return done.stdout.replace(self.folder + "/", ""), done.returncode
+    def rattle(self, command, name, *flags):
+        """What the kit's rattle says of a crate of the copy, with paths from the copy's folder on, and its exit status; once more by one job where it was killed."""
+        words = [f"{KIT}/bin/rattle", command, *words_for(name, self.rlibs), *flags]
+        for jobs in (os.environ.get("EDIT_JOBS", "1"), "1"):
+            output, code = run([*words, "--jobs", jobs], self.path("crates", name))
+            if code != -9:
+                break
+        at = f"crates/{name}/"
+        return re.sub(rf"^(note: )?(?:\./)?((?:src|specs|proofs)/\S+:\d+:\d+: )", rf"\1{at}\2", output.replace(self.folder + "/", ""), flags=re.M), code
+
+    def check(self, *flags):
+        os.makedirs(self.kept(self.crate), exist_ok=True)
+        return self.rattle("check", self.crate, "--incremental", self.kept(self.crate), *flags)
+
+    def build(self, name):
+        """Builds a library of the copy, for the crates above it here; what is said, and the exit status."""
+        made = self.path("rlib", name, f"{name}.rlib")
+        os.makedirs(os.path.dirname(made), exist_ok=True)
+        os.makedirs(self.kept(name), exist_ok=True)
+        output, code = self.rattle("build", name, "--incremental", self.kept(name), "-o", made)
+        self.rlibs[name] = made
+        return output, code
 
 
 def errors(output):
     """The errors of a run: file, line, column, and what is said."""
     return [(m[1], int(m[2]), int(m[3]), m[4]) for m in re.finditer(r"^(\S+\.antt|\S+\.rt):(\d+):(\d+): error: (.*)$", output, re.M)]
+
+
+def unread(output, edited):
+    """The first line that says that a text of src/ or specs/, or an edited file, can't be read or compiled, where an edit that only makes a statement false reads well; as
+    `rt must-fail` tells a BAD EDIT."""
+    for line in output.split("\n"):
+        if re.search(r"\berror\[[\w-]+\]", line):
+            return line
+        at = re.match(r"(\S+?):\d+:\d+: error: (?:(`[^`]*`): )?(.*)", line)
+        if not at or at[1] not in edited and not re.match(r"crates/\w+/(src|specs)/", at[1]):
+            continue
+        said = re.sub(r"`[^`]*`", "", at[3])
+        if not at[2] or re.search(r"is not in scope|has no field|is no name|operand is missing|expected the end|cannot continue", said):
+            return line
+    return ""
 
 
 def row_at(copy, line):

@@ -1,3 +1,4 @@
+# Of the older kit, unused: it wrote the Proof.antt files that stood before the port (docs/PORT.md).
 """Writes proofs by hand ("walks") of thin functions over a lent slice of structs, from the MIR and a short description of each function (walks_*.py beside this file).
 It follows the MIR statement by statement, keeps the list of what is in the context, and so knows every position. What it takes:
   parameters   the table first, &[S] or &mut [S]; then numbers, structs by value, &[u8], &mut [u8] that is passed on to one callee and not used after it

@@ -1,3 +1,4 @@
+# Of the older kit, unused: it wrote the Proof.antt files that stood before the port (docs/PORT.md).
 """The functions of crate bundle_capi that take the lent table, for walks.py. Run in the repository after any edit of one of them: python3 tools/walks_bundle.py [FUNCTION..]; then rt fmt."""
 import sys, os
 sys.path.insert(0, os.path.dirname(os.path.abspath(__file__)))
