@@ -1,0 +1,14 @@
+use borrow.Author.Rules.{rules}
+use mathlib.Core.Path.{◌≡◌, refl, sym, ap, ◌∙◌}
+use native.Mathlib.Omega.{arith}
+use lib.ListN.{length}
+use Rattle.ranges.proofs.Outcomes.{given-message, given-refusal, given-more}
+use Rattle.capi.proofs.Entering.{entered-refused, entered-more}
+use Rattle.capi.proofs.RequestEntry.{request-small, request-room, request-entered}
+use Rattle.capi.proofs.entries.enter_request.Goals as goal
+
+pub give_message-requires : goal.give_message-requires
+give_message-requires c = let g = given-message c.request_in-o.ensures _ c.in-Message.is in let z = request-room c.args.told c.args.input.now g c.requires.1 c.requires.2 c.requires.3 in (request-small c.args.told c.args.input.now g, z.0, omega arith, omega (arith, z.1), omega (arith, z.2), omega (arith, z.3))
+
+pub returns-in-Message : goal.returns-in-Message
+returns-in-Message c = let g = given-message c.request_in-o.ensures _ c.in-Message.is in request-entered c.args.told c.args.input.now g c.requires.1 c.requires.2 c.requires.3 _ _ _ _ _ c.give_message.ensures

@@ -1,0 +1,9 @@
+use native.Mathlib.Omega.{arith}
+use mathlib.Core.Path.{◌≡◌, refl, sym, ap, ◌∙◌}
+use Rattle.capi.specs.Entries.{no_heads}
+use borrow.Author.Rules.{rules}
+use Rattle.capi.proofs.entries.ospirnar_read_response.Goals as goal
+
+pub enter_response-requires : goal.enter_response-requires
+unfolding no_heads
+enter_response-requires c = (c.class_table-t.ensures, omega arith, omega arith, omega arith, omega arith, refl)

@@ -1,0 +1,15 @@
+use borrow.Author.Rules.{rules}
+use mathlib.Core.Path.{◌≡◌, refl, ◌∙◌}
+use Prim.Native.Nat.{ℕ, ◌+◌, ◌-◌, ◌≤◌}
+use native.Mathlib.Nat.{add-zero, sub-zero}
+use native.Mathlib.Omega.{arith}
+use lib.ListN.{length, length-set}
+use Rattle.output.specs.Splice.{splice, part}
+use Rattle.output.proofs.Laws.{elements-length, elements-more₀, elements-none, put-turn}
+use Rattle.capi.proofs.numbers_out.put_numbers.Goals as goal
+
+pub loop-i-preserved : goal.loop-i-preserved
+loop-i-preserved c = (search rules, simp length-set (search rules), put-turn c.loop-i.out c.args.at c.loop-i.i _ _ _ (elements-more₀ {A = ℕ} 0 c.args.src.now c.loop-i.i c.args.len c.loop-i-test.true) ∙ c.loop-i.invariant.2)
+
+pub returns : goal.returns
+returns c = record { next = refl; size = elements-length {A = ℕ} 0 c.args.src.now 0 c.args.len; all = rw (elements-none {A = ℕ} 0 c.args.src.now c.loop-i.i c.loop-i.i c.args.len c.loop-i-test.false) at c.loop-i.invariant.2 }
