@@ -1,7 +1,3 @@
-use borrow.Author.Rules.{rules}
-use mathlib.Core.Path.{◌≡◌, refl, sym, ap, subst, ◌∙◌}
-use Rattle.binary_writer.proofs.Steps.{within-as}
-use Rattle.question.proofs.Laws.{asked-when, asked-message}
 use Rattle.question.proofs.asked_from.Goals as goal
 
 pub fields_before-k-requires : goal.fields_before-k-requires

@@ -1,5 +1,3 @@
-use borrow.Author.Rules.{rules}
-use mathlib.Core.Path.{◌≡◌, refl, sym, ap, ◌∙◌}
 use Rattle.turn.specs.Question.{binary_question}
 use Rattle.question.proofs.Laws.{binary-lies, found_within, answered}
 use Rattle.question.proofs.binary_field.Goals as goal

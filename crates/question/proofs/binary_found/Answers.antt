@@ -1,5 +1,5 @@
 use borrow.Author.Rules.{rules}
-use mathlib.Core.Path.{◌≡◌, refl, sym, ap, ◌∙◌}
+use mathlib.Core.Path.{◌∙◌}
 use Rattle.ranges.proofs.Outcomes.{held, response-outcomed}
 use Rattle.binary_sound.proofs.Sound.{binary-sound}
 use Rattle.turn.specs.Question.{binary_question}

@@ -1,7 +1,4 @@
-use borrow.Author.Rules.{rules}
-use mathlib.Core.Path.{◌≡◌, refl, sym, ap, ◌∙◌}
-use native.Mathlib.Omega.{arith}
-use Rattle.question.proofs.Laws.{cut-part, cut-nothing}
+use Rattle.question.proofs.Laws.{cut-part}
 use Rattle.question.proofs.field_or.Goals as goal
 
 pub returns-in-Part-clause-result_value : goal.returns-in-Part-clause-result_value

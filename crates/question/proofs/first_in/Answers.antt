@@ -1,8 +1,7 @@
-use Prim.Native.Nat.{ℕ, ◌+◌, ◌-◌, ◌≤◌}
-use mathlib.Core.Path.{◌≡◌, refl, sym, ap, ◌∙◌}
+use Prim.Native.Nat.{◌-◌}
+use mathlib.Core.Path.{sym, ◌∙◌}
 use native.Mathlib.Omega.{arith}
-use Rattle.question.specs.Asking.{found_in}
-use Rattle.question.proofs.Laws.{found_here, found-behind, found_none, found_all}
+use Rattle.question.proofs.Laws.{found_here, found-behind, found_none}
 use Rattle.question.proofs.first_in.Goals as goal
 
 pub returns-then-is_named : goal.returns-then-is_named

@@ -1,8 +1,6 @@
-use Prim.Native.Nat.{ℕ, ◌+◌, ◌-◌, ◌≤◌}
-use mathlib.Core.Path.{◌≡◌, refl, sym, ap, ◌∙◌}
-use native.Mathlib.Omega.{arith}
+use Prim.Native.Nat.{◌+◌, ◌-◌, ◌≤◌}
+use mathlib.Core.Path.{◌≡◌}
 use Rattle.question.specs.Asking.{found_in}
-use Rattle.question.proofs.Laws.{found_here, found-behind, found_none, found_all}
 use Rattle.question.proofs.first_in.Given as goal
 
 abbrev pub invariant-loop-i : goal.invariant-loop-i

@@ -1,5 +1,3 @@
-use borrow.Author.Rules.{rules}
-use mathlib.Core.Path.{◌≡◌, refl, sym, ap, ◌∙◌}
 use Rattle.turn.specs.Question.{request_question}
 use Rattle.question.proofs.Laws.{request-lies, found_within, answered}
 use Rattle.question.proofs.request_field.Goals as goal

@@ -1,5 +1,5 @@
 use borrow.Author.Rules.{rules}
-use mathlib.Core.Path.{◌≡◌, refl, sym, ap, ◌∙◌}
+use mathlib.Core.Path.{◌∙◌}
 use Rattle.http1_reader.proofs.Values.{request-held}
 use Rattle.turn.specs.Question.{request_question}
 use Rattle.question.proofs.Laws.{outcome-within, asked_is}

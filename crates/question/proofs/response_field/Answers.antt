@@ -1,5 +1,3 @@
-use borrow.Author.Rules.{rules}
-use mathlib.Core.Path.{◌≡◌, refl, sym, ap, ◌∙◌}
 use Rattle.turn.specs.Question.{response_question}
 use Rattle.question.proofs.Laws.{response-lies, found_within, answered}
 use Rattle.question.proofs.response_field.Goals as goal

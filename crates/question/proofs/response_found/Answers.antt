@@ -1,5 +1,5 @@
 use borrow.Author.Rules.{rules}
-use mathlib.Core.Path.{◌≡◌, refl, sym, ap, ◌∙◌}
+use mathlib.Core.Path.{◌∙◌}
 use Rattle.ranges.proofs.Outcomes.{response-outcomed}
 use Rattle.http1_reader.proofs.Values.{response-held}
 use Rattle.turn.specs.Question.{response_question}

@@ -1,9 +1,5 @@
-use borrow.Author.Rules.{rules}
-use mathlib.Core.Path.{◌≡◌, refl, sym, ap, ◌∙◌}
 use native.Mathlib.Omega.{arith}
-use lib.ListN.{length}
-use Rattle.ranges.proofs.Outcomes.{given-message, given-refusal, given-more}
-use Rattle.capi.proofs.Entering.{entered-refused, entered-more}
+use Rattle.ranges.proofs.Outcomes.{given-message}
 use Rattle.capi.proofs.RequestEntry.{request-small, request-room, request-entered}
 use Rattle.capi.proofs.entries.enter_request.Goals as goal
 

@@ -1,9 +1,5 @@
-use borrow.Author.Rules.{rules}
-use mathlib.Core.Path.{◌≡◌, refl, sym, ap, ◌∙◌}
 use native.Mathlib.Omega.{arith}
-use lib.ListN.{length}
-use Rattle.ranges.proofs.Outcomes.{given-message, given-refusal, given-more, response-outcomed}
-use Rattle.capi.proofs.Entering.{entered-refused, entered-more}
+use Rattle.ranges.proofs.Outcomes.{given-message, response-outcomed}
 use Rattle.capi.proofs.MessageEntry.{message-small, message-room, message-entered, response-ok}
 use Rattle.capi.proofs.entries.enter_response.Goals as goal
 

@@ -1,6 +1,5 @@
-use borrow.Author.Rules.{rules}
 use native.Mathlib.Omega.{arith}
-use mathlib.Core.Path.{◌≡◌, refl, sym, ap, ◌∙◌}
+use mathlib.Core.Path.{refl}
 use Rattle.capi.specs.Entries.{no_heads}
 use Rattle.capi.proofs.entries.ospirnar_read_binary.Goals as goal
 

@@ -1,7 +1,6 @@
 use native.Mathlib.Omega.{arith}
-use mathlib.Core.Path.{◌≡◌, refl, sym, ap, ◌∙◌}
+use mathlib.Core.Path.{refl}
 use Rattle.capi.specs.Entries.{no_heads}
-use borrow.Author.Rules.{rules}
 use Rattle.capi.proofs.entries.ospirnar_read_response.Goals as goal
 
 pub enter_response-requires : goal.enter_response-requires

@@ -1,6 +1,3 @@
-use borrow.Author.Rules.{rules}
-use native.Mathlib.Omega.{arith}
-use lib.ListN.{length}
 use Rattle.capi.proofs.Giving.{message-size, not-given, given}
 use Prim.Native.Nat.{◌*◌}
 use Rattle.capi.proofs.Giving.{fits_in}

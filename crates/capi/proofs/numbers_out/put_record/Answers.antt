@@ -1,6 +1,4 @@
-use borrow.Author.Rules.{rules}
-use native.Mathlib.Omega.{arith}
-use Rattle.output.proofs.Laws.{put_then, put_count}
+use Rattle.output.proofs.Laws.{put_then}
 use Rattle.capi.specs.Entries.{record_numbers}
 use Rattle.capi.proofs.numbers_out.put_record.Goals as goal
 
