@@ -1,0 +1,10 @@
+use borrow.Author.Rules.{rules}
+use mathlib.Core.Path.{◌≡◌, sym, ◌∙◌}
+use Rattle.bundle_edit.proofs.Appends.{beside-served, beside_none}
+use Rattle.bundle_edit.proofs.append_beside.Goals as goal
+
+pub returns-then-is_table : goal.returns-then-is_table
+returns-then-is_table c = beside-served c.args.buf.now c.args.used c.args.flock c.args.message.now c.args.n (sym c.is_table.ensures ∙ c.if-is_table.true) c.append_within.ensures
+
+pub returns-else-is_table : goal.returns-else-is_table
+returns-else-is_table c = beside_none c.args.buf.now c.args.used c.args.flock c.args.message.now c.args.n (sym c.is_table.ensures ∙ c.if-is_table.false)

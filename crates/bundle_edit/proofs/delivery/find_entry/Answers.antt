@@ -1,0 +1,8 @@
+use borrow.Author.Rules.{rules}
+use mathlib.Core.Path.{◌≡◌, sym}
+use lib.Seq.{length-take-le}
+use Rattle.bundle_edit.proofs.Sweeping.{finds-front}
+use Rattle.bundle_edit.proofs.delivery.find_entry.Goals as goal
+
+pub returns : goal.returns
+returns c = finds-front c.requires.used_in_bounds c.entry_in.ensures

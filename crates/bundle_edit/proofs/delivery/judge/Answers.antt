@@ -1,0 +1,16 @@
+use borrow.Author.Rules.{rules}
+use mathlib.Core.Path.{◌≡◌, refl, sym, ap, ◌∙◌}
+use Rattle.bundle_edit.proofs.Sweeping.{judge-none, judge-past, judge-stops, judge-good}
+use Rattle.bundle_edit.proofs.delivery.judge.Goals as goal
+
+pub returns-then-b-eq0 : goal.returns-then-b-eq0
+returns-then-b-eq0 c = judge-good c.args.n c.args.buf.now c.args.used (sym c.is_table.ensures ∙ c.if-is_table.true) c.if-used-buf.true c.front_bundle-b.ensures c.if-b-eq0.true
+
+pub returns-then-used-buf : goal.returns-then-used-buf
+returns-then-used-buf c = c.refusal.ensures ∙ judge-stops c.args.n c.args.buf.now c.args.used (sym c.is_table.ensures ∙ c.if-is_table.true) c.if-used-buf.true c.front_bundle-b.ensures c.if-b-eq0.false
+
+pub returns-then-is_table : goal.returns-then-is_table
+returns-then-is_table c = c.refusal-then-is_table.ensures ∙ judge-past c.args.n c.args.buf.now c.args.used (sym c.is_table.ensures ∙ c.if-is_table.true) c.if-used-buf.false
+
+pub returns-else-is_table : goal.returns-else-is_table
+returns-else-is_table c = c.refusal-else-is_table.ensures ∙ judge-none c.args.n c.args.buf.now c.args.used (sym c.is_table.ensures ∙ c.if-is_table.false)

@@ -1,0 +1,28 @@
+use borrow.Author.Rules.{rules}
+use mathlib.Core.Path.{◌≡◌, refl, sym, ap, subst, ◌∙◌}
+use native.Mathlib.Omega.{arith}
+use Rattle.output.specs.declared.Written.{Written}
+use Rattle.output.specs.Reply.{ServedAt}
+use Rattle.bundle.specs.Bundle.{head_of}
+use Prim.Native.Nat.{ℕ}
+use Rattle.turn.specs.Turn.{binary_to_binary}
+use Rattle.messages.specs.Told.{plain as told_plain}
+use Rattle.flock_table.proofs.Counted.{flock-least}
+use Rattle.bundle_edit.specs.Append.{message_entry}
+use Rattle.bundle_edit.proofs.Appends.{paired, end-in, behind-refused, behind-done, entry_done, served-as}
+use Rattle.bundle_edit.proofs.put_entry.Goals as goal
+
+pub returns-in-Refused : goal.returns-in-Refused
+returns-in-Refused c = behind-refused c.args.flock (binary_to_binary (told_plain 0) c.args.message.now) (message_entry c.args.flock c.args.message.now) (paired c.args.flock c.args.message.now) c.requires.0 c.behind_head-from.ensures (served-as c.lend_behind-w.ensures c.in-Refused.is)
+
+pub bounds-buf-from : goal.bounds-buf-from
+bounds-buf-from c = let s = behind-done c.args.flock (binary_to_binary (told_plain 0) c.args.message.now) (message_entry c.args.flock c.args.message.now) (paired c.args.flock c.args.message.now) c.requires.0 c.behind_head-from.ensures (served-as c.lend_behind-w.ensures c.in-Done.is) in omega (arith, s.place, s.room, s.some, c.lend_behind-w.auto)
+
+pub head_word-word-requires : goal.head_word-word-requires
+head_word-word-requires c = let s = behind-done c.args.flock (binary_to_binary (told_plain 0) c.args.message.now) (message_entry c.args.flock c.args.message.now) (paired c.args.flock c.args.message.now) c.requires.0 c.behind_head-from.ensures (served-as c.lend_behind-w.ensures c.in-Done.is) in ((flock-least _ c.requires.1).1, rw s.kind s.headed.low, omega (arith, s.size, s.headed.small))
+
+pub put_head-requires : goal.put_head-requires
+put_head-requires c = let s = behind-done c.args.flock (binary_to_binary (told_plain 0) c.args.message.now) (message_entry c.args.flock c.args.message.now) (paired c.args.flock c.args.message.now) c.requires.0 c.behind_head-from.ensures (served-as c.lend_behind-w.ensures c.in-Done.is) in omega (arith, s.room, c.lend_behind-w.auto)
+
+pub returns-in-Done : goal.returns-in-Done
+returns-in-Done c = let s = behind-done c.args.flock (binary_to_binary (told_plain 0) c.args.message.now) (message_entry c.args.flock c.args.message.now) (paired c.args.flock c.args.message.now) c.requires.0 c.behind_head-from.ensures (served-as c.lend_behind-w.ensures c.in-Done.is) in entry_done s (c.head_word-word.ensures ∙ ap (λ (k : ℕ). head_of c.args.flock 0 k c.in-Done.n) s.kind) c.put_head.ensures
