@@ -1,4 +1,3 @@
-use borrow.Author.Rules.{rules}
 use Rattle.bundle_edit.proofs.Appends.{fair, plan-served}
 use Rattle.bundle_edit.proofs.append.Goals as goal
 

@@ -1,5 +1,4 @@
-use borrow.Author.Rules.{rules}
-use mathlib.Core.Path.{◌≡◌, sym, ◌∙◌}
+use mathlib.Core.Path.{sym, ◌∙◌}
 use Rattle.bundle_edit.proofs.Appends.{beside-served, beside_none}
 use Rattle.bundle_edit.proofs.append_beside.Goals as goal
 

@@ -1,5 +1,4 @@
-use borrow.Author.Rules.{rules}
-use mathlib.Core.Path.{◌≡◌, refl, sym, ap, subst, ◌∙◌}
+use mathlib.Core.Path.{sym, ◌∙◌}
 use Rattle.bundle_edit.proofs.Appends.{append-stops, append-full, append-flockless, append-served}
 use Rattle.bundle_edit.proofs.append_entry.Goals as goal
 

@@ -1,4 +1,3 @@
-use borrow.Author.Rules.{rules}
 use Rattle.bundle_edit.proofs.Appends.{within-served, within-past}
 use Rattle.bundle_edit.proofs.append_within.Goals as goal
 

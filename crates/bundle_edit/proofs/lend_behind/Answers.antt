@@ -1,4 +1,3 @@
-use borrow.Author.Rules.{rules}
 use Rattle.output.proofs.Serve.{serve-tail}
 use Rattle.bundle_edit.proofs.Appends.{lent-plain}
 use Rattle.bundle_edit.proofs.lend_behind.Goals as goal

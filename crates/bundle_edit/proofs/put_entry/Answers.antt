@@ -1,15 +1,12 @@
-use borrow.Author.Rules.{rules}
-use mathlib.Core.Path.{◌≡◌, refl, sym, ap, subst, ◌∙◌}
+use mathlib.Core.Path.{ap, ◌∙◌}
 use native.Mathlib.Omega.{arith}
-use Rattle.output.specs.declared.Written.{Written}
-use Rattle.output.specs.Reply.{ServedAt}
 use Rattle.bundle.specs.Bundle.{head_of}
 use Prim.Native.Nat.{ℕ}
 use Rattle.turn.specs.Turn.{binary_to_binary}
 use Rattle.messages.specs.Told.{plain as told_plain}
 use Rattle.flock_table.proofs.Counted.{flock-least}
 use Rattle.bundle_edit.specs.Append.{message_entry}
-use Rattle.bundle_edit.proofs.Appends.{paired, end-in, behind-refused, behind-done, entry_done, served-as}
+use Rattle.bundle_edit.proofs.Appends.{paired, behind-refused, behind-done, entry_done, served-as}
 use Rattle.bundle_edit.proofs.put_entry.Goals as goal
 
 pub returns-in-Refused : goal.returns-in-Refused

@@ -1,7 +1,4 @@
-use borrow.Author.Rules.{rules}
 use mathlib.Core.Path.{refl}
-use native.Mathlib.Omega.{arith}
-use lib.ListN.{length-set}
 use Rattle.numbers.specs.Places.{push}
 use Rattle.bundle.specs.Bundle.{head_octets}
 use Rattle.bundle_edit.proofs.put_head.Goals as goal

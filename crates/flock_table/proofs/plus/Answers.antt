@@ -1,4 +1,3 @@
-use borrow.Author.Rules.{rules}
 use Rattle.flock_table.specs.Table as spec
 use Rattle.flock_table.proofs.plus.Goals as goal
 

@@ -1,8 +1,5 @@
-use borrow.Author.Rules.{rules}
 use mathlib.Core.Path.{sym, ◌∙◌}
-use native.Mathlib.Omega.{arith}
 use Rattle.flock_table.specs.Table as spec
-use Rattle.flock_table.proofs.Counted.{flock-least}
 use Rattle.flock_table.proofs.slot_of.Goals as goal
 
 pub returns-then-is_flock : goal.returns-then-is_flock

@@ -1,4 +1,3 @@
-use borrow.Author.Rules.{rules}
 use mathlib.Core.Path.{refl}
 use Rattle.flock_table.specs.Table as spec
 use Rattle.flock_table.proofs.sum.Goals as goal

@@ -1,4 +1,3 @@
-use borrow.Author.Rules.{rules}
 use Rattle.salvaging.proofs.Laws.{ended, by_value}
 use Rattle.salvaging.proofs.find_front.Goals as goal
 

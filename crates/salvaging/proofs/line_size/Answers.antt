@@ -1,4 +1,3 @@
-use borrow.Author.Rules.{rules}
 use native.Mathlib.Omega.{arith}
 use Rattle.numbers.proofs.DigitLaws.{count_most}
 use Rattle.salvaging.proofs.line_size.Goals as goal

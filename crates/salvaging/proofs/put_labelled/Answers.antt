@@ -1,4 +1,3 @@
-use borrow.Author.Rules.{rules}
 use Rattle.output.proofs.Room.{puts, puts_then}
 use Rattle.salvaging.proofs.put_labelled.Goals as goal
 

@@ -1,4 +1,3 @@
-use borrow.Author.Rules.{rules}
 use native.Mathlib.Omega.{arith}
 use Rattle.output.proofs.Laws.{put_count}
 use Rattle.output.proofs.Room.{puts, puts_then}

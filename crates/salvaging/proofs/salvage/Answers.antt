@@ -1,4 +1,3 @@
-use borrow.Author.Rules.{rules}
 use Rattle.salvaging.proofs.Laws.{no-room, salvaged}
 use Rattle.salvaging.proofs.salvage.Goals as goal
 

@@ -1,4 +1,3 @@
-use borrow.Author.Rules.{rules}
 use Rattle.salvaging.proofs.Laws.{line-whole, line-large}
 use Rattle.salvaging.proofs.salvage_line.Goals as goal
 

@@ -1,4 +1,3 @@
-use borrow.Author.Rules.{rules}
 use native.Mathlib.Omega.{arith}
 use Rattle.output.proofs.Serve.{serve-small, serve-done}
 use Rattle.salvaging.proofs.Laws.{line-length}

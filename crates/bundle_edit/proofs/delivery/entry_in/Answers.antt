@@ -1,5 +1,3 @@
-use borrow.Author.Rules.{rules}
-use mathlib.Core.Path.{◌≡◌, refl, sym, ap, ◌∙◌}
 use Rattle.bundle_edit.proofs.Sweeping.{placed-within, placed-finds}
 use Rattle.bundle_edit.proofs.delivery.entry_in.Goals as goal
 

@@ -1,10 +1,8 @@
 use borrow.Author.Rules.{rules}
-use Prim.Native.Nat.{ℕ, ◌+◌, ◌-◌, ◌*◌, ◌%◌, ◌≤◌, ◌<◌}
-use mathlib.Core.Path.{◌≡◌, refl, sym, ap, subst, ◌∙◌}
+use Prim.Native.Nat.{◌-◌}
 use native.Mathlib.Omega.{arith}
-use lib.ListN.{length}
-use Rattle.bundle.proofs.Lists.{Passing, passing-start, passing-next, whole, stood-small}
-use Rattle.bundle_edit.proofs.Sweeping.{Past, past-start, past_next, past-at}
+use Rattle.bundle.proofs.Lists.{passing-start, passing-next, whole}
+use Rattle.bundle_edit.proofs.Sweeping.{past-start, past_next}
 use Rattle.bundle_edit.proofs.delivery.entry_place.Goals as goal
 
 pub loop-k-init : goal.loop-k-init

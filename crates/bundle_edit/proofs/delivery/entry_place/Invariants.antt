@@ -1,10 +1,6 @@
-use borrow.Author.Rules.{rules}
-use Prim.Native.Nat.{ℕ, ◌+◌, ◌-◌, ◌*◌, ◌%◌, ◌≤◌, ◌<◌}
-use mathlib.Core.Path.{◌≡◌, refl, sym, ap, subst, ◌∙◌}
-use native.Mathlib.Omega.{arith}
-use lib.ListN.{length}
-use Rattle.bundle.proofs.Lists.{Passing, passing-start, passing-next, whole, stood-small}
-use Rattle.bundle_edit.proofs.Sweeping.{Past, past-start, past_next, past-at}
+use Prim.Native.Nat.{◌-◌, ◌≤◌}
+use Rattle.bundle.proofs.Lists.{Passing}
+use Rattle.bundle_edit.proofs.Sweeping.{Past}
 use Rattle.bundle_edit.proofs.delivery.entry_place.Given as goal
 
 abbrev pub invariant-loop-k : goal.invariant-loop-k

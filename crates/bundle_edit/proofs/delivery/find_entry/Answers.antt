@@ -1,6 +1,3 @@
-use borrow.Author.Rules.{rules}
-use mathlib.Core.Path.{◌≡◌, sym}
-use lib.Seq.{length-take-le}
 use Rattle.bundle_edit.proofs.Sweeping.{finds-front}
 use Rattle.bundle_edit.proofs.delivery.find_entry.Goals as goal
 

@@ -1,5 +1,4 @@
-use borrow.Author.Rules.{rules}
-use mathlib.Core.Path.{◌≡◌, refl, sym, ap, ◌∙◌}
+use mathlib.Core.Path.{sym, ◌∙◌}
 use Rattle.bundle_edit.proofs.Sweeping.{judge-none, judge-past, judge-stops, judge-good}
 use Rattle.bundle_edit.proofs.delivery.judge.Goals as goal
 

@@ -1,10 +1,6 @@
-use borrow.Author.Rules.{rules}
-use Prim.Native.Nat.{ℕ, ◌+◌, ◌-◌, ◌*◌, ◌%◌, ◌≤◌, ◌<◌}
-use mathlib.Core.Path.{◌≡◌, refl, sym, ap, subst, ◌∙◌}
-use native.Mathlib.Omega.{arith}
-use lib.ListN.{length, take}
-use Rattle.bundle.proofs.Lists.{Passing, passing-start, passing-next, whole, stood-small}
-use Rattle.bundle_edit.proofs.Sweeping.{Keeps, keeps-start, keeps-length, keeps-whole, keeps-word, keeps-within, keeps-next, keeps-end}
+use Prim.Native.Nat.{◌-◌}
+use Rattle.bundle.proofs.Lists.{passing-start, passing-next}
+use Rattle.bundle_edit.proofs.Sweeping.{keeps-start, keeps-whole, keeps-word, keeps-within, keeps-next}
 use Rattle.bundle_edit.proofs.delivery.keep_entries.Goals as goal
 
 pub loop-i-init : goal.loop-i-init

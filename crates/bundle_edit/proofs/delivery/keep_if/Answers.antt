@@ -1,7 +1,4 @@
-use borrow.Author.Rules.{rules}
-use mathlib.Core.Path.{◌≡◌, refl, sym, ap, ◌∙◌}
-use native.Mathlib.Omega.{arith}
-use Rattle.bundle_edit.proofs.Sweeping.{keep-none, keep-here, keep-moved}
+use Rattle.bundle_edit.proofs.Sweeping.{keep-here}
 use Rattle.bundle_edit.proofs.delivery.keep_if.Goals as goal
 
 pub returns-then-end-at : goal.returns-then-end-at

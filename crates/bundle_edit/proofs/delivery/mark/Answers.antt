@@ -1,5 +1,3 @@
-use borrow.Author.Rules.{rules}
-use mathlib.Core.Path.{◌≡◌, refl, sym, ap, ◌∙◌}
 use borrow.Author.Tests.{leb-true}
 use Rattle.bundle_edit.proofs.Sweeping.{judged-good, mark-done, mark-refused}
 use Rattle.bundle_edit.proofs.delivery.mark.Goals as goal

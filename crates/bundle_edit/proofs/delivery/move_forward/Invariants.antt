@@ -1,9 +1,5 @@
-use borrow.Author.Rules.{rules}
-use Prim.Native.Nat.{ℕ, ◌+◌, ◌-◌, ◌*◌, ◌%◌, ◌≤◌, ◌<◌}
-use mathlib.Core.Path.{◌≡◌, refl, sym, ap, subst, ◌∙◌}
-use native.Mathlib.Omega.{arith}
-use lib.ListN.{length}
-use Rattle.bundle_edit.proofs.Sweeping.{Moving, moving-start, moving-next, moving-end}
+use Prim.Native.Nat.{◌-◌}
+use Rattle.bundle_edit.proofs.Sweeping.{Moving}
 use Rattle.bundle_edit.proofs.delivery.move_forward.Given as goal
 
 abbrev pub invariant-loop-i : goal.invariant-loop-i

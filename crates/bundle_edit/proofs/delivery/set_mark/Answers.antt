@@ -1,4 +1,3 @@
-use borrow.Author.Rules.{rules}
 use native.Mathlib.Omega.{arith}
 use Rattle.bundle_edit.proofs.Sweeping.{first_small}
 use Rattle.bundle_edit.proofs.delivery.set_mark.Goals as goal

@@ -1,5 +1,3 @@
-use borrow.Author.Rules.{rules}
-use mathlib.Core.Path.{◌≡◌, refl, sym, ap, ◌∙◌}
 use borrow.Author.Tests.{leb-true}
 use Rattle.bundle_edit.proofs.Sweeping.{judged-good, sweep-done, sweep-refused}
 use Rattle.bundle_edit.proofs.delivery.sweep.Goals as goal

@@ -1,10 +1,6 @@
-use borrow.Author.Rules.{rules}
-use Prim.Native.Nat.{ℕ, ◌+◌, ◌-◌, ◌*◌, ◌%◌, ◌≤◌, ◌<◌}
-use mathlib.Core.Path.{◌≡◌, refl, sym, ap, subst, ◌∙◌}
-use native.Mathlib.Omega.{arith}
-use lib.ListN.{length, length-replicate}
-use Rattle.bundle.proofs.Lists.{Passing, passing-start, passing-next, whole, stood-small}
-use Rattle.bundle_edit.proofs.Counting.{Counting, counting-start, counting-length, counting-same, counting-flock, counting-next, counting-end}
+use Prim.Native.Nat.{◌-◌}
+use Rattle.bundle.proofs.Lists.{Passing}
+use Rattle.bundle_edit.proofs.Counting.{Counting}
 use Rattle.bundle_edit.proofs.tables.count_entries.Given as goal
 
 abbrev pub invariant-loop-i : goal.invariant-loop-i

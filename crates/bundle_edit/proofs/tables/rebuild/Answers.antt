@@ -1,6 +1,5 @@
-use borrow.Author.Rules.{rules}
-use mathlib.Core.Path.{◌≡◌, refl, sym, ap, ◌∙◌}
-use Rattle.bundle_edit.proofs.Counting.{bundle-count, rebuild-none, rebuild-stops, rebuild-puts}
+use mathlib.Core.Path.{sym, ◌∙◌}
+use Rattle.bundle_edit.proofs.Counting.{rebuild-none, rebuild-stops, rebuild-puts}
 use Rattle.bundle_edit.proofs.tables.rebuild.Goals as goal
 
 pub returns-then-b-eq0 : goal.returns-then-b-eq0
