@@ -1,11 +1,7 @@
 use borrow.Author.Rules.{rules}
-use mathlib.Core.Path.{◌≡◌, refl, ◌∙◌}
-use Prim.Native.Nat.{◌+◌, ◌-◌, ◌≤◌}
-use native.Mathlib.Nat.{add-zero, sub-zero}
-use native.Mathlib.Omega.{arith}
-use lib.ListN.{length, length-set}
-use Rattle.output.specs.Splice.{splice, part}
-use Rattle.output.proofs.Laws.{elements-more₀, elements-none}
+use Prim.Native.Nat.{◌-◌}
+use lib.ListN.{length-set}
+use Rattle.output.proofs.Laws.{elements-more₀}
 use Rattle.bundle_capi.proofs.copy_numbers.Goals as goal
 
 pub loop-i-preserved : goal.loop-i-preserved

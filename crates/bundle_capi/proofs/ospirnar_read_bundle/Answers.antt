@@ -1,4 +1,3 @@
-use borrow.Author.Rules.{rules}
 use native.Mathlib.Omega.{arith}
 use Rattle.bundle_capi.proofs.Entering.{few, numbers-size, read-stops, read_small, read_done}
 use Rattle.bundle_capi.proofs.ospirnar_read_bundle.Goals as goal
