@@ -7,10 +7,6 @@ use Rattle.output.proofs.Laws.{left-turn, left-none}
 use Rattle.ranges.proofs.Content.{content-next, content-none, chunk-within}
 use Rattle.ranges.proofs.put_chunks.Goals as goal
 
--- TODO ensures field of a callee that requires: c.before.before.before.before.before.number_at.ensures.0
--- TODO ensures field of a callee that requires: c.before.before.before.before.number-at2.ensures.0
--- TODO ensures field of a callee that requires: c.before.before.before.before.before.number_at.ensures.0
--- TODO ensures field of a callee that requires: c.before.before.before.before.number-at2.ensures.0
 pub loop-i-preserved : goal.loop-i-preserved
 loop-i-preserved c = let e = content-next c.args.s.now c.args.chunks.now c.args.n c.loop-i.i _ _ c.loop-i-test.true c.number_at-start.ensures.0 c.number_at-len.ensures.0 in (omega (arith, c.loop-i-test.true), left-turn c.loop-i.invariant.1 e (puts-part (le-leb _ _ (chunk-within c.requires.0 c.loop-i-test.true c.number_at-start.ensures.0 c.number_at-len.ensures.0)) c.put_part-a.ensures (omega (arith, e.1, c.loop-i.invariant.1.next, c.loop-i.invariant.1.kept, c.requires.1))))
 
