@@ -3,10 +3,11 @@ use Rattle.std.specs.Prelude.{ℕ, ◌≤◌, ◌≡◌, List, length}
 use Rattle.output.specs.Reply.{writes, written_of}
 use Rattle.listing.specs.Listing.{listing_of}
 use Rattle.lister.specs.Printed.{printed_of}
+use Rattle.lister.specs.Printed as printed
 
 -- the octets of the program's buffer (lister: `out`)
 abbrev pub buffer_size : ℕ
-buffer_size = 131072
+buffer_size = printed.buffer_size
 
 -- of whatever input: an accepted request is of 16 octets at least, and a row of 30 at most
 abbrev pub ListingFits : Type 0

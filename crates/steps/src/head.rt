@@ -7,7 +7,8 @@ ghost use Rattle.messages.specs.Names.{kind_of};
 ghost use Rattle.messages.specs.Notes.{body_answer};
 ghost use Rattle.messages.specs.Rules.{request_body};
 ghost use Rattle.steps.specs.States.{Held, held, Gives, SaneLine, SaneCounts};
-ghost use Rattle.steps.specs.Heads.{target_room, control_of, request_held, request_in, host_stands, hosted_by, host_behind, settle, content_from, on_body, head_end, host_from, host_at, field_noted, field_held, field_in};
+ghost use Rattle.steps.specs.Heads.{target_room, control_of, request_held, request_in, host_stands, hosted_by, host_behind, settle};
+ghost use Rattle.steps.specs.Heads.{content_from, on_body, head_end, host_from, host_at, field_noted, field_held, field_in};
 
 use crate::change::{
     begin_line, ended, fresh_word, in_section, next_line, onward, refused, text_len, with_control,
