@@ -1,6 +1,6 @@
 -- The reader of Binary HTTP in 01's order of judgement (01, "Binary HTTP as we take it", "Sizes", "Numbers a call answers with"; RFC 9292, section 3), over what
 -- an edition allows (02, item 7; draft-thomson-http-binary-message-00, section 3).
-use Rattle.std.specs.Prelude.{ℕ, zero, suc, ◌+◌, Bool, true, false, not, cond, List, [], ◌∷◌, ◌++◌, ltb, leb, eqb, length}
+use Rattle.std.specs.Prelude.{ℕ, zero, suc, ◌+◌, Bool, true, false, not, cond, List, [], ◌∷◌, ◌++◌, ltb, leb, eqb, length, Option, None}
 use Rattle.octets.specs.Ascii.{ascii}
 use Rattle.octets.specs.Text.{same_text, is_empty}
 use Rattle.octets.specs.Limits.{method_most, authority_most, path_most, lines_most, chunks_most, content_most, binary_most, informational_most}
@@ -8,13 +8,11 @@ use Rattle.octets.specs.Refusals.{bad_syntax, not_supported, bad_length, too_lar
 use Rattle.script.specs.Script.{Answer, accepted, refused}
 use Rattle.script.specs.Do.{Piece, Judged, good, wrong}
 use Rattle.messages.specs.Message.{whole_path, FieldRead, Section, InformationalRead, Start, request_start, response_start, Message, counted_message, non_empty}
-use Rattle.messages.specs.Control.{method_verdict, is_options, path_verdict, authority_verdict, status_verdict, is_informational, ends_at_head, is_lower_name, is_trimmed_value}
+use Rattle.messages.specs.Control.{method_verdict, is_options, path_verdict, authority_verdict, status_verdict, is_informational, ends_at_head, is_lower_name, is_trimmed_value, Verdict}
 use Rattle.messages.specs.Names.{are_trailers, kept_trailers}
 use Rattle.messages.specs.Rules.{authority_in, binary_framing_of, nothing_stated, bodyless_rule, may_state, agrees, stated_in}
 use Rattle.messages.specs.declared.Framing.{Framing}
 use Rattle.messages.specs.declared.Framing.TheVariants.{Unstated}
-use Rattle.messages.specs.declared.StatedLength.{StatedLength}
-use Rattle.messages.specs.declared.StatedLength.TheVariants.{Missing}
 use Rattle.messages.specs.declared.Told.{Told}
 use Rattle.messages.specs.Told.{is_edition}
 use Rattle.messages.specs.Meaning.{content_of}
@@ -51,8 +49,8 @@ part_within most = do
   n ← integer cut_off p
   cond (leb n most) (string n cut_off p) (refuse too_large p)
 
--- a part whose octets have a rule, by its number
-unfoldable pub ruled_part : ℕ → (List ℕ → ℕ) → Reader Piece
+-- a part whose octets have a rule, by its verdict
+unfoldable pub ruled_part : ℕ → (List ℕ → Verdict) → Reader Piece
 ruled_part most verdict = do
   p ← here
   w ← part_within most
@@ -264,7 +262,7 @@ padding form c (b ∷ s) = cond (cond form.padded (eqb b 0) false) (padding form
 -- ---- whole messages
 
 -- behind the content: trailers and padding. What follows the trailers is padding, in which no integer is counted
-unfoldable pub after_content : Form → Bool → StatedLength → Start → List FieldRead → List Piece → Reader Message
+unfoldable pub after_content : Form → Bool → Option ℕ → Start → List FieldRead → List Piece → Reader Message
 after_content form body stated start lines c = do
   ts ← trailers form body
   n ← longs
@@ -272,7 +270,7 @@ after_content form body stated start lines c = do
   give (counted_message n stated start lines c ts)
 
 -- behind a header section that was judged: content, trailers, padding. `body` says whether the message may have content, `stated` the length it states if not
-unfoldable pub after_headers : Form → Bool → StatedLength → Start → Section → Framing → Reader Message
+unfoldable pub after_headers : Form → Bool → Option ℕ → Start → Section → Framing → Reader Message
 after_headers form body stated start h f = do
   cs ← content form.known
   e ← here
@@ -284,7 +282,7 @@ unfoldable pub after_head : Form → RequestControl → Section → Reader Messa
 after_head form q h = do
   a ← tell (authority_in h.end q.authority h.lines)
   f ← tell (may_state h.end (binary_framing_of h.lines))
-  after_headers form true Missing (request_start q.method q.scheme a (whole_path q.path)) h f
+  after_headers form true None (request_start q.method q.scheme a (whole_path q.path)) h f
 
 -- behind the control data of a request
 unfoldable pub after_control : Form → RequestControl → Reader Message
@@ -307,7 +305,7 @@ after_final t form is n h =
       after_headers form false (stated_in t n (binary_framing_of h.lines)) (response_start is n) h Unstated)
     (do
       f ← tell (may_state h.end (binary_framing_of h.lines))
-      after_headers form true Missing (response_start is n) h f)
+      after_headers form true None (response_start is n) h f)
 
 -- behind a final status n
 unfoldable pub after_final_status : Told → Form → List InformationalRead → ℕ → Reader Message

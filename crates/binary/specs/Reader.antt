@@ -1,11 +1,12 @@
 -- Readers of one whole input: each takes what it reads off the front of what is left, and knows its place and how many integers were not in their shortest form (01,
 -- "Binary HTTP as we take it"; integers and strings that are cut off: "Numbers a call answers with"; 02, item 8).
-use Rattle.std.specs.Prelude.{ℕ, ◌+◌, ◌-◌, Bool, cond, List, ltb, eqb, length, take, drop}
+use Rattle.std.specs.Prelude.{ℕ, ◌+◌, ◌-◌, Bool, cond, List, ltb, eqb, length, take, drop, Ok, Err, Option, Some, None}
 use Rattle.octets.specs.Text.{is_empty}
 use Rattle.numbers.specs.Integer.{read_int}
 use Rattle.numbers.specs.declared.Integer.{Integer}
-use Rattle.numbers.specs.declared.Integer.TheVariants.{Value, Cut}
 use Rattle.binary.specs.declared.Cursor.{Cursor}
+use Rattle.octets.specs.Refusals.{refusal_number}
+use Rattle.messages.specs.Control.{Verdict}
 use Rattle.script.specs.Do.{Piece, piece, Judged, good, wrong}
 
 -- a place, and how many integers before it are not in their shortest form
@@ -58,14 +59,15 @@ abbrev pub tell : {X : Type 0} → Judged X → Reader X
 tell (good x) c s = got x c s
 tell (wrong n p) c s = no n p
 
--- a rule by its number: 0 is good, any other is a refusal at the place p
-abbrev pub rule : {X : Type 0} → ℕ → ℕ → X → Judged X
-rule n p x = cond (eqb n 0) (good x) (wrong n p)
+-- a rule by its verdict: good, or a refusal at the place p
+abbrev pub rule : {X : Type 0} → Verdict → ℕ → X → Judged X
+rule (Ok u) p x = good x
+rule (Err r) p x = wrong (refusal_number r) p
 
 -- the integer's value, behind which the reading goes on, and it is counted where it is long; one that is cut off is refused with a number at the place p
-abbrev pub on_integer : ℕ → ℕ → Cursor → List ℕ → Integer → Got ℕ
-on_integer k p c s (Value v next long) = got v (cursor next (c.long + long)) (drop (next - c.at) s)
-on_integer k p c s Cut = no k p
+abbrev pub on_integer : ℕ → ℕ → Cursor → List ℕ → Option Integer → Got ℕ
+on_integer k p c s (Some i) = got i.value (cursor i.next (c.long + i.long)) (drop (i.next - c.at) s)
+on_integer k p c s None = no k p
 
 -- the integer at the present place, of any length
 unfoldable pub integer : ℕ → ℕ → Reader ℕ

@@ -6,7 +6,10 @@ use mathlib.Core.Bool.{Bool, true, false}
 use native.Mathlib.Omega.{arith}
 use borrow.Author.Tests.{eq-eqb, ne_eqb}
 use lib.ListN.{length, take, drop, length-drop}
+use Rattle.std.proofs.Common.{Result, Ok, Err}
 use Rattle.octets.specs.Limits.{chunks_most, content_most}
+use Rattle.octets.specs.Refusals.{refused_at}
+use Rattle.octets.specs.declared.Refused.{Refused}
 use Rattle.octets.specs.Text.{is_empty}
 use Rattle.script.specs.Do.{Piece, piece}
 use Rattle.output.specs.Splice.{splice}
@@ -20,49 +23,48 @@ use Rattle.binary.specs.Read.{part_within, open_chunks, known_content, content, 
 use Rattle.binary_parts.specs.Control.{Parted}
 use Rattle.binary_parts.specs.Content.{ChunkSays, ChunkLies, Chunked, ContentSays, Contented}
 use Rattle.binary_parts.specs.declared.PartRead.{PartRead}
-use Rattle.binary_parts.specs.declared.PartRead.TheVariants as part-is
-use Rattle.binary_parts.specs.declared.ChunkRead.{ChunkRead}
-use Rattle.binary_parts.specs.declared.ChunkRead.TheVariants as chunk-is
+use Rattle.binary_parts.specs.declared.Chunk.{Chunk}
+use Rattle.binary_parts.specs.declared.Chunk.TheVariants as chunk
 use Rattle.binary_parts.specs.declared.ContentRead.{ContentRead}
-use Rattle.binary_parts.specs.declared.ContentRead.TheVariants.{Done, Refused}
-use Rattle.binary_parts.proofs.Places.{part_length, part_no, part-got}
+use Rattle.binary_parts.proofs.Places.{part_length, PartDone, part_no, part-got}
 
-pub contented-as : {s : List ℕ} {x y : Got (List Piece)} {o o' : List ℕ} {r : ContentRead} → x ≡ y → Contented s y o o' r → Contented s x o o' r
+pub contented-as : {s : List ℕ} {x y : Got (List Piece)} {o o' : List ℕ} {r : Result ContentRead Refused} → x ≡ y → Contented s y o o' r → Contented s x o o' r
 contented-as {s} {o = o} {o' = o'} {r = r} e h = subst (λ (z : Got (List Piece)). Contented s z o o' r) (sym e) h
 
-pub contented-no : {s : List ℕ} {x : Got (List Piece)} {n p : ℕ} {o o' : List ℕ} → x ≡ no n p → Contented s x o o' (Refused n p)
+pub contented-no : {s : List ℕ} {x : Got (List Piece)} {o o' : List ℕ} {e : Refused} → x ≡ no e.number e.place → Contented s x o o' (Err e)
 contented-no e = contented-as e (record { says = refl })
 
-same-done : {a x : Cursor} {b c y z : ℕ} → a ≡ x → b ≡ y → c ≡ z → Done a b c ≡ Done x y z
-same-done e f g = rw (e, f, g)
+abbrev pub content-is : Cursor → ℕ → ℕ → Result ContentRead Refused
+content-is end chunks total = Ok (record { end = end; chunks = chunks; total = total })
+
+same-content : {a : Cursor} {b c y z : ℕ} → b ≡ y → c ≡ z → content-is a b c ≡ content-is a y z
+same-content f g = rw (f, g)
 
 pub contented-got : {s : List ℕ} {x : Got (List Piece)} {end : Cursor} {count total : ℕ} {o o' : List ℕ} (cs : List Piece) → x ≡ got cs end (drop end.at s)
-    → (end.at ≤ length s) × (end.long ≤ end.at) → length cs ≡ count → length (content_of cs) ≡ total → o' ≡ splice o 0 (chunks_numbers cs) → Contented s x o o' (Done end count total)
-contented-got cs e h a b c = contented-as e (record { says = (same-done refl (sym a) (sym b), c, (h.0, refl, h.1)) })
+    → (end.at ≤ length s) × (end.long ≤ end.at) → length cs ≡ count → length (content_of cs) ≡ total → o' ≡ splice o 0 (chunks_numbers cs)
+    → Contented s x o o' (content-is end count total)
+contented-got cs e h a b c = contented-as e (record { says = (same-content (sym a) (sym b), c, (h.0, refl, h.1)) })
 
 -- ---- chunks
 
-module _ {s : List ℕ} {at : Cursor} {count total : ℕ} {r : ChunkRead} (h : Chunked s at count total r) where
-  pub chunk-bounds : {start len long : ℕ} → r ≡ chunk-is.Next start len long
+module _ {s : List ℕ} {at : Cursor} {count total : ℕ} {r : Chunk} (h : Chunked s at count total (Ok r)) where
+  pub chunk-bounds : {start len long : ℕ} → r ≡ chunk.Next start len long
       → (start + len ≤ length s) × (total + len ≤ content_most) × (count < chunks_most) × (long ≤ start + len)
-  chunk-bounds e = subst (λ (q : ChunkRead). ChunkLies s count total q) e h.lies
+  chunk-bounds e = subst (λ (q : Chunk). ChunkLies s count total (Ok q)) e h.lies
 
-  pub last-bounds : {end : Cursor} → r ≡ chunk-is.Last end → (end.at ≤ length s) × (end.long ≤ end.at)
-  last-bounds e = subst (λ (q : ChunkRead). ChunkLies s count total q) e h.lies
+  pub last-bounds : {end : Cursor} → r ≡ chunk.Last end → (end.at ≤ length s) × (end.long ≤ end.at)
+  last-bounds e = subst (λ (q : Chunk). ChunkLies s count total (Ok q)) e h.lies
 
   module _ (cs : List Piece) (c : length cs ≡ count) {x : Got (List Piece)} (g : x ≡ open_chunks (suc (chunks_most - count)) cs total at (drop at.at s)) where
-    said : {q : ChunkRead} → r ≡ q → ChunkSays s (chunks_most - count) cs total x q
-    said {q} e = subst (λ (y : Got (List Piece)). ChunkSays s (chunks_most - count) cs total y q) (sym g)
-        (subst (λ (y : ChunkRead). ChunkSays s (chunks_most - count) cs total (open_chunks (suc (chunks_most - count)) cs total at (drop at.at s)) y) e
+    said : {q : Chunk} → r ≡ q → ChunkSays s (chunks_most - count) cs total x (Ok q)
+    said {q} e = subst (λ (y : Got (List Piece)). ChunkSays s (chunks_most - count) cs total y (Ok q)) (sym g)
+        (subst (λ (y : Chunk). ChunkSays s (chunks_most - count) cs total (open_chunks (suc (chunks_most - count)) cs total at (drop at.at s)) (Ok y)) e
         (h.says (chunks_most - count) cs c))
 
-    pub refused-said : {n p : ℕ} → r ≡ chunk-is.Refused n p → x ≡ no n p
-    refused-said e = said e
-
-    pub last-said : {end : Cursor} → r ≡ chunk-is.Last end → x ≡ got cs end (drop end.at s)
+    pub last-said : {end : Cursor} → r ≡ chunk.Last end → x ≡ got cs end (drop end.at s)
     last-said e = said e
 
-    pub next-said : {start len long : ℕ} → r ≡ chunk-is.Next start len long
+    pub next-said : {start len long : ℕ} → r ≡ chunk.Next start len long
         → x ≡ open_chunks (suc (chunks_most - (count + 1))) (cs ++ piece start (take len (drop start s)) ∷ []) (total + len) (cursor (start + len) long) (drop (start + len) s)
     next-said e = let f : chunks_most - count ≡ suc (chunks_most - (count + 1)) = omega (arith, chunk-bounds e) in rw (← f) (said e)
 
@@ -78,22 +80,28 @@ module _ (s : List ℕ) (start len : ℕ) (within : start + len ≤ length s) wh
 
 -- ---- content of known length
 
-module _ (s : List ℕ) (from : Cursor) {r : PartRead} (h : Parted s (part_within content_most from (drop from.at s)) r) {o o' : List ℕ} where
-  pub known-no : {n p : ℕ} → r ≡ part-is.Refused n p → Contented s (known_content from (drop from.at s)) o o' (Refused n p)
+module _ (s : List ℕ) (from : Cursor) {r : Result PartRead Refused} (h : Parted s (part_within content_most from (drop from.at s)) r) where
+  pub known-no : {o o' : List ℕ} {e : Refused} → r ≡ Err e → Contented s (known_content from (drop from.at s)) o o' (Err e)
   unfolding known_content ◌>>=◌
   known-no e = contented-no (rw (part_no h e))
 
-  module _ {a n k : ℕ} (e : r ≡ part-is.Is a n k) where
-    pub known-none : n ≡ 0 → o' ≡ o → Contented s (known_content from (drop from.at s)) o o' (Done (cursor (a + n) k) 0 0)
-    unfolding known_content ◌>>=◌ is_empty content_of chunks_numbers
-    known-none z q =
-        contented-got [] (rw ((part-got h e).0, part_length s a n (part-got h e).1, eq-eqb n 0 z)) ((part-got h e).1, (part-got h e).2) refl refl q
+  module _ {q : PartRead} (e : r ≡ Ok q) where
+    d : PartDone s (part_within content_most from (drop from.at s)) q
+    d = part-got h e
 
-    pub known-one : (n ≡ 0 → ⊥) → o' ≡ splice o 0 (a ∷ n ∷ []) → Contented s (known_content from (drop from.at s)) o o' (Done (cursor (a + n) k) 1 n)
+    lies : (q.end.at ≤ length s) × (q.end.long ≤ q.end.at)
+    lies = (omega (arith, d.inside, d.behind), d.few)
+
+    pub known-none : {o o' : List ℕ} → q.part.len ≡ 0 → o' ≡ o → Contented s (known_content from (drop from.at s)) o o' (content-is q.end 0 0)
     unfolding known_content ◌>>=◌ is_empty content_of chunks_numbers
-    known-one z q = let b = (part-got h e).1 in
-        contented-got (piece a (take n (drop a s)) ∷ []) (rw ((part-got h e).0, part_length s a n b, ne_eqb n 0 z)) (b, (part-got h e).2) refl
-        (content-next s a n b [] refl ∙ omega arith) (chunk-stored s a n b [] o refl refl q)
+    known-none z u =
+        contented-got [] (rw (d.taken, part_length s q.part.start q.part.len d.inside, eq-eqb q.part.len 0 z)) lies refl refl u
+
+    pub known-one : {o o' : List ℕ} → (q.part.len ≡ 0 → ⊥) → o' ≡ splice o 0 (q.part.start ∷ q.part.len ∷ []) → Contented s (known_content from (drop from.at s)) o o' (content-is q.end 1 q.part.len)
+    unfolding known_content ◌>>=◌ is_empty content_of chunks_numbers
+    known-one {o} z u =
+        contented-got (piece q.part.start (take q.part.len (drop q.part.start s)) ∷ []) (rw (d.taken, part_length s q.part.start q.part.len d.inside, ne_eqb q.part.len 0 z)) lies refl
+        (content-next s q.part.start q.part.len d.inside [] refl ∙ omega arith) (chunk-stored s q.part.start q.part.len d.inside [] o refl refl u)
 
 -- ---- content
 
@@ -102,13 +110,13 @@ unfolding is_empty
 some_left s from h = rw (length-drop from s, ne_eqb (length s - from) 0 (λ z. omega (arith, z)))
 
 module _ (s : List ℕ) (from : Cursor) (known : Bool) {o o' : List ℕ} where
-  pub content-none : from.at ≤ length s → from.long ≤ from.at → length s ≤ from.at → o' ≡ o → Contented s (content known from (drop from.at s)) o o' (Done from 0 0)
+  pub content-none : from.at ≤ length s → from.long ≤ from.at → length s ≤ from.at → o' ≡ o → Contented s (content known from (drop from.at s)) o o' (content-is from 0 0)
   unfolding content ◌>>=◌ is_empty content_of chunks_numbers
   content-none g b h q =
       let z : length s - from.at ≡ 0 = omega arith in
       contented-got [] (rw (length-drop from.at s, eq-eqb (length s - from.at) 0 z)) (g, b) refl refl q
 
-  module _ {r : ContentRead} (h : from.at < length s) where
+  module _ {r : Result ContentRead Refused} (h : from.at < length s) where
     pub content-known : known ≡ true → Contented s (known_content from (drop from.at s)) o o' r → Contented s (content known from (drop from.at s)) o o' r
     unfolding content ◌>>=◌
     content-known k q = contented-as (rw (some_left s from.at h, k)) q
@@ -119,40 +127,38 @@ module _ (s : List ℕ) (from : Cursor) (known : Bool) {o o' : List ℕ} where
 
 -- ---- what the caller learns
 
-pub record ContentDone (s : List ℕ) (x : Got (List Piece)) (o o' : List ℕ) (end : Cursor) (count total : ℕ) : Type 0 where
+pub record ContentDone (s : List ℕ) (x : Got (List Piece)) (o o' : List ℕ) (c : ContentRead) : Type 0 where
   pub chunks : List Piece
-  pub taken : x ≡ got chunks end (drop end.at s)
-  pub counted : length chunks ≡ count
-  pub sum : length (content_of chunks) ≡ total
+  pub taken : x ≡ got chunks c.end (drop c.end.at s)
+  pub counted : length chunks ≡ c.chunks
+  pub sum : length (content_of chunks) ≡ c.total
   pub stored : o' ≡ splice o 0 (chunks_numbers chunks)
-  pub within : end.at ≤ length s
-  pub few : end.long ≤ end.at
+  pub within : c.end.at ≤ length s
+  pub few : c.end.long ≤ c.end.at
 
-module _ {s : List ℕ} {x : Got (List Piece)} {o o' : List ℕ} {r : ContentRead} (h : Contented s x o o' r) where
-  pub content-no : {n p : ℕ} → r ≡ Refused n p → x ≡ no n p
-  content-no {n} {p} e = go x h.says
+module _ {s : List ℕ} {x : Got (List Piece)} {o o' : List ℕ} {r : Result ContentRead Refused} (h : Contented s x o o' r) where
+  pub content-no : {e : Refused} → r ≡ Err e → x ≡ no e.number e.place
+  content-no {e} q = go x h.says
     where
-      go : (y : Got (List Piece)) → ContentSays s y o o' r → y ≡ no n p
-      go (got cs i l) q = let d = q.0 in cc
-      go (no m k) q = cc
+      go : (y : Got (List Piece)) → ContentSays s y o o' r → y ≡ no e.number e.place
+      go (got cs i l) d = let f = d.0 in cc
+      go (no m k) d = let z : refused_at m k ≡ e = cc in ap (λ (f : Refused). no f.number f.place) z
 
-  pub content-done : {end : Cursor} {count total : ℕ} → r ≡ Done end count total → ContentDone s x o o' end count total
-  content-done {end} {count} {total} e = go x h.says
+  pub content-done : {c : ContentRead} → r ≡ Ok c → ContentDone s x o o' c
+  content-done {c} e = go x h.says
     where
-      go : (y : Got (List Piece)) → ContentSays s y o o' r → ContentDone s y o o' end count total
-      go (got cs i l) q =
-          let d = q.0 in
-          let a : i ≡ end = cc in
-          let b : length cs ≡ count = cc in
-          let c : length (content_of cs) ≡ total = cc in
-          let l' : l ≡ drop end.at s = q.2.1 ∙ ap (λ (z : Cursor). drop z.at s) a in
-          record {
+      go : (y : Got (List Piece)) → ContentSays s y o o' r → ContentDone s y o o' c
+      go (got cs i l) d =
+          let f = d.0 in
+          let z : ◌≡◌ {A = ContentRead} (record { end = i; chunks = length cs; total = length (content_of cs) }) c = cc in
+          subst (λ (c : ContentRead). ContentDone s (got cs i l) o o' c) z
+          (record {
             chunks = cs;
-            taken = rw (a, l');
-            counted = b;
-            sum = c;
-            stored = q.1;
-            within = subst (λ (z : Cursor). z.at ≤ length s) a q.2.0;
-            few = subst (λ (z : Cursor). z.long ≤ z.at) a q.2.2;
-          }
-      go (no m k) q = let z : ◌≡◌ {A = ℕ} 0 1 = cc in absurd (omega arith)
+            taken = ap (λ (m : List ℕ). got cs i m) d.2.1;
+            counted = refl;
+            sum = refl;
+            stored = d.1;
+            within = d.2.0;
+            few = d.2.2;
+          })
+      go (no m k) d = let z : ◌≡◌ {A = ℕ} 0 1 = cc in absurd (omega arith)

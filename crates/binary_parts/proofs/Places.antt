@@ -1,6 +1,6 @@
 -- Readers of Binary HTTP at a place of the input, by what stands there; and parts, by their outcome.
 use Prim.Native.Nat.{ℕ, ◌+◌, ◌-◌, ◌<◌, ◌≤◌}
-use mathlib.Core.Path.{◌≡◌, refl, sym, ap, ap₂, ◌∙◌, subst}
+use mathlib.Core.Path.{◌≡◌, refl, sym, ap, ap₂, subst}
 use mathlib.Core.List.{List}
 use mathlib.Core.Bool.{true, false}
 use native.Mathlib.Omega.{arith}
@@ -8,26 +8,27 @@ use borrow.Author.Tests.{lt-ltb, le-ltb}
 use lib.Dec.{leb}
 use lib.ListN.{length, take, drop, length-drop}
 use lib.Seq.{length-take-le, drop-drop}
-use Rattle.octets.specs.Refusals.{cut_off, too_large}
-use Rattle.numbers.specs.Integer.{read_int}
-use Rattle.numbers.specs.declared.Integer.TheVariants.{Value, Cut}
+use Rattle.std.proofs.Common.{Some, None, Result, Ok, Err}
+use Rattle.octets.specs.Refusals.{cut_off, too_large, refused_at}
+use Rattle.octets.specs.declared.Refused.{Refused}
+use Rattle.numbers.specs.Integer.{integer_of, read_int}
 use Rattle.numbers.proofs.IntegerLaws.{int-within, int-once}
 use Rattle.script.specs.Do.{Piece, piece}
 use Rattle.binary.specs.declared.Cursor.{Cursor}
 use Rattle.binary.specs.Reader.{Got, got, no, cursor, ◌>>=◌, integer, string}
 use Rattle.binary.specs.Read.{part, part_within}
-use Rattle.binary_parts.specs.Control.{StandsIn, PartSays, Parted}
+use Rattle.messages.specs.declared.Span.{Span}
+use Rattle.binary_parts.specs.Control.{StandsIn, span_of, PartSays, Parted, piece_of, Inside}
 use Rattle.binary_parts.specs.declared.PartRead.{PartRead}
-use Rattle.binary_parts.specs.declared.PartRead.TheVariants.{Is, Refused}
 
 -- ---- integers and octets
 
 module _ (s : List ℕ) (c : Cursor) where
-  pub integer-cut : (k p : ℕ) → read_int c.at (drop c.at s) ≡ Cut → integer k p c (drop c.at s) ≡ no k p
+  pub integer-cut : (k p : ℕ) → read_int c.at (drop c.at s) ≡ None → integer k p c (drop c.at s) ≡ no k p
   unfolding integer
   integer-cut k p e = rw e
 
-  pub integer-got : (k p : ℕ) {v next long : ℕ} → read_int c.at (drop c.at s) ≡ Value v next long
+  pub integer-got : (k p : ℕ) {v next long : ℕ} → read_int c.at (drop c.at s) ≡ Some (integer_of v next long)
       → integer k p c (drop c.at s) ≡ got v (cursor next (c.long + long)) (drop next s)
   unfolding integer
   integer-got k p {v} {next} e =
@@ -35,7 +36,7 @@ module _ (s : List ℕ) (c : Cursor) where
       rw (e, drop-drop (next - c.at) c.at s, z)
 
   -- it is counted once at most, and has at least an octet
-  pub integer-few : {v next long : ℕ} → c.long ≤ c.at → read_int c.at (drop c.at s) ≡ Value v next long → c.long + long ≤ next
+  pub integer-few : {v next long : ℕ} → c.long ≤ c.at → read_int c.at (drop c.at s) ≡ Some (integer_of v next long) → c.long + long ≤ next
   integer-few h e = omega (arith, h, int-within s c.at e, int-once c.at (drop c.at s) e)
 
   pub octets-cut : (n k p : ℕ) → length s - c.at < n → string n k p c (drop c.at s) ≡ no k p
@@ -49,11 +50,11 @@ module _ (s : List ℕ) (c : Cursor) where
 
 -- ---- a part, by what was found
 
-pub parted-as : {s : List ℕ} {x y : Got Piece} {r : PartRead} → x ≡ y → Parted s y r → Parted s x r
+pub parted-as : {s : List ℕ} {x y : Got Piece} {r : Result PartRead Refused} → x ≡ y → Parted s y r → Parted s x r
 parted-as {s} {r = r} e h = subst (λ (z : Got Piece). Parted s z r) (sym e) h
 
-pub parted-no : {s : List ℕ} {x : Got Piece} {n p : ℕ} → x ≡ no n p → Parted s x (Refused n p)
-parted-no e = parted-as e (record { says = refl })
+pub parted-no : {s : List ℕ} {x : Got Piece} {n p : ℕ} {e : Refused} → e ≡ refused_at n p → x ≡ no n p → Parted s x (Err e)
+parted-no q h = parted-as h (record { says = rw q })
 
 module _ (s : List ℕ) (at n : ℕ) (h : at + n ≤ length s) where
   pub part_length : length (take n (drop at s)) ≡ n
@@ -62,66 +63,95 @@ module _ (s : List ℕ) (at n : ℕ) (h : at + n ≤ length s) where
   pub stands-in : StandsIn s (piece at (take n (drop at s)))
   stands-in = record { inside = rw part_length h; taken = rw part_length }
 
-  pub parted-got : {x : Got Piece} {k : ℕ} → k ≤ at + n → x ≡ got (piece at (take n (drop at s))) (cursor (at + n) k) (drop (at + n) s) → Parted s x (Is at n k)
-  parted-got {k = k} f e = parted-as e (record { says = (ap (λ (z : ℕ). Is at z k) (sym part_length), stands-in, rw part_length, (h, refl, f)) })
+abbrev span-at : ℕ → ℕ → Span
+span-at a n = record { start = a; len = n }
+
+-- the span of the piece that a span names
+pub span-back : (s : List ℕ) (a : Span) → Inside s a → span_of (piece_of s a) ≡ a
+span-back s a h = ap (λ (n : ℕ). span-at a.start n) (part_length s a.start a.len h)
+
+pub parted-found : {s : List ℕ} {x : Got Piece} {q : PartRead} → Inside s q.part → q.end.at ≡ q.part.start + q.part.len → q.end.long ≤ q.end.at
+    → x ≡ got (piece_of s q.part) q.end (drop q.end.at s) → Parted s x (Ok q)
+parted-found {s} {q = q} h b f e =
+    parted-as e
+    (record {
+      says = (
+        ap (λ (a : Span). Ok (record { part = a; end = q.end })) (sym (span-back s q.part h)),
+        stands-in s q.part.start q.part.len h,
+        rw (part_length s q.part.start q.part.len h) b,
+        (omega (arith, h, b), refl, f),
+      );
+    })
+
+-- a part from the place `at` on
+abbrev pub part-is : ℕ → ℕ → ℕ → PartRead
+part-is at n long = record { part = record { start = at; len = n }; end = cursor (at + n) long }
 
 module _ (s : List ℕ) (place at n long : ℕ) (within : at ≤ length s) where
-  pub octets-short : length s - at < n → Parted s (string n cut_off place (cursor at long) (drop at s)) (Refused cut_off place)
-  octets-short h = parted-no (octets-cut s (cursor at long) n cut_off place h)
+  pub octets-short : {e : Refused} → e ≡ refused_at cut_off place → length s - at < n → Parted s (string n cut_off place (cursor at long) (drop at s)) (Err e)
+  octets-short q h = parted-no q (octets-cut s (cursor at long) n cut_off place h)
 
-  pub octets-in : long ≤ at → n ≤ length s - at → Parted s (string n cut_off place (cursor at long) (drop at s)) (Is at n long)
-  octets-in f h = parted-got s at n (omega arith) (omega (arith, f)) (octets-got s (cursor at long) n cut_off place h)
+  pub octets-in : long ≤ at → n ≤ length s - at → Parted s (string n cut_off place (cursor at long) (drop at s)) (Ok (part-is at n long))
+  octets-in f h = parted-found (omega arith) refl (omega (arith, f)) (octets-got s (cursor at long) n cut_off place h)
 
 -- ---- parts of any size, and within one
 
 module _ (s : List ℕ) (from : Cursor) where
-  pub part_cut : read_int from.at (drop from.at s) ≡ Cut → Parted s (part from (drop from.at s)) (Refused cut_off from.at)
+  pub part_cut : {f : Refused} → f ≡ refused_at cut_off from.at → read_int from.at (drop from.at s) ≡ None → Parted s (part from (drop from.at s)) (Err f)
   unfolding part ◌>>=◌
-  part_cut e = parted-no (rw (integer-cut s from cut_off from.at e))
+  part_cut q e = parted-no q (rw (integer-cut s from cut_off from.at e))
 
-  pub within-cut : (most : ℕ) → read_int from.at (drop from.at s) ≡ Cut → Parted s (part_within most from (drop from.at s)) (Refused cut_off from.at)
+  pub within-cut : (most : ℕ) {f : Refused} → f ≡ refused_at cut_off from.at → read_int from.at (drop from.at s) ≡ None → Parted s (part_within most from (drop from.at s)) (Err f)
   unfolding part_within ◌>>=◌
-  within-cut most e = parted-no (rw (integer-cut s from cut_off from.at e))
+  within-cut most q e = parted-no q (rw (integer-cut s from cut_off from.at e))
 
-  module _ {v next long : ℕ} (e : read_int from.at (drop from.at s) ≡ Value v next long) where
-    pub part-octets : {r : PartRead} → Parted s (string v cut_off from.at (cursor next (from.long + long)) (drop next s)) r → Parted s (part from (drop from.at s)) r
+  module _ {v next long : ℕ} (e : read_int from.at (drop from.at s) ≡ Some (integer_of v next long)) where
+    pub part-octets : {r : Result PartRead Refused} → Parted s (string v cut_off from.at (cursor next (from.long + long)) (drop next s)) r → Parted s (part from (drop from.at s)) r
     unfolding part ◌>>=◌
     part-octets h = parted-as (rw (integer-got s from cut_off from.at e)) h
 
-    pub within-octets : (most : ℕ) {r : PartRead} → leb v most ≡ true → Parted s (string v cut_off from.at (cursor next (from.long + long)) (drop next s)) r
+    pub within-octets : (most : ℕ) {r : Result PartRead Refused} → leb v most ≡ true → Parted s (string v cut_off from.at (cursor next (from.long + long)) (drop next s)) r
         → Parted s (part_within most from (drop from.at s)) r
     unfolding part_within ◌>>=◌
     within-octets most g h = parted-as (rw (integer-got s from cut_off from.at e, g)) h
 
-    pub within-large : (most : ℕ) → leb v most ≡ false → Parted s (part_within most from (drop from.at s)) (Refused too_large from.at)
+    pub within-large : (most : ℕ) {f : Refused} → f ≡ refused_at too_large from.at → leb v most ≡ false → Parted s (part_within most from (drop from.at s)) (Err f)
     unfolding part_within ◌>>=◌
-    within-large most g = parted-no (rw (integer-got s from cut_off from.at e, g))
+    within-large most q g = parted-no q (rw (integer-got s from cut_off from.at e, g))
 
 -- ---- what the caller learns
 
-module _ {s : List ℕ} {x : Got Piece} {r : PartRead} (h : Parted s x r) where
-  pub part_no : {n p : ℕ} → r ≡ Refused n p → x ≡ no n p
-  part_no {n} {p} e = go x h.says
-    where
-      go : (y : Got Piece) → PartSays s y r → y ≡ no n p
-      go (got w i l) q = let d = q.0 in cc
-      go (no m k) q = cc
+-- a part that was read of s, where the reader answers x
+pub record PartDone (s : List ℕ) (x : Got Piece) (q : PartRead) : Type 0 where
+  pub taken : x ≡ got (piece_of s q.part) q.end (drop q.end.at s)
+  pub inside : Inside s q.part
+  pub behind : q.end.at ≡ q.part.start + q.part.len
+  pub few : q.end.long ≤ q.end.at
 
-  pub part-got : {a n k : ℕ} → r ≡ Is a n k
-      → (x ≡ got (piece a (take n (drop a s))) (cursor (a + n) k) (drop (a + n) s)) × (a + n ≤ length s) × (k ≤ a + n)
-  part-got {a} {n} {k} e = go x h.says
+module _ {s : List ℕ} {x : Got Piece} {r : Result PartRead Refused} (h : Parted s x r) where
+  pub part_no : {e : Refused} → r ≡ Err e → x ≡ no e.number e.place
+  part_no {e} q = go x h.says
     where
-      go : (y : Got Piece) → PartSays s y r
-          → (y ≡ got (piece a (take n (drop a s))) (cursor (a + n) k) (drop (a + n) s)) × (a + n ≤ length s) × (k ≤ a + n)
-      go (got w i l) q =
-          let d = q.0 in
-          let a' : w.place ≡ a = cc in
-          let n' : length w.text ≡ n = cc in
-          let k' : i.long ≡ k = cc in
-          let t : w.text ≡ take n (drop a s) = q.1.taken ∙ rw (a', n') in
-          let i' : i.at ≡ a + n = omega (arith, q.2, a', n') in
-          let l' : l ≡ drop (a + n) s = q.3.1 ∙ ap (λ (z : ℕ). drop z s) i' in
-          let w' : w ≡ piece a (take n (drop a s)) = ap₂ piece a' t in
-          let c' : i ≡ cursor (a + n) k = ap₂ cursor i' k' in
-          (rw (w', c', l'), omega (arith, q.3.0, i'), omega (arith, q.3.2, i', k'))
-      go (no m o) q = let z : ◌≡◌ {A = ℕ} 0 1 = cc in absurd (omega arith)
+      go : (y : Got Piece) → PartSays s y r → y ≡ no e.number e.place
+      go (got w i l) d = let f = d.0 in cc
+      go (no m k) d = let z : refused_at m k ≡ e = cc in ap (λ (f : Refused). no f.number f.place) z
+
+  pub part-got : {q : PartRead} → r ≡ Ok q → PartDone s x q
+  part-got {q} e = go x h.says
+    where
+      go : (y : Got Piece) → PartSays s y r → PartDone s y q
+      go (got w i l) d =
+          let f = d.0 in
+          let z : ◌≡◌ {A = PartRead} (record { part = span_of w; end = i }) q = cc in
+          subst (λ (v : PartRead). PartDone s (got w i l) v) z
+          (record {
+            taken = ap₂ (λ (t m : List ℕ). got (piece w.place t) i m) d.1.taken d.3.1;
+            inside = d.1.inside;
+            behind = d.2;
+            few = d.3.2;
+          })
+      go (no m k) d = let z : ◌≡◌ {A = ℕ} 0 1 = cc in absurd (omega arith)
+
+  -- the octets that code takes out of s
+  pub part-text : {q : PartRead} → r ≡ Ok q → take (q.end.at - q.part.start) (drop q.part.start s) ≡ (piece_of s q.part).text
+  part-text {q} e = let n : q.end.at - q.part.start ≡ q.part.len = omega (arith, (part-got e).behind) in rw n

@@ -6,9 +6,10 @@ use mathlib.Core.Bool.{Bool, true, false, cond}
 use native.Mathlib.Omega.{arith}
 use lib.ListN.{length, take, drop, length-take, length-drop}
 use lib.Seq.{length-take-le}
-use Rattle.octets.specs.Refusals.{bad_syntax}
-use Rattle.numbers.specs.Integer.{read_int}
-use Rattle.numbers.specs.declared.Integer.TheVariants.{Value, Cut}
+use Rattle.std.proofs.Common.{Some, None, Result, Err}
+use Rattle.octets.specs.Refusals.{bad_syntax, refused_at}
+use Rattle.octets.specs.declared.Refused.{Refused}
+use Rattle.numbers.specs.Integer.{integer_of, read_int}
 use Rattle.numbers.proofs.IntegerLaws.{int-within, int-once}
 use Rattle.script.specs.Do.{Piece, piece, Judged, good, wrong}
 use Rattle.messages.specs.Message.{FieldRead}
@@ -18,7 +19,6 @@ use Rattle.binary.specs.declared.Form.{Form}
 use Rattle.binary.specs.Read.{is_line_value, judged_line, cut_number, cut_place, after_name_length}
 use Rattle.binary_parts.specs.Section.{JudgedSays, JudgedLine, EndsAt, LineSays, Lined}
 use Rattle.binary_parts.specs.declared.LineRead.{LineRead}
-use Rattle.binary_parts.specs.declared.LineRead.TheVariants as read
 use Rattle.binary_parts.proofs.Steps.{integer-cut, integer-in, octets-cut, octets-in}
 
 -- ---- the value of a line
@@ -45,7 +45,7 @@ value-ends s a next len h =
 
 -- ---- what a line promises
 
-module _ {s : List ℕ} {a : ℕ} {host : Bool} {k : ℕ} {o o' : List ℕ} {r : LineRead} where
+module _ {s : List ℕ} {a : ℕ} {host : Bool} {k : ℕ} {o o' : List ℕ} {r : Result LineRead Refused} where
   -- an answer that equals another promises the same
   pub lined-as : {x y : Got FieldRead} → x ≡ y → Lined s a y host k o o' r → Lined s a x host k o o' r
   lined-as {x} {y} e h = record { says = subst (λ (z : Got FieldRead). LineSays s a z host k o o' r) (sym e) h.says }
@@ -60,9 +60,9 @@ module _ {s : List ℕ} {a : ℕ} {host : Bool} {k : ℕ} {o o' : List ℕ} {r :
       go (wrong x p) e q = q
 
 -- a refusal, with nothing stored
-pub lined-no : {s : List ℕ} {a : ℕ} {host : Bool} {k : ℕ} {o : List ℕ} {r : LineRead} {x : Got FieldRead} {number place : ℕ} → x ≡ no number place → r ≡ read.Refused number place
-    → Lined s a x host k o o r
-lined-no {number = number} {place = place} e h = lined-as {y = no number place} e (record { says = (h, refl) })
+pub lined-no : {s : List ℕ} {a : ℕ} {host : Bool} {k : ℕ} {o : List ℕ} {x : Got FieldRead} {number place : ℕ} {f : Refused} → x ≡ no number place → f ≡ refused_at number place
+    → Lined s a x host k o o (Err f)
+lined-no {number = number} {place = place} e h = lined-as {y = no number place} e (record { says = (rw h, refl) })
 
 -- the part from i to e is no longer than that
 pub part-short : (s : List ℕ) (i e : ℕ) → length (take (e - i) (drop i s)) ≤ e - i
@@ -74,13 +74,13 @@ module _ (form : Form) (p a : ℕ) (s : List ℕ) (at n c : ℕ) where
   rest-name-cut h = rw (octets-cut a s at c (cut_number form) p n h)
 
   module _ (h : n ≤ length s - at) where
-    pub rest-length-cut : read_int (at + n) (drop (at + n) s) ≡ Cut
+    pub rest-length-cut : read_int (at + n) (drop (at + n) s) ≡ None
         → after_name_length form p n (cursor (a + at) c) (drop at s) ≡ no (cut_number form) (cut_place form p (a + (at + n)))
     unfolding after_name_length ◌>>=◌
     rest-length-cut e =
         rw (octets-in a s at c (cut_number form) p n h, integer-cut a s (at + n) c (cut_number form) (cut_place form p (a + (at + n))) e)
 
-    module _ {len next l : ℕ} (e : read_int (at + n) (drop (at + n) s) ≡ Value len next l) where
+    module _ {len next l : ℕ} (e : read_int (at + n) (drop (at + n) s) ≡ Some (integer_of len next l)) where
       pub rest-value-cut : length s - next < len → after_name_length form p n (cursor (a + at) c) (drop at s) ≡ no (cut_number form) (cut_place form p (a + (at + n)))
       unfolding after_name_length ◌>>=◌
       rest-value-cut g =
@@ -98,7 +98,7 @@ module _ (form : Form) (p a : ℕ) (s : List ℕ) (at n c : ℕ) where
           rw (octets-in a s at c k p n h, integer-in a s (at + n) c k q e, octets-in a s next (c + l) k q len g)
 
       -- both halves are in
-      pub rest-judged : {host : Bool} {k : ℕ} {o o' : List ℕ} {r : LineRead} → c ≤ a + at → len ≤ length s - next
+      pub rest-judged : {host : Bool} {k : ℕ} {o o' : List ℕ} {r : Result LineRead Refused} → c ≤ a + at → len ≤ length s - next
           → JudgedLine (judged_line form p (piece (a + at) (take (at + n - at) (drop at s))) (piece (a + next) (take (next + len - next) (drop next s)))) (next + len) host k (c + l) o o' r
           → Lined s a (after_name_length form p n (cursor (a + at) c) (drop at s)) host k o o' r
       rest-judged {host} {k} {o} {o'} {r} f g j =

@@ -7,11 +7,12 @@ use native.Mathlib.Omega.{arith}
 use borrow.Author.Tests.{eq-eqb, ne_eqb}
 use lib.ListN.{length, take, drop, length-drop}
 use lib.Seq.{length-take-le}
+use Rattle.std.proofs.Common.{Some, None, Result, Ok, Err}
 use Rattle.octets.specs.Limits.{lines_most}
-use Rattle.octets.specs.Refusals.{cut_off}
+use Rattle.octets.specs.Refusals.{cut_off, refused_at}
+use Rattle.octets.specs.declared.Refused.{Refused}
 use Rattle.octets.specs.Text.{is_empty}
-use Rattle.numbers.specs.Integer.{read_int}
-use Rattle.numbers.specs.declared.Integer.TheVariants.{Value, Cut}
+use Rattle.numbers.specs.Integer.{integer_of, read_int}
 use Rattle.numbers.proofs.IntegerLaws.{int-within}
 use Rattle.messages.specs.Message.{FieldRead, Section}
 use Rattle.messages.specs.Names.{lines_of, end_to_end, connection_values, unnamed, kept}
@@ -20,6 +21,7 @@ use Rattle.messages.specs.Answers.{fields_numbers}
 use Rattle.messages.specs.declared.Notes.{Notes}
 use Rattle.messages.proofs.Noting.{notes-none, notes-connections}
 use Rattle.sound.proofs.Parts.{section-lies}
+use Rattle.ranges.specs.Ranges.{AlteredFrom}
 use Rattle.ranges.specs.Connections.{GatheredFacts, Kept, LinesGathered}
 use Rattle.ranges.proofs.Storing.{altered-none, stores-none}
 use Rattle.binary.specs.declared.Cursor.{Cursor}
@@ -28,15 +30,19 @@ use Rattle.binary.specs.declared.Form.{Form}
 use Rattle.binary.specs.Read.{part, known_lines, on_body, body_lines, known_section, open_lines, open_section, section, no_section, header_section}
 use Rattle.binary_parts.specs.Section.{BodySays, Bodied, Onward, GatheredSays, SectionGathered, SectionSays, Sectioned}
 use Rattle.binary_parts.specs.declared.Section as answer
-use Rattle.binary_parts.specs.declared.Section.TheVariants as done
 use Rattle.binary_parts.proofs.Places.{integer-cut, integer-got, octets-cut, octets-got}
 use Rattle.binary_parts.proofs.SectionLines.{InLines}
 
 -- an answer that equals another promises the same
-pub bodied-as : {x y : Got (List FieldRead)} {end : ℕ} {host : Bool} {k : ℕ} {o o' : List ℕ} {r : answer.Section} → x ≡ y
+pub bodied-as : {x y : Got (List FieldRead)} {end : ℕ} {host : Bool} {k : ℕ} {o o' : List ℕ} {r : Result answer.Section Refused} → x ≡ y
     → BodySays y end host k o o' r → Bodied x end host k o o' r
 bodied-as {end = end} {host = host} {k = k} {o = o} {o' = o'} {r = r} e h =
     record { says = subst (λ (z : Got (List FieldRead)). BodySays z end host k o o' r) (sym e) h }
+
+-- a refusal, with what was stored before it
+pub bodied-no : {x : Got (List FieldRead)} {end n p : ℕ} {host : Bool} {k : ℕ} {o o' : List ℕ} {f : Refused} → x ≡ no n p → f ≡ refused_at n p → AlteredFrom (k * 4) o o'
+    → Bodied x end host k o o' (Err f)
+bodied-no {n = n} {p = p} e q a = bodied-as {y = no n p} e (rw q, a)
 
 -- the body from its first line on
 pub known_start : (form : Form) (n a c : ℕ) (s : List ℕ) → known_lines form n [] (cursor a c) s ≡ known_lines form n [] (cursor (a + 0) c) (drop 0 s)
@@ -65,7 +71,7 @@ open-closed : (form : Form) (at : Cursor) (l : List ℕ) → form.known ≡ fals
 unfolding section ◌>>=◌
 open-closed form at l k = ap (from-lines form at l) k ∙ on-closed (open_lines form (suc lines_most) [] at l)
 
-module _ {s : List ℕ} {host : Bool} {k : ℕ} {o o' : List ℕ} {r : answer.Section} where
+module _ {s : List ℕ} {host : Bool} {k : ℕ} {o o' : List ℕ} {r : Result answer.Section Refused} where
   pub gathered-as : {x y : Got Section} → x ≡ y → GatheredSays s y host k o o' r → SectionGathered s x host k o o' r
   gathered-as e h = record { says = subst (λ (z : Got Section). GatheredSays s z host k o o' r) (sym e) h }
 
@@ -83,12 +89,21 @@ module _ {s : List ℕ} {host : Bool} {k : ℕ} {o o' : List ℕ} {r : answer.Se
       go (got fs e l) q = (q.0, q.1, record { end = refl; within = b; left = refl; counted = q.2 })
       go (no n p) q = q
 
+-- a refusal, with what was stored before it
+pub gathered-no : {s : List ℕ} {x : Got Section} {n p : ℕ} {host : Bool} {k : ℕ} {o o' : List ℕ} {f : Refused} → x ≡ no n p → f ≡ refused_at n p → AlteredFrom (k * 4) o o'
+    → SectionGathered s x host k o o' (Err f)
+gathered-no {n = n} {p = p} e q a = gathered-as {y = no n p} e (rw q, a)
+
+pub open-no : {s : List ℕ} {host : Bool} {k : ℕ} {o o' : List ℕ} {f : Refused} (form : Form) (at : Cursor) (l : List ℕ) {n p : ℕ} → form.known ≡ false
+    → open_lines form (suc lines_most) [] at l ≡ no n p → f ≡ refused_at n p → AlteredFrom (k * 4) o o' → SectionGathered s (section form at l) host k o o' (Err f)
+open-no form at l {n} {p} u e q a = gathered-open form at l {y = no n p} u e (rw q, a)
+
 module _ (form : Form) (known : form.known ≡ true) (s : List ℕ) (from : Cursor) where
-  pub section-cut : read_int from.at (drop from.at s) ≡ Cut → section form from (drop from.at s) ≡ no cut_off from.at
+  pub section-cut : read_int from.at (drop from.at s) ≡ None → section form from (drop from.at s) ≡ no cut_off from.at
   unfolding known_section part ◌>>=◌
   section-cut e = rw (known-closed form from (drop from.at s) known, integer-cut s from cut_off from.at e)
 
-  module _ {n next l : ℕ} (e : read_int from.at (drop from.at s) ≡ Value n next l) where
+  module _ {n next l : ℕ} (e : read_int from.at (drop from.at s) ≡ Some (integer_of n next l)) where
     pub section-short : length s - next < n → section form from (drop from.at s) ≡ no cut_off from.at
     unfolding known_section part ◌>>=◌
     section-short h = rw (known-closed form from (drop from.at s) known, integer-got s from cut_off from.at e, octets-cut s (cursor next (from.long + l)) n cut_off from.at h)
@@ -100,7 +115,7 @@ module _ (form : Form) (known : form.known ≡ true) (s : List ℕ) (from : Curs
     section-in h = rw (known-closed form from (drop from.at s) known, integer-got s from cut_off from.at e, octets-got s (cursor next (from.long + l)) n cut_off from.at h)
 
     -- the body was read by itself
-    pub section-body : {host : Bool} {k : ℕ} {o o' : List ℕ} {r : answer.Section} → n ≤ length s - next
+    pub section-body : {host : Bool} {k : ℕ} {o o' : List ℕ} {r : Result answer.Section Refused} → n ≤ length s - next
         → Bodied (known_lines form (suc lines_most) [] (cursor next (from.long + l)) (take (next + n - next) (drop next s))) (next + length (take (next + n - next) (drop next s))) host k o o' r
         → SectionGathered s (section form from (drop from.at s)) host k o o' r
     section-body {host} {k} {o} {o'} {r} h b =
@@ -112,60 +127,64 @@ module _ (form : Form) (known : form.known ≡ true) (s : List ℕ) (from : Curs
 
 -- ---- what is left of them when those that are named are dropped
 
-module _ {s : List ℕ} {headers host : Bool} {k : ℕ} {o o' : List ℕ} {r : answer.Section} where
+module _ {s : List ℕ} {headers host : Bool} {k : ℕ} {o o' : List ℕ} {r : Result answer.Section Refused} where
   pub sectioned-as : {x y : Got Section} → x ≡ y → SectionSays s y headers host k o o' r → Sectioned s x headers host k o o' r
   sectioned-as e h = record { says = subst (λ (z : Got Section). SectionSays s z headers host k o o' r) (sym e) h }
 
--- a section that was gathered, with c fields and the notes n: its lines, and what the array says of them
-record GatheredDone (s : List ℕ) (x : Got Section) (host : Bool) (k : ℕ) (o o' : List ℕ) (e : Cursor) (c : ℕ) (n : Notes) : Type 0 where
+-- a section that was gathered, as the code answers it: its lines, and what the array says of them
+record GatheredDone (s : List ℕ) (x : Got Section) (host : Bool) (k : ℕ) (o o' : List ℕ) (q : answer.Section) : Type 0 where
   read : Section
   left : List ℕ
-  gives : x ≡ got read e left
-  onward : Onward s read e left
-  noted : n ≡ notes_of false read.lines
-  facts : GatheredFacts s host k read.lines c n.connections o o'
+  gives : x ≡ got read q.end left
+  onward : Onward s read q.end left
+  noted : q.notes ≡ notes_of false read.lines
+  facts : GatheredFacts s host k read.lines q.kept q.notes.connections o o'
 
-module _ {s : List ℕ} {x : Got Section} {host : Bool} {k : ℕ} {o o' : List ℕ} {r : answer.Section} (h : SectionGathered s x host k o o' r) where
-  pub gathered-refused : {headers : Bool} {n p : ℕ} → r ≡ done.Refused n p → Sectioned s x headers host k o o' (done.Refused n p)
-  gathered-refused {headers} {n} {p} e = record { says = go x h.says }
+abbrev section-is : Cursor → ℕ → Notes → answer.Section
+section-is e c n = record { end = e; kept = c; notes = n }
+
+module _ {s : List ℕ} {x : Got Section} {host : Bool} {k : ℕ} {o o' : List ℕ} {r : Result answer.Section Refused} (h : SectionGathered s x host k o o' r) where
+  pub gathered-refused : {headers : Bool} {f : Refused} → r ≡ Err f → Sectioned s x headers host k o o' (Err f)
+  gathered-refused {headers} {f} e = record { says = go x h.says }
     where
-      go : (y : Got Section) → GatheredSays s y host k o o' r → SectionSays s y headers host k o o' (done.Refused n p)
+      go : (y : Got Section) → GatheredSays s y host k o o' r → SectionSays s y headers host k o o' (Err f)
       go (got a i l) q = let d = q.0 in let z : ◌≡◌ {A = ℕ} 0 1 = cc in absurd (omega arith)
       go (no u v) q = (sym e ∙ q.0, q.1)
 
-  module _ {e : Cursor} {c : ℕ} {n : Notes} (w : InLines s x) (d : r ≡ done.Done e c n) where
-    gathered-done : GatheredDone s x host k o o' e c n
+  module _ {q : answer.Section} (w : InLines s x) (d : r ≡ Ok q) where
+    gathered-done : GatheredDone s x host k o o' q
     gathered-done = go x w h.says
       where
-        go : (y : Got Section) → InLines s y → GatheredSays s y host k o o' r → GatheredDone s y host k o o' e c n
-        go (got a i l) w q =
-            let z : done.Done i (k + length (end_to_end host a.lines)) (notes_of false a.lines) ≡ done.Done e c n = sym q.0 ∙ d in
-            let i' : i ≡ e = cc in
-            let n' : n ≡ notes_of false a.lines = cc in
-            record {
+        go : (y : Got Section) → InLines s y → GatheredSays s y host k o o' r → GatheredDone s y host k o o' q
+        go (got a i l) w u =
+            let f = u.0 in
+            let z : section-is i (k + length (end_to_end host a.lines)) (notes_of false a.lines) ≡ q = cc in
+            subst (λ (q : answer.Section). GatheredDone s (got a i l) host k o o' q) z
+            (record {
               read = a;
               left = l;
-              gives = ap (λ (x : Cursor). got a x l) i';
-              onward = subst (λ (x : Cursor). Onward s a x l) i' q.2;
-              noted = n';
+              gives = refl;
+              onward = u.2;
+              noted = refl;
               facts = record {
-                gathered = q.1;
-                fields = cc;
-                lines = sym (ap (λ (x : Notes). x.connections) n' ∙ notes-connections false a.lines w.1.section.few);
+                gathered = u.1;
+                fields = refl;
+                lines = sym (notes-connections false a.lines w.1.section.few);
                 few = w.1.section.few;
                 lying = section-lies s a.lines w.1.section;
               };
-            }
+            })
         go (no u v) w q = let d' = q.0 in let z : ◌≡◌ {A = ℕ} 0 1 = cc in absurd (omega arith)
 
-    pub gathered-known : LinesGathered s k c n.connections o'
+    pub gathered-known : LinesGathered s k q.kept q.notes.connections o'
     gathered-known = let g = gathered-done in (host, g.read.lines, o, g.facts)
 
-    pub gathered-kept : {headers : Bool} {o₂ : List ℕ} {q : ℕ} → Kept s headers k c n.connections o' o₂ q → Sectioned s x headers host k o o₂ (done.Done e q n)
+    pub gathered-kept : {headers : Bool} {o₂ : List ℕ} {c : ℕ} → Kept s headers k q.kept q.notes.connections o' o₂ c
+        → Sectioned s x headers host k o o₂ (Ok (section-is q.end c q.notes))
     gathered-kept {headers} y =
         let g = gathered-done in
         let z = y.by host g.read.lines o g.facts in
-        sectioned-as {y = got g.read e g.left} g.gives (ap₂ (λ (c : ℕ) (m : Notes). done.Done e c m) z.0 g.noted, z.1, g.onward)
+        sectioned-as {y = got g.read q.end g.left} g.gives (ap₂ (λ (c : ℕ) (m : Notes). Ok (section-is q.end c m)) z.0 g.noted, z.1, g.onward)
 
 -- ---- header sections
 
@@ -193,13 +212,13 @@ module _ (form : Form) (s : List ℕ) (from : Cursor) where
 module _ (form : Form) (s : List ℕ) (from : Cursor) {host : Bool} {k : ℕ} {o : List ℕ} where
   -- the message may end before it, and does
   pub header-none : {b : Bool} {n : Notes} → b ≡ cond (is_empty (drop from.at s)) form.headless false → b ≡ true → from.at ≤ length s → from.long ≤ from.at → n ≡ no_notes
-      → k * 4 ≤ length o → Sectioned s (header_section form from (drop from.at s)) true host k o o (done.Done from k n)
+      → k * 4 ≤ length o → Sectioned s (header_section form from (drop from.at s)) true host k o o (Ok (section-is from k n))
   unfolding kept connection_values lines_of unnamed end_to_end fields_numbers
   header-none e t w f n q =
       let z : k + 0 ≡ k = omega arith in
       sectioned-as {y = got (no_section from.at) from (drop from.at s)} (header_is form s from e ∙ rw t refl)
       (rw (z, n, notes-none false) refl, stores-none (altered-none (k * 4) o) q, record { end = refl; within = w; left = refl; counted = f })
 
-  pub header-some : {b : Bool} {o' : List ℕ} {r : answer.Section} → b ≡ cond (is_empty (drop from.at s)) form.headless false → b ≡ false
+  pub header-some : {b : Bool} {o' : List ℕ} {r : Result answer.Section Refused} → b ≡ cond (is_empty (drop from.at s)) form.headless false → b ≡ false
       → Sectioned s (section form from (drop from.at s)) true host k o o' r → Sectioned s (header_section form from (drop from.at s)) true host k o o' r
   header-some e t h = sectioned-as {y = section form from (drop from.at s)} (header_is form s from e ∙ rw t refl) h.says

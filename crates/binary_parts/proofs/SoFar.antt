@@ -13,7 +13,6 @@ use Rattle.messages.specs.Message.{FieldRead}
 use Rattle.messages.specs.Names.{same_kind, lines_of, end_to_end}
 use Rattle.messages.specs.Notes.{is_noted, notes_of, note_of, note_line, no_notes}
 use Rattle.messages.specs.Room.{section_room}
-use Rattle.messages.specs.declared.Kind.{Kind}
 use Rattle.messages.specs.declared.Kind.TheVariants as is
 use Rattle.messages.specs.declared.Notes.{Notes}
 use Rattle.messages.proofs.Noting.{notes-none, notes-more, notes-connections}
@@ -21,6 +20,7 @@ use Rattle.ranges.specs.Ranges.{AlteredFrom}
 use Rattle.ranges.specs.Connections.{connection_at, Gathered}
 use Rattle.ranges.proofs.Gathering.{gathered-few, gathered_none, gathered-more, gathered-unnoted, gathered-count}
 use Rattle.binary.specs.Reader.{Got}
+use Rattle.binary_parts.specs.declared.LineRead.{LineRead}
 use Rattle.binary_parts.proofs.Turns.{NextLine, note-taken, note-passed}
 
 -- behind the `base` entries of o
@@ -64,10 +64,10 @@ module _ {host : Bool} {base : ℕ} {o : List ℕ} {fs : List FieldRead} {l k : 
       pub so-far-value : n.connections < lines_most
       so-far-value = omega (arith, so-far-few, gathered-few host fs, connections)
 
-      module _ {s : List ℕ} {a : ℕ} {x : Got FieldRead} {o₁ : List ℕ} {end c : ℕ} {kind : Kind} {place len long : ℕ} (f : NextLine s a x host k o' o₁ end c kind place len long) where
+      module _ {s : List ℕ} {a : ℕ} {x : Got FieldRead} {o₁ : List ℕ} {q : LineRead} (f : NextLine s a x host k o' o₁ q) where
         -- with the next line, which leaves the notes m and the numbers o₂
         with-line : {m : Notes} {o₂ : List ℕ} → m ≡ note_line false n f.line → Gathered host base (fs ++ f.line ∷ []) o o₂
-            → SoFar host base o (fs ++ f.line ∷ []) (l + 1) c m o₂
+            → SoFar host base o (fs ++ f.line ∷ []) (l + 1) q.kept m o₂
         with-line e y = record {
           lines = length-append fs (f.line ∷ []) ∙ omega (arith, g.lines);
           most = omega (arith, so-far-less);
@@ -77,12 +77,14 @@ module _ {host : Bool} {base : ℕ} {o : List ℕ} {fs : List FieldRead} {l k : 
         }
 
         -- of which something is noted
-        pub so-far-noted : {m : Notes} {v : ℕ} {o₂ : List ℕ} → v ≡ a + (end - len) → m ≡ note_of false n kind place v (take (end - (end - len)) (drop (end - len) s))
-            → o₂ ≡ cond (same_kind kind is.Connection) (splice o₁ (connection_at base n.connections) (v ∷ len ∷ [])) o₁ → SoFar host base o (fs ++ f.line ∷ []) (l + 1) c m o₂
-        so-far-noted e q y = with-line (note-taken f n e q)
+        pub so-far-noted : {m : Notes} {v : ℕ} {o₂ : List ℕ} → v ≡ a + (q.end - q.len)
+            → m ≡ note_of false n q.kind q.place v (take (q.end - (q.end - q.len)) (drop (q.end - q.len) s))
+            → o₂ ≡ cond (same_kind q.kind is.Connection) (splice o₁ (connection_at base n.connections) (v ∷ q.len ∷ [])) o₁
+            → SoFar host base o (fs ++ f.line ∷ []) (l + 1) q.kept m o₂
+        so-far-noted e u y = with-line (note-taken f n e u)
             (gathered-more host base fs f.line g.gathered so-far-few room g.count connections f.stored (rw (f.kind-is, e, ← f.value-at, ← f.size) at y))
 
         -- of which nothing is
-        pub so-far-unnoted : is_noted kind ≡ false → SoFar host base o (fs ++ f.line ∷ []) (l + 1) c n o₁
-        so-far-unnoted q = with-line (note-passed f n q)
-            (gathered-unnoted host base fs f.line g.gathered so-far-few room g.count f.stored (rw f.kind-is at q))
+        pub so-far-unnoted : is_noted q.kind ≡ false → SoFar host base o (fs ++ f.line ∷ []) (l + 1) q.kept n o₁
+        so-far-unnoted u = with-line (note-passed f n u)
+            (gathered-unnoted host base fs f.line g.gathered so-far-few room g.count f.stored (rw f.kind-is at u))

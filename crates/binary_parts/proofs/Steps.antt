@@ -6,9 +6,9 @@ use native.Mathlib.Omega.{arith}
 use borrow.Author.Tests.{lt-ltb, le-ltb}
 use lib.ListN.{length, take, drop, length-drop}
 use lib.Seq.{drop-drop}
-use Rattle.numbers.specs.Integer.{read_int, read_more}
+use Rattle.std.proofs.Common.{Option, Some, None}
+use Rattle.numbers.specs.Integer.{integer_of, read_int, read_more}
 use Rattle.numbers.specs.declared.Integer.{Integer}
-use Rattle.numbers.specs.declared.Integer.TheVariants.{Value, Cut}
 use Rattle.numbers.proofs.IntegerLaws.{int-within}
 use Rattle.script.specs.Do.{piece}
 use Rattle.binary.specs.Reader.{got, no, cursor, integer, string}
@@ -16,9 +16,9 @@ use Rattle.binary.specs.Reader.{got, no, cursor, integer, string}
 -- ---- an integer further on
 
 -- an integer's answer with its place moved on
-abbrev moved : ℕ → Integer → Integer
-moved a (Value v next long) = Value v (a + next) long
-moved a Cut = Cut
+abbrev moved : ℕ → Option Integer → Option Integer
+moved a (Some i) = Some (integer_of i.value (a + i.next) i.long)
+moved a None = None
 
 more-moved : (w n v a at : ℕ) (s : List ℕ) → read_more w n v (a + at) s ≡ moved a (read_more w n v at s)
 unfolding read_more
@@ -38,11 +38,11 @@ int-moved a at (b ∷ s) =
 -- ---- the steps
 
 module _ (a : ℕ) (s : List ℕ) (i c k p : ℕ) where
-  pub integer-cut : read_int i (drop i s) ≡ Cut → integer k p (cursor (a + i) c) (drop i s) ≡ no k p
+  pub integer-cut : read_int i (drop i s) ≡ None → integer k p (cursor (a + i) c) (drop i s) ≡ no k p
   unfolding integer
   integer-cut e = rw (int-moved a i (drop i s), e)
 
-  pub integer-in : {v next long : ℕ} → read_int i (drop i s) ≡ Value v next long → integer k p (cursor (a + i) c) (drop i s) ≡ got v (cursor (a + next) (c + long)) (drop next s)
+  pub integer-in : {v next long : ℕ} → read_int i (drop i s) ≡ Some (integer_of v next long) → integer k p (cursor (a + i) c) (drop i s) ≡ got v (cursor (a + next) (c + long)) (drop next s)
   unfolding integer
   integer-in {v} {next} e =
       let w = int-within s i e in

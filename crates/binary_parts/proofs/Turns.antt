@@ -1,6 +1,6 @@
 -- One line of a section, and one turn of each section loop, by what comes next.
 use Prim.Native.Nat.{ℕ, suc, ◌+◌, ◌-◌, ◌<◌, ◌≤◌}
-use mathlib.Core.Path.{◌≡◌, sym, ap, ap₂, ◌∙◌}
+use mathlib.Core.Path.{◌≡◌, refl, sym, ap, ap₂, ◌∙◌, subst}
 use mathlib.Core.List.{List, [], ◌∷◌, ◌++◌}
 use mathlib.Core.Bool.{Bool, false}
 use native.Mathlib.Omega.{arith}
@@ -8,9 +8,10 @@ use borrow.Author.Tests.{eq-eqb, ne_eqb, le-leb, lt-leb}
 use lib.ListN.{length, take, drop, length-drop}
 use Rattle.octets.specs.Text.{is_empty}
 use Rattle.octets.specs.Limits.{lines_most}
-use Rattle.octets.specs.Refusals.{bad_section, cut_off, too_large}
-use Rattle.numbers.specs.Integer.{read_int}
-use Rattle.numbers.specs.declared.Integer.TheVariants.{Value, Cut}
+use Rattle.std.proofs.Common.{Some, None, Result, Ok, Err}
+use Rattle.octets.specs.Refusals.{bad_section, cut_off, too_large, refused_at}
+use Rattle.octets.specs.declared.Refused.{Refused}
+use Rattle.numbers.specs.Integer.{integer_of, read_int}
 use Rattle.messages.specs.Message.{FieldRead}
 use Rattle.messages.specs.Names.{line_kind, is_end_to_end}
 use Rattle.messages.specs.Notes.{is_noted, note_of, note_line}
@@ -19,24 +20,22 @@ use Rattle.messages.specs.declared.Kind.{Kind}
 use Rattle.messages.specs.declared.Notes.{Notes}
 use Rattle.messages.proofs.Noting.{noted_nothing}
 use Rattle.ranges.specs.Ranges.{StoredIf}
-use Rattle.binary.specs.declared.Cursor.{Cursor}
 use Rattle.binary.specs.Reader.{Got, got, no, cursor, ◌>>=◌}
 use Rattle.binary.specs.declared.Form.{Form}
 use Rattle.binary.specs.Read.{after_name_length, known_line, known_lines, open_lines}
-use Rattle.binary_parts.specs.Section.{LineSays, Lined}
+use Rattle.binary_parts.specs.Section.{next_line, LineSays, Lined}
 use Rattle.binary_parts.specs.declared.LineRead.{LineRead}
-use Rattle.binary_parts.specs.declared.LineRead.TheVariants as read
 use Rattle.binary_parts.proofs.Steps.{integer-cut, integer-in}
 use Rattle.binary_parts.proofs.Places.{integer-cut as integer-cut-here, integer-got}
 
 -- ---- a line by its name length
 
 module _ (form : Form) (a : ℕ) (s : List ℕ) (at c : ℕ) where
-  pub known-cut : read_int at (drop at s) ≡ Cut → known_line form (cursor (a + at) c) (drop at s) ≡ no bad_section (a + at)
+  pub known-cut : read_int at (drop at s) ≡ None → known_line form (cursor (a + at) c) (drop at s) ≡ no bad_section (a + at)
   unfolding known_line ◌>>=◌
   known-cut e = rw (integer-cut a s at c bad_section (a + at) e)
 
-  module _ {n next l : ℕ} (e : read_int at (drop at s) ≡ Value n next l) where
+  module _ {n next l : ℕ} (e : read_int at (drop at s) ≡ Some (integer_of n next l)) where
     pub known-none : n ≡ 0 → known_line form (cursor (a + at) c) (drop at s) ≡ no bad_section (a + at)
     unfolding known_line ◌>>=◌
     known-none h = rw (integer-in a s at c bad_section (a + at) e, eq-eqb n 0 h)
@@ -47,66 +46,62 @@ module _ (form : Form) (a : ℕ) (s : List ℕ) (at c : ℕ) where
 
 -- ---- what the caller learns of a line
 
--- a line that was read in the part s at the place a, up to `end`: c fields are kept with it; its kind, its place, the size of its value
-pub record NextLine (s : List ℕ) (a : ℕ) (x : Got FieldRead) (host : Bool) (k : ℕ) (o o' : List ℕ) (end c : ℕ) (kind : Kind) (place len long : ℕ) : Type 0 where
+-- a line that was read in the part s at the place a, as the code answers it
+pub record NextLine (s : List ℕ) (a : ℕ) (x : Got FieldRead) (host : Bool) (k : ℕ) (o o' : List ℕ) (q : LineRead) : Type 0 where
   pub line : FieldRead
-  pub is : x ≡ got line (cursor (a + end) long) (drop end s)
-  pub within : end ≤ length s
-  pub kind-is : kind ≡ line_kind line
-  pub place_is : place ≡ line.place
-  pub size : length line.value.text ≡ len
-  pub wide : len ≤ end
-  pub value-at : line.value.place ≡ a + (end - len)
-  pub value-is : line.value.text ≡ take len (drop (end - len) s)
-  pub stored : StoredIf (is_end_to_end host (line_kind line)) k (field_numbers line) o o' c
-  pub few : long ≤ a + end
+  pub is : x ≡ got line (cursor (a + q.end) q.long) (drop q.end s)
+  pub within : q.end ≤ length s
+  pub kind-is : q.kind ≡ line_kind line
+  pub place_is : q.place ≡ line.place
+  pub size : length line.value.text ≡ q.len
+  pub wide : q.len ≤ q.end
+  pub value-at : line.value.place ≡ a + (q.end - q.len)
+  pub value-is : line.value.text ≡ take q.len (drop (q.end - q.len) s)
+  pub stored : StoredIf (is_end_to_end host (line_kind line)) k (field_numbers line) o o' q.kept
+  pub few : q.long ≤ a + q.end
 
-module _ {s : List ℕ} {a : ℕ} {x : Got FieldRead} {host : Bool} {k : ℕ} {o o' : List ℕ} {end c : ℕ} {kind : Kind} {place len long : ℕ}
-    (f : NextLine s a x host k o o' end c kind place len long) (n : Notes) where
+module _ {s : List ℕ} {a : ℕ} {x : Got FieldRead} {host : Bool} {k : ℕ} {o o' : List ℕ} {q : LineRead} (f : NextLine s a x host k o o' q) (n : Notes) where
   -- a line that was noted, and one of which nothing is noted
-  pub note-taken : {noted : Notes} {v : ℕ} → v ≡ a + (end - len) → noted ≡ note_of false n kind place v (take (end - (end - len)) (drop (end - len) s))
+  pub note-taken : {noted : Notes} {v : ℕ} → v ≡ a + (q.end - q.len) → noted ≡ note_of false n q.kind q.place v (take (q.end - (q.end - q.len)) (drop (q.end - q.len) s))
       → noted ≡ note_line false n f.line
-  note-taken e q = let z : end - (end - len) ≡ len = omega (arith, f.wide) in
-      q ∙ rw (z, e, ← f.value-at, ← f.value-is, f.kind-is, f.place_is)
+  note-taken e g = let z : q.end - (q.end - q.len) ≡ q.len = omega (arith, f.wide) in
+      g ∙ rw (z, e, ← f.value-at, ← f.value-is, f.kind-is, f.place_is)
 
-  pub note-passed : is_noted kind ≡ false → n ≡ note_line false n f.line
-  note-passed q =
-      sym (noted_nothing false n kind f.line.place f.line.value.place f.line.value.text q)
+  pub note-passed : is_noted q.kind ≡ false → n ≡ note_line false n f.line
+  note-passed g =
+      sym (noted_nothing false n q.kind f.line.place f.line.value.place f.line.value.text g)
       ∙ ap (λ (k : Kind). note_of false n k f.line.place f.line.value.place f.line.value.text) f.kind-is
 
-module _ {s : List ℕ} {a : ℕ} {x : Got FieldRead} {host : Bool} {k : ℕ} {o o' : List ℕ} {r : LineRead} (h : Lined s a x host k o o' r) where
-  pub lined-next : {end c : ℕ} {kind : Kind} {place len long : ℕ} → r ≡ read.Next end c kind place len long → NextLine s a x host k o o' end c kind place len long
-  lined-next {end} {c} {kind} {place} {len} {long} e = go x h.says
+module _ {s : List ℕ} {a : ℕ} {x : Got FieldRead} {host : Bool} {k : ℕ} {o o' : List ℕ} {r : Result LineRead Refused} (h : Lined s a x host k o o' r) where
+  pub lined-next : {q : LineRead} → r ≡ Ok q → NextLine s a x host k o o' q
+  lined-next {q} e = go x h.says
     where
-      go : (y : Got FieldRead) → LineSays s a y host k o o' r → NextLine s a y host k o o' end c kind place len long
-      go (got f i l) q =
-          let z : q.0 ≡ end = cc in
-          let u : q.1 ≡ c = cc in
-          let v : kind ≡ line_kind f = cc in
-          let w : place ≡ f.place = cc in
-          let y : length f.value.text ≡ len = cc in
-          let u8 : i.long ≡ long = cc in
-          record {
+      go : (y : Got FieldRead) → LineSays s a y host k o o' r → NextLine s a y host k o o' q
+      go (got f i l) d =
+          let g = d.2 in
+          let z : next_line f d.0 d.1 i.long ≡ q = cc in
+          subst (λ (q : LineRead). NextLine s a (got f i l) host k o o' q) z
+          (record {
             line = f;
-            is = ap₂ (λ (m : Cursor) (t : List ℕ). got f m t) (ap₂ cursor (q.5 ∙ rw z) u8) (q.7 ∙ rw z);
-            within = rw z at q.6;
-            kind-is = v;
-            place_is = w;
-            size = y;
-            wide = rw (y, z) at q.4.long;
-            value-at = q.4.place ∙ rw (y, z);
-            value-is = q.4.text ∙ rw (y, z);
-            stored = rw u at q.3;
-            few = omega (arith, q.8, u8, z);
-          }
-      go (no y p) q = let d = q.0 in let z : ◌≡◌ {A = ℕ} 0 1 = cc in absurd (omega arith)
+            is = ap₂ (λ (m : ℕ) (t : List ℕ). got f (cursor m i.long) t) d.5 d.7;
+            within = d.6;
+            kind-is = refl;
+            place_is = refl;
+            size = refl;
+            wide = d.4.long;
+            value-at = d.4.place;
+            value-is = d.4.text;
+            stored = d.3;
+            few = d.8;
+          })
+      go (no y p) d = let g = d.0 in let z : ◌≡◌ {A = ℕ} 0 1 = cc in absurd (omega arith)
 
-  pub lined-refused : {y p : ℕ} → r ≡ read.Refused y p → (x ≡ no y p) × (o' ≡ o)
-  lined-refused {y} {p} e = go x h.says
+  pub lined-refused : {e : Refused} → r ≡ Err e → (x ≡ no e.number e.place) × (o' ≡ o)
+  lined-refused {e} q = go x h.says
     where
-      go : (z : Got FieldRead) → LineSays s a z host k o o' r → (z ≡ no y p) × (o' ≡ o)
-      go (got f i l) q = let d = q.2 in let z : ◌≡◌ {A = ℕ} 0 1 = cc in absurd (omega arith)
-      go (no u v) q = let d = q.0 in let y' : u ≡ y = cc in let p' : v ≡ p = cc in (rw (y', p'), q.1)
+      go : (y : Got FieldRead) → LineSays s a y host k o o' r → (y ≡ no e.number e.place) × (o' ≡ o)
+      go (got f i l) d = let g = d.2 in let z : ◌≡◌ {A = ℕ} 0 1 = cc in absurd (omega arith)
+      go (no u v) d = let g = d.0 in let z : refused_at u v ≡ e = cc in (ap (λ (f : Refused). no f.number f.place) z, d.1)
 
 -- ---- the lines of a known-length section
 
@@ -137,11 +132,11 @@ module _ (form : Form) (a : ℕ) (s : List ℕ) (i c f : ℕ) (fs : List FieldRe
 -- ---- the lines of an indeterminate section
 
 module _ (form : Form) (s : List ℕ) (i c f : ℕ) (fs : List FieldRead) where
-  pub open-cut : read_int i (drop i s) ≡ Cut → open_lines form (suc f) fs (cursor i c) (drop i s) ≡ no cut_off i
+  pub open-cut : read_int i (drop i s) ≡ None → open_lines form (suc f) fs (cursor i c) (drop i s) ≡ no cut_off i
   unfolding open_lines ◌>>=◌
   open-cut e = rw (integer-cut-here s (cursor i c) cut_off i e)
 
-  module _ {n next l : ℕ} (e : read_int i (drop i s) ≡ Value n next l) where
+  module _ {n next l : ℕ} (e : read_int i (drop i s) ≡ Some (integer_of n next l)) where
     pub open_done : n ≡ 0 → open_lines form (suc f) fs (cursor i c) (drop i s) ≡ got fs (cursor next (c + l)) (drop next s)
     unfolding open_lines ◌>>=◌
     open_done h = rw (integer-got s (cursor i c) cut_off i e, eq-eqb n 0 h)

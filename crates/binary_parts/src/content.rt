@@ -8,93 +8,76 @@ ghost use Rattle.messages.specs.Room.{chunks_room};
 ghost use Rattle.binary_parts.specs.Content.{Chunked, Contented, Padded};
 
 use crate::parts::part_within;
-use crate::{ChunkRead, ContentRead, Padding, PartRead};
+use crate::{Chunk, ContentRead, PartRead};
 use binary::{Cursor, Form};
 use messages::Framing;
 use messages::sections::does_agree;
 use numbers::{Integer, read_int};
-use octets::{Limits, Refusals};
+use octets::{Limits, Refusal, Refused};
 use ranges::store;
 
 // Whether the octet may follow a message.
 fn is_padding(form: Form, b: u8) -> bool
     ensures { result ≡ cond form.padded (eqb b 0) false }
 {
-    if form.padded {
-        return b == 0;
-    }
-    false
+    form.padded && b == 0
 }
 
 // The padding from `from` on, to the end of the input.
-pub fn check_padding(s: &[u8], from: Cursor, form: Form) -> Padding
+pub fn check_padding(s: &[u8], from: Cursor, form: Form) -> Result<(), Refused>
     requires { from.at ≤ length s.now }
     ensures { Padded s.now (padding form from (drop from.at s.now)) result }
 {
-    let mut i = from.at;
-    while i < s.len() {
-        if is_padding(form, s[i]) {
-            i += 1;
-        } else {
-            return Padding::Bad { place: i };
+    for i in from.at..s.len() {
+        if !is_padding(form, s[i]) {
+            return Err(Refusal::BadPadding.at(i));
         }
     }
-    Padding::Clean
+    Ok(())
 }
 
 // The chunk whose length stands at i, behind `count` chunks of `total` octets and so many long integers.
-fn open_chunk(s: &[u8], i: usize, count: usize, total: usize, long: usize) -> ChunkRead
+fn open_chunk(s: &[u8], i: usize, count: usize, total: usize, long: usize) -> Result<Chunk, Refused>
     requires { (total ≤ content_most) × (count ≤ chunks_most) × (long ≤ i) }
     ensures { Chunked s.now (cursor i long) count total result }
 {
-    let v = read_int(s, i);
-    let Integer::Value {
-        value,
-        next,
-        long: l,
-    } = v
+    let Some(
+        Integer {
+            value,
+            next,
+            long: l,
+        },
+    ) = read_int(s, i)
     else {
-        return ChunkRead::Refused {
-            number: Refusals::CUT_OFF,
-            place: i,
-        };
+        return Err(Refusal::CutOff.at(i));
     };
     let sum = long + l;
     if value == 0 {
-        return ChunkRead::Last {
+        return Ok(Chunk::Last {
             end: Cursor {
                 at: next,
                 long: sum,
             },
-        };
+        });
     }
-    if Limits::fits(count + 1, Limits::CHUNKS) {
-        if Limits::fits(total + value, Limits::CONTENT) {
-            if s.len() - next < value {
-                return ChunkRead::Refused {
-                    number: Refusals::CUT_OFF,
-                    place: i,
-                };
-            }
-            return ChunkRead::Next {
-                start: next,
-                len: value,
-                long: sum,
-            };
-        }
-        return ChunkRead::Refused {
-            number: Refusals::TOO_LARGE,
-            place: i,
-        };
+    if !Limits::fits(count + 1, Limits::CHUNKS) {
+        return Err(Refusal::TooLarge.at(i));
     }
-    ChunkRead::Refused {
-        number: Refusals::TOO_LARGE,
-        place: i,
+    if !Limits::fits(total + value, Limits::CONTENT) {
+        return Err(Refusal::TooLarge.at(i));
     }
+    if s.len() - next < value {
+        return Err(Refusal::CutOff.at(i));
+    }
+    Ok(Chunk::Next {
+        start: next,
+        len: value,
+        long: sum,
+    })
 }
 
 // Chunks from `from` on, up to a length of zero.
-fn open_content(s: &[u8], from: Cursor, out: &mut [u32]) -> ContentRead
+fn open_content(s: &[u8], from: Cursor, out: &mut [u32]) -> Result<ContentRead, Refused>
     requires { (from.at ≤ length s.now) × (length s.now < places_end) × (chunks_room ≤ length out.old) × (from.long ≤ from.at) }
     ensures { Contented s.now (open_content from (drop from.at s.now)) out.old out.new result }
 {
@@ -103,16 +86,14 @@ fn open_content(s: &[u8], from: Cursor, out: &mut [u32]) -> ContentRead
     let mut total: usize = 0;
     let mut longs = from.long;
     loop {
-        let c = open_chunk(s, i, count, total, longs);
-        match c {
-            ChunkRead::Refused { number, place } => return ContentRead::Refused { number, place },
-            ChunkRead::Last { end } => return ContentRead::Done {
+        match open_chunk(s, i, count, total, longs)? {
+            Chunk::Last { end } => return Ok(ContentRead {
                 end,
                 chunks: count,
                 total,
-            },
-            ChunkRead::Next { start, len, long } => {
-                store(out, count, start as u32, len as u32);
+            }),
+            Chunk::Next { start, len, long } => {
+                store(out, count, [start as u32, len as u32]);
                 count += 1;
                 total += len;
                 longs = long;
@@ -123,51 +104,46 @@ fn open_content(s: &[u8], from: Cursor, out: &mut [u32]) -> ContentRead
 }
 
 // Content of known length at `from`: one chunk, or none.
-fn known_content(s: &[u8], from: Cursor, out: &mut [u32]) -> ContentRead
+fn known_content(s: &[u8], from: Cursor, out: &mut [u32]) -> Result<ContentRead, Refused>
     requires { (length s.now < places_end) × (chunks_room ≤ length out.old) × (from.long ≤ from.at) }
     ensures { Contented s.now (known_content from (drop from.at s.now)) out.old out.new result }
 {
-    let w = part_within(s, from, Limits::CONTENT);
-    match w {
-        PartRead::Refused { number, place } => return ContentRead::Refused { number, place },
-        PartRead::Is { start, len, long } => {
-            let end = Cursor {
-                at: start + len,
-                long,
-            };
-            if len == 0 {
-                return ContentRead::Done {
-                    end,
-                    chunks: 0,
-                    total: 0,
-                };
-            }
-            store(out, 0, start as u32, len as u32);
-            return ContentRead::Done {
-                end,
-                chunks: 1,
-                total: len,
-            };
-        }
+    let PartRead { part, end } = part_within(s, from, Limits::CONTENT)?;
+    if part.len == 0 {
+        return Ok(ContentRead {
+            end,
+            chunks: 0,
+            total: 0,
+        });
     }
+    store(out, 0, [part.start as u32, part.len as u32]);
+    Ok(ContentRead {
+        end,
+        chunks: 1,
+        total: part.len,
+    })
 }
 
 // The content from `from` on, of known length or in chunks; where the message ends before it there is none.
-pub fn read_content(s: &[u8], from: Cursor, known: bool, out: &mut [u32]) -> ContentRead
+pub fn read_content(
+    s: &[u8],
+    from: Cursor,
+    known: bool,
+    out: &mut [u32],
+) -> Result<ContentRead, Refused>
     requires { (from.at ≤ length s.now) × (length s.now < places_end) × (chunks_room ≤ length out.old) × (from.long ≤ from.at) }
     ensures { Contented s.now (content known from (drop from.at s.now)) out.old out.new result }
 {
     if s.len() <= from.at {
-        return ContentRead::Done {
+        Ok(ContentRead {
             end: from,
             chunks: 0,
             total: 0,
-        };
-    }
-    if known {
-        return known_content(s, from, out);
+        })
+    } else if known {
+        known_content(s, from, out)
     } else {
-        return open_content(s, from, out);
+        open_content(s, from, out)
     }
 }
 
@@ -175,11 +151,5 @@ pub fn read_content(s: &[u8], from: Cursor, known: bool, out: &mut [u32]) -> Con
 pub fn content_agrees(framing: Framing, body: bool, total: usize) -> bool
     ensures { result ≡ content_agrees framing body total }
 {
-    if does_agree(framing, total) {
-        if body {
-            return true;
-        }
-        return total == 0;
-    }
-    false
+    does_agree(framing, total) && (body || total == 0)
 }

@@ -7,27 +7,13 @@ pub mod lines;
 mod parts;
 
 use binary::Cursor;
-use messages::{Kind, Notes};
+use messages::{Kind, Notes, Span};
 
-// So many octets of the input from a place on.
+// A part that was read: the octets behind its length, and the place behind them.
 #[derive(Clone, Copy)]
-pub struct Span {
-    pub start: usize,
-    pub len: usize,
-}
-
-// A part that was read: where the octets behind its length start, how many they are, and how many integers so far are long.
-#[derive(Clone, Copy)]
-enum PartRead {
-    Is {
-        start: usize,
-        len: usize,
-        long: usize,
-    },
-    Refused {
-        number: u32,
-        place: usize,
-    },
+struct PartRead {
+    part: Span,
+    end: Cursor,
 }
 
 // The parts of control data that have a size and a rule of their octets; the path's goes by whether the method is OPTIONS.
@@ -40,31 +26,25 @@ enum Ruled {
 
 // A scheme that was read, by its number, and the place behind it.
 #[derive(Clone, Copy)]
-enum SchemeRead {
-    Is { scheme: u32, end: Cursor },
-    Refused { number: u32, place: usize },
+struct SchemeRead {
+    scheme: u32,
+    end: Cursor,
 }
 
 // The control data of a request that were read, and the place behind them.
 #[derive(Clone, Copy)]
-pub enum ControlRead {
-    Done {
-        method: Span,
-        scheme: u32,
-        authority: Span,
-        path: Span,
-        end: Cursor,
-    },
-    Refused {
-        number: u32,
-        place: usize,
-    },
+pub struct ControlRead {
+    pub method: Span,
+    pub scheme: u32,
+    pub authority: Span,
+    pub path: Span,
+    pub end: Cursor,
 }
 
 // A chunk that was read: where its octets start, how many they are, and how many integers so far are long; or how far the content goes, the length zero
 // that ends it included.
 #[derive(Clone, Copy)]
-enum ChunkRead {
+enum Chunk {
     Next {
         start: usize,
         len: usize,
@@ -73,61 +53,32 @@ enum ChunkRead {
     Last {
         end: Cursor,
     },
-    Refused {
-        number: u32,
-        place: usize,
-    },
 }
 
 // Content that was read: the place behind it, how many non-empty chunks it has, how many octets they are.
 #[derive(Clone, Copy)]
-pub enum ContentRead {
-    Done {
-        end: Cursor,
-        chunks: usize,
-        total: usize,
-    },
-    Refused {
-        number: u32,
-        place: usize,
-    },
-}
-
-// What follows the message: zero octets only, or another one at a place.
-#[derive(Clone, Copy)]
-pub enum Padding {
-    Clean,
-    Bad { place: usize },
+pub struct ContentRead {
+    pub end: Cursor,
+    pub chunks: usize,
+    pub total: usize,
 }
 
 // A section that was read: the place behind it, how many kept fields stand in the lent ranges now, and what its lines state.
 #[derive(Clone, Copy)]
-pub enum Section {
-    Done {
-        end: Cursor,
-        kept: usize,
-        notes: Notes,
-    },
-    Refused {
-        number: u32,
-        place: usize,
-    },
+pub struct Section {
+    pub end: Cursor,
+    pub kept: usize,
+    pub notes: Notes,
 }
 
 // A field line that was read: the index behind it in the part that was lent, the count of kept fields with it, its kind, its place, and the
 // size of its value, which ends where the line ends; how many integers so far are long.
 #[derive(Clone, Copy)]
-enum LineRead {
-    Next {
-        end: usize,
-        kept: usize,
-        kind: Kind,
-        place: usize,
-        len: usize,
-        long: usize,
-    },
-    Refused {
-        number: u32,
-        place: usize,
-    },
+struct LineRead {
+    end: usize,
+    kept: usize,
+    kind: Kind,
+    place: usize,
+    len: usize,
+    long: usize,
 }

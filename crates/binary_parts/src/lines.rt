@@ -1,8 +1,8 @@
 // Field lines and field sections, of known and of indeterminate length.
 ghost use Rattle.std.specs.Prelude.{◌≡◌, cond, true, false, [], suc, ◌+◌, ◌*◌, ◌≤◌, ◌<◌, length, drop};
-ghost use Rattle.octets.specs.Table.{classes};
 ghost use Rattle.octets.specs.Text.{is_empty};
 ghost use Rattle.octets.specs.Limits.{lines_most};
+ghost use Rattle.octets.specs.Refusals.{refusal_number};
 ghost use Rattle.script.specs.Do.{piece};
 ghost use Rattle.messages.specs.Control.{is_lower_name};
 ghost use Rattle.ranges.specs.Ranges.{places_end};
@@ -16,57 +16,44 @@ use binary::{Cursor, Form};
 use messages::parts::{is_end_to_end, is_lower_name, is_trimmed_value, kind_of};
 use messages::sections::{is_noted, no_notes, note};
 use numbers::{Integer, read_int};
-use octets::{Limits, Refusals};
+use octets::{ClassTable, Limits, Refusal, Refused};
 use ranges::named::drop_named;
 use ranges::{keep, store_connection};
 
-// The number of a line that is cut off.
-fn cut_number(form: Form) -> u32
-    ensures { result ≡ cut_number form }
+// Why a line that is cut off is refused.
+fn cut_number(form: Form) -> Refusal
+    ensures { refusal_number result ≡ cut_number form }
 {
     if form.known {
-        return Refusals::BAD_SECTION;
+        Refusal::BadSection
+    } else {
+        Refusal::CutOff
     }
-    Refusals::CUT_OFF
 }
 
 // The place of a value that is cut off: of the line at p, or of the value's part at q.
 fn cut_place(form: Form, p: usize, q: usize) -> usize
     ensures { result ≡ cut_place form p q }
 {
-    if form.known {
-        return p;
-    }
-    q
+    if form.known { p } else { q }
 }
 
 // Whether the octets may be a value.
-fn is_line_value(t: &[u8; 256], form: Form, value: &[u8]) -> bool
-    requires { t.now ≡ classes }
+fn is_line_value(t: &ClassTable, form: Form, value: &[u8]) -> bool
     ensures { result ≡ is_line_value form value.now }
 {
-    if is_trimmed_value(t, value) {
-        if form.empty {
-            return true;
-        }
-        return value.len() != 0;
-    }
-    false
+    is_trimmed_value(&t.masks, value) && (form.empty || value.len() != 0)
 }
 
-fn is_line(t: &[u8; 256], form: Form, name: &[u8], value: &[u8]) -> bool
-    requires { t.now ≡ classes }
+fn is_line(t: &ClassTable, form: Form, name: &[u8], value: &[u8]) -> bool
     ensures { result ≡ cond (is_lower_name name.now) (is_line_value form value.now) false }
 {
-    if is_lower_name(t, name) {
-        return is_line_value(t, form, value);
-    }
-    false
+    is_lower_name(&t.masks, name) && is_line_value(t, form, value)
 }
 
 // The line at the place p whose halves are in, the name at the place n and the value at the place v: judged and, where it is end-to-end, stored.
 fn store_line(
-    t: &[u8; 256],
+    t: &ClassTable,
     p: usize,
     n: usize,
     name: &[u8],
@@ -78,41 +65,37 @@ fn store_line(
     kept: usize,
     out: &mut [u32],
     long: usize,
-) -> LineRead
-    requires { (t.now ≡ classes) × (n + length name.now < places_end) × (v + length value.now < places_end) × (kept * 4 + 4 ≤ length out.old) }
+) -> Result<LineRead, Refused>
+    requires { (n + length name.now < places_end) × (v + length value.now < places_end) × (kept * 4 + 4 ≤ length out.old) }
     ensures { JudgedLine (judged_line form p (piece n name.now) (piece v value.now)) end host kept long
         out.old out.new result }
 {
-    if is_line(t, form, name, value) {
-        let kind = kind_of(name);
-        let k = keep(
-            out,
-            kept,
-            is_end_to_end(kind, host),
-            n as u32,
-            name.len() as u32,
-            v as u32,
-            value.len() as u32,
-        );
-        return LineRead::Next {
-            end,
-            kept: k,
-            kind,
-            place: p,
-            len: value.len(),
-            long,
-        };
-    } else {
-        return LineRead::Refused {
-            number: Refusals::BAD_SYNTAX,
-            place: p,
-        };
+    if !is_line(t, form, name, value) {
+        return Err(Refusal::BadSyntax.at(p));
     }
+    let kind = kind_of(name);
+    let kept = keep(
+        out,
+        kept,
+        is_end_to_end(kind, host),
+        n as u32,
+        name.len() as u32,
+        v as u32,
+        value.len() as u32,
+    );
+    Ok(LineRead {
+        end,
+        kept,
+        kind,
+        place: p,
+        len: value.len(),
+        long,
+    })
 }
 
 // What stands behind the name length n of the line at the place p: `at` is counted in the part s, whose first octet is at the place a.
 fn after_name_length(
-    t: &[u8; 256],
+    t: &ClassTable,
     s: &[u8],
     a: usize,
     p: usize,
@@ -123,27 +106,29 @@ fn after_name_length(
     kept: usize,
     out: &mut [u32],
     long: usize,
-) -> LineRead
-    requires { (t.now ≡ classes) × (at ≤ length s.now) × (a + length s.now < places_end) × (kept * 4 + 4 ≤ length out.old) × (long ≤ a + at) }
+) -> Result<LineRead, Refused>
+    requires { (at ≤ length s.now) × (a + length s.now < places_end) × (kept * 4 + 4 ≤ length out.old) × (long ≤ a + at) }
     ensures { Lined s.now a (after_name_length form p n (cursor (a + at) long) (drop at s.now)) host kept
         out.old out.new result }
 {
-    let number = cut_number(form);
+    let refusal = cut_number(form);
     if s.len() - at < n {
-        return LineRead::Refused { number, place: p };
+        return Err(refusal.at(p));
     }
     let m = at + n;
     let place = cut_place(form, p, a + m);
-    let Integer::Value {
-        value: len,
-        next,
-        long: l,
-    } = read_int(s, m)
+    let Some(
+        Integer {
+            value: len,
+            next,
+            long: l,
+        },
+    ) = read_int(s, m)
     else {
-        return LineRead::Refused { number, place };
+        return Err(refusal.at(place));
     };
     if s.len() - next < len {
-        return LineRead::Refused { number, place };
+        return Err(refusal.at(place));
     }
     let end = next + len;
     store_line(
@@ -164,7 +149,7 @@ fn after_name_length(
 
 // The line at the index `at` of a known-length section's body s, whose first octet is at the place a.
 fn known_line(
-    t: &[u8; 256],
+    t: &ClassTable,
     s: &[u8],
     a: usize,
     at: usize,
@@ -173,27 +158,23 @@ fn known_line(
     kept: usize,
     out: &mut [u32],
     long: usize,
-) -> LineRead
-    requires { (t.now ≡ classes) × (at ≤ length s.now) × (a + length s.now < places_end) × (kept * 4 + 4 ≤ length out.old) × (long ≤ a + at) }
+) -> Result<LineRead, Refused>
+    requires { (at ≤ length s.now) × (a + length s.now < places_end) × (kept * 4 + 4 ≤ length out.old) × (long ≤ a + at) }
     ensures { Lined s.now a (known_line form (cursor (a + at) long) (drop at s.now)) host kept out.old out.new result }
 {
     let p = a + at;
-    let Integer::Value {
-        value: n,
-        next,
-        long: l,
-    } = read_int(s, at)
+    let Some(
+        Integer {
+            value: n,
+            next,
+            long: l,
+        },
+    ) = read_int(s, at)
     else {
-        return LineRead::Refused {
-            number: Refusals::BAD_SECTION,
-            place: p,
-        };
+        return Err(Refusal::BadSection.at(p));
     };
     if n == 0 {
-        return LineRead::Refused {
-            number: Refusals::BAD_SECTION,
-            place: p,
-        };
+        return Err(Refusal::BadSection.at(p));
     }
     after_name_length(t, s, a, p, next, n, form, host, kept, out, long + l)
 }
@@ -201,7 +182,7 @@ fn known_line(
 // The lines that fill the body s of a known-length section, whose first octet is at the place a: at most 64 of them. Kept fields are stored behind
 // the `base` fields that stand in `out`, and start and length of Connection values at the end of the section's room.
 fn known_lines(
-    t: &[u8; 256],
+    t: &ClassTable,
     s: &[u8],
     a: usize,
     form: Form,
@@ -209,8 +190,8 @@ fn known_lines(
     base: usize,
     out: &mut [u32],
     before: usize,
-) -> Section
-    requires { (t.now ≡ classes) × (a + length s.now < places_end) × (base * 4 + section_room ≤ length out.old) × (before ≤ a) }
+) -> Result<Section, Refused>
+    requires { (a + length s.now < places_end) × (base * 4 + section_room ≤ length out.old) × (before ≤ a) }
     ensures { Bodied (known_lines form (suc lines_most) [] (cursor a before) s.now) (a + length s.now) host base
         out.old out.new result }
 {
@@ -221,85 +202,64 @@ fn known_lines(
     let mut longs = before;
     loop {
         if s.len() <= i {
-            return Section::Done {
+            return Ok(Section {
                 end: Cursor {
                     at: a + s.len(),
                     long: longs,
                 },
                 kept: count,
                 notes,
-            };
+            });
         }
-        if Limits::fits(lines + 1, Limits::LINES) {
-            let line = known_line(t, s, a, i, form, host, count, out, longs);
-            match line {
-                LineRead::Refused { number, place } => return Section::Refused { number, place },
-                LineRead::Next {
-                    end,
-                    kept,
-                    kind,
-                    place,
-                    len,
-                    long,
-                } => {
-                    count = kept;
-                    lines += 1;
-                    longs = long;
-                    i = end;
-                    if is_noted(kind) {
-                        let v = end - len;
-                        store_connection(
-                            out,
-                            base,
-                            notes.connections,
-                            kind,
-                            (a + v) as u32,
-                            len as u32,
-                        );
-                        notes = note(notes, kind, place, a + v, &s[v..end], false);
-                    }
-                }
-            }
-        } else {
-            return Section::Refused {
-                number: Refusals::TOO_LARGE,
-                place: a + i,
-            };
+        if !Limits::fits(lines + 1, Limits::LINES) {
+            return Err(Refusal::TooLarge.at(a + i));
+        }
+        let line = known_line(t, s, a, i, form, host, count, out, longs)?;
+        count = line.kept;
+        lines += 1;
+        longs = line.long;
+        i = line.end;
+        if is_noted(line.kind) {
+            let v = line.end - line.len;
+            store_connection(
+                out,
+                base,
+                notes.connections,
+                line.kind,
+                (a + v) as u32,
+                line.len as u32,
+            );
+            notes = note(notes, line.kind, line.place, a + v, &s[v..line.end], false);
         }
     }
 }
 
 // A known-length section: its length, then its body, which is handed on by itself.
 fn known_section(
-    t: &[u8; 256],
+    t: &ClassTable,
     s: &[u8],
     from: Cursor,
     form: Form,
     host: bool,
     base: usize,
     out: &mut [u32],
-) -> Section
-    requires { (t.now ≡ classes) × (from.at ≤ length s.now) × (length s.now < places_end) × (base * 4 + section_room ≤ length out.old)
-        × (form.known ≡ true) × (from.long ≤ from.at) }
+) -> Result<Section, Refused>
+    requires { (from.at ≤ length s.now) × (length s.now < places_end) × (base * 4 + section_room ≤ length out.old) × (form.known ≡ true) × (from.long ≤ from.at) }
     ensures { SectionGathered s.now (section form from (drop from.at s.now)) host base out.old out.new result }
 {
     let at = from.at;
-    let Integer::Value {
-        value: n,
-        next,
-        long,
-    } = read_int(s, at)
+    let Some(
+        Integer {
+            value: n,
+            next,
+            long,
+        },
+    ) = read_int(s, at)
     else {
-        return Section::Refused {
-            number: Refusals::CUT_OFF,
-            place: at,
-        };
+        return Err(Refusal::CutOff.at(at));
     };
     if s.len() - next < n {
-        return Section::Refused {
-            number: Refusals::CUT_OFF,
-            place: at,
-        };
+        return Err(Refusal::CutOff.at(at));
     }
     known_lines(
         t,
@@ -315,16 +275,15 @@ fn known_section(
 
 // An indeterminate section: at most 64 lines, up to a name length of zero.
 fn open_section(
-    t: &[u8; 256],
+    t: &ClassTable,
     s: &[u8],
     from: Cursor,
     form: Form,
     host: bool,
     base: usize,
     out: &mut [u32],
-) -> Section
-    requires { (t.now ≡ classes) × (from.at ≤ length s.now) × (length s.now < places_end) × (base * 4 + section_room ≤ length out.old)
-        × (form.known ≡ false) × (from.long ≤ from.at) }
+) -> Result<Section, Refused>
+    requires { (from.at ≤ length s.now) × (length s.now < places_end) × (base * 4 + section_room ≤ length out.old) × (form.known ≡ false) × (from.long ≤ from.at) }
     ensures { SectionGathered s.now (section form from (drop from.at s.now)) host base out.old out.new result }
 {
     let mut i = from.at;
@@ -333,85 +292,74 @@ fn open_section(
     let mut notes = no_notes();
     let mut longs = from.long;
     loop {
-        let Integer::Value {
-            value: n,
-            next,
-            long: l,
-        } = read_int(s, i)
+        let Some(
+            Integer {
+                value: n,
+                next,
+                long: l,
+            },
+        ) = read_int(s, i)
         else {
-            return Section::Refused {
-                number: Refusals::CUT_OFF,
-                place: i,
-            };
+            return Err(Refusal::CutOff.at(i));
         };
         let sum = longs + l;
         if n == 0 {
-            return Section::Done {
+            return Ok(Section {
                 end: Cursor {
                     at: next,
                     long: sum,
                 },
                 kept: count,
                 notes,
-            };
+            });
         }
-        if Limits::fits(lines + 1, Limits::LINES) {
-            let line = after_name_length(t, s, 0, i, next, n, form, host, count, out, sum);
-            match line {
-                LineRead::Refused { number, place } => return Section::Refused { number, place },
-                LineRead::Next {
-                    end,
-                    kept,
-                    kind,
-                    place,
-                    len,
-                    long,
-                } => {
-                    count = kept;
-                    lines += 1;
-                    longs = long;
-                    i = end;
-                    if is_noted(kind) {
-                        let v = end - len;
-                        store_connection(out, base, notes.connections, kind, v as u32, len as u32);
-                        notes = note(notes, kind, place, v, &s[v..end], false);
-                    }
-                }
-            }
-        } else {
-            return Section::Refused {
-                number: Refusals::TOO_LARGE,
-                place: i,
-            };
+        if !Limits::fits(lines + 1, Limits::LINES) {
+            return Err(Refusal::TooLarge.at(i));
+        }
+        let line = after_name_length(t, s, 0, i, next, n, form, host, count, out, sum)?;
+        count = line.kept;
+        lines += 1;
+        longs = line.long;
+        i = line.end;
+        if is_noted(line.kind) {
+            let v = line.end - line.len;
+            store_connection(
+                out,
+                base,
+                notes.connections,
+                line.kind,
+                v as u32,
+                line.len as u32,
+            );
+            notes = note(notes, line.kind, line.place, v, &s[v..line.end], false);
         }
     }
 }
 
 // The field section from `from` on, of known or of indeterminate length, with the fields that its Connection lines may name.
 fn gather_section(
-    t: &[u8; 256],
+    t: &ClassTable,
     s: &[u8],
     from: Cursor,
     form: Form,
     host: bool,
     base: usize,
     out: &mut [u32],
-) -> Section
-    requires { (t.now ≡ classes) × (from.at ≤ length s.now) × (length s.now < places_end) × (base * 4 + section_room ≤ length out.old)
-        × (from.long ≤ from.at) }
+) -> Result<Section, Refused>
+    requires { (from.at ≤ length s.now) × (length s.now < places_end) × (base * 4 + section_room ≤ length out.old) × (from.long ≤ from.at) }
     ensures { SectionGathered s.now (section form from (drop from.at s.now)) host base out.old out.new result }
 {
     if form.known {
-        return known_section(t, s, from, form, host, base, out);
+        known_section(t, s, from, form, host, base, out)
     } else {
-        return open_section(t, s, from, form, host, base, out);
+        open_section(t, s, from, form, host, base, out)
     }
 }
 
 // The field section from `from` on. Kept fields are stored behind the `base` fields that stand in `out`; `headers` says whether it is a header section, of which
 // the fields that its Connection lines name are not kept.
 pub fn read_section(
-    t: &[u8; 256],
+    t: &ClassTable,
     s: &[u8],
     from: Cursor,
     form: Form,
@@ -419,56 +367,46 @@ pub fn read_section(
     host: bool,
     base: usize,
     out: &mut [u32],
-) -> Section
-    requires { (t.now ≡ classes) × (from.at ≤ length s.now) × (length s.now < places_end) × (base * 4 + section_room ≤ length out.old)
-        × (from.long ≤ from.at) }
+) -> Result<Section, Refused>
+    requires { (from.at ≤ length s.now) × (length s.now < places_end) × (base * 4 + section_room ≤ length out.old) × (from.long ≤ from.at) }
     ensures { Sectioned s.now (section form from (drop from.at s.now)) headers host base out.old out.new result }
 {
-    let g = gather_section(t, s, from, form, host, base, out);
-    match g {
-        Section::Refused { number, place } => return Section::Refused { number, place },
-        Section::Done { end, kept, notes } => {
-            let k = drop_named(s, out, headers, base, kept, notes.connections);
-            return Section::Done {
-                end,
-                kept: k,
-                notes,
-            };
-        }
-    }
+    let Section { end, kept, notes } = gather_section(t, s, from, form, host, base, out)?;
+    let left = drop_named(s, out, headers, base, kept, notes.connections);
+    Ok(Section {
+        end,
+        kept: left,
+        notes,
+    })
 }
 
 // Whether the message ends at `from`, before a header section that it may go without.
 fn is_headless(s: &[u8], from: usize, form: Form) -> bool
     ensures { result ≡ cond (is_empty (drop from s.now)) form.headless false }
 {
-    if s.len() <= from {
-        return form.headless;
-    }
-    false
+    s.len() <= from && form.headless
 }
 
 // The header section from `from` on, or none where the message ends there and may.
 pub fn header_section(
-    t: &[u8; 256],
+    t: &ClassTable,
     s: &[u8],
     from: Cursor,
     form: Form,
     host: bool,
     base: usize,
     out: &mut [u32],
-) -> Section
-    requires { (t.now ≡ classes) × (from.at ≤ length s.now) × (length s.now < places_end) × (base * 4 + section_room ≤ length out.old)
-        × (from.long ≤ from.at) }
+) -> Result<Section, Refused>
+    requires { (from.at ≤ length s.now) × (length s.now < places_end) × (base * 4 + section_room ≤ length out.old) × (from.long ≤ from.at) }
     ensures { Sectioned s.now (header_section form from (drop from.at s.now)) true host base out.old out.new result }
 {
     if is_headless(s, from.at, form) {
-        return Section::Done {
+        Ok(Section {
             end: from,
             kept: base,
             notes: no_notes(),
-        };
+        })
     } else {
-        return read_section(t, s, from, form, true, host, base, out);
+        read_section(t, s, from, form, true, host, base, out)
     }
 }

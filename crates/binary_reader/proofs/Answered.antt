@@ -7,8 +7,11 @@ use Rattle.output.specs.Splice.{splice}
 use Rattle.messages.specs.Message.{FieldRead, InformationalRead, Message}
 use Rattle.messages.specs.Names.{kept}
 use Rattle.messages.specs.Answers.{fields_numbers, informational_numbers, informational_lines}
-use Rattle.messages.specs.declared.Outcome.{Outcome}
-use Rattle.messages.specs.declared.Outcome.TheVariants as outcome
+use Rattle.messages.specs.Answers.{Outcome}
+use Rattle.std.proofs.Common.{Err}
+use Rattle.messages.specs.declared.Stop.{Stop}
+use Rattle.octets.specs.declared.Refused.{Refused}
+use Rattle.script.specs.Script.{Answer}
 use Rattle.binary.specs.Reader.{Got, got, no}
 use Rattle.binary.specs.Read.{message_answer}
 use Rattle.ranges.specs.Ranges.{Stores, Responded}
@@ -19,16 +22,21 @@ module _ {response : Bool} {is : List InformationalRead} {lines : List FieldRead
   pub message-as : {x y : Got Message} {r : Outcome} → x ≡ y → MessageIs response is lines y cs cs' ts ts' r → MessageIs response is lines x cs cs' ts ts' r
   message-as {r = r} e h = subst (λ (z : Got Message). MessageIs response is lines z cs cs' ts ts' r) (sym e) h
 
-  pub message-no : {x : Got Message} {n p : ℕ} → x ≡ no n p → MessageIs response is lines x cs cs' ts ts' (outcome.Refusal n p)
-  message-no {n = n} {p = p} e = message-as {y = no n p} e (record { says = refl })
+  pub message-no : {x : Got Message} {e : Refused} → x ≡ no e.number e.place → MessageIs response is lines x cs cs' ts ts' (Err (Stop.Refused e))
+  message-no {e = e} h = message-as {y = no e.number e.place} h (record { says = refl })
 
 module _ {hs hs' ns ns' cs cs' ts ts' : List ℕ} where
   pub answered-as : {x y : Got Message} {r : Outcome} → x ≡ y → Responded (message_answer y) hs hs' ns ns' cs cs' ts ts' r
       → Responded (message_answer x) hs hs' ns ns' cs cs' ts ts' r
   answered-as {r = r} e h = subst (λ (z : Got Message). Responded (message_answer z) hs hs' ns ns' cs cs' ts ts' r) (sym e) h
 
-  pub answered-no : {x : Got Message} {n p : ℕ} → x ≡ no n p → Responded (message_answer x) hs hs' ns ns' cs cs' ts ts' (outcome.Refusal n p)
-  answered-no {n = n} {p = p} e = answered-as {y = no n p} e (record { says = refl; informational = tt })
+  pub answered-no : {x : Got Message} {e : Refused} → x ≡ no e.number e.place → Responded (message_answer x) hs hs' ns ns' cs cs' ts ts' (Err (Stop.Refused e))
+  answered-no {e = e} h = answered-as {y = no e.number e.place} h (record { says = refl; informational = tt })
+
+  -- a refusal that equals another promises the same
+  pub refused-as : {x : Answer Message} {e f : Refused} → e ≡ f → Responded x hs hs' ns ns' cs cs' ts ts' (Err (Stop.Refused f))
+      → Responded x hs hs' ns ns' cs cs' ts ts' (Err (Stop.Refused e))
+  refused-as {x = x} q h = subst (λ (z : Refused). Responded x hs hs' ns ns' cs cs' ts ts' (Err (Stop.Refused z))) (sym q) h
 
   -- with the ranges of the heads that stand already
   pub with-headers : {response : Bool} {is : List InformationalRead} {lines : List FieldRead} {r : Outcome} (x : Got Message)

@@ -5,8 +5,10 @@ use mathlib.Core.List.{List, [], ◌∷◌, ◌++◌}
 use mathlib.Core.Bool.{true}
 use native.Mathlib.Omega.{arith}
 use lib.ListN.{length, drop, length-append}
+use Rattle.std.proofs.Common.{Ok, Err}
 use Rattle.ranges.specs.Ranges.{Stores, SoManyHeads}
 use Rattle.octets.specs.Limits.{lines_most, informational_most}
+use Rattle.octets.specs.declared.Refused.{Refused}
 use Rattle.output.specs.Splice.{splice}
 use Rattle.messages.specs.Message.{InformationalRead, Section, Message}
 use Rattle.messages.specs.Names.{kept}
@@ -21,9 +23,8 @@ use Rattle.binary.specs.Reader.{Got, cursor}
 use Rattle.binary.specs.declared.Form.{Form}
 use Rattle.binary.specs.Read.{informational_read, heads, response_message}
 use Rattle.binary_reader.specs.Heads.{HeadStored, HeadSays, Headed, HeadsTaken}
-use Rattle.binary_reader.specs.declared.HeadRead.{HeadRead}
-use Rattle.binary_reader.specs.declared.HeadRead.TheVariants as head
-use Rattle.binary_reader.specs.declared.HeadsRead.TheVariants as heads-read
+use Rattle.binary_reader.specs.declared.Head.{Head}
+use Rattle.binary_reader.specs.declared.Head.TheVariants as head
 use Rattle.binary_reader.proofs.HeadLaws.{says-as}
 
 -- what was read of s up to the place i, where the reader of the whole answers x, whatever is told: informational heads whose fields are stored in hs and whose numbers
@@ -55,18 +56,21 @@ heads-start form s hs ns from few =
       long = few;
     }
 
-module _ {x : Told → Got Message} {form : Form} {s hs₀ hs hs' ns₀ ns : List ℕ} {i count base longs : ℕ} (to : HeadsTo x form s hs₀ hs ns₀ ns i count base longs) {r : HeadRead}
-    (w : Headed (SoManyHeads count) (λ f is t. heads t form (suc f) is (cursor i longs) (drop i s)) form s base hs hs' r) where
-  says : {q : HeadRead} → r ≡ q → HeadSays x form (informational_most - count) to.read s base hs hs' q
-  says {q} e =
-      says-as form (informational_most - count) to.read s base hs hs' q to.turn
-      (subst
-      (λ (z : HeadRead).
-      HeadSays (λ t. heads t form (suc (informational_most - count)) to.read (cursor i longs) (drop i s)) form (informational_most - count) to.read s base hs hs' z)
-      e (w.by (informational_most - count) to.read to.counted))
+module _ {x : Told → Got Message} {form : Form} {s hs₀ hs hs' ns₀ ns : List ℕ} {i count base longs : ℕ} (to : HeadsTo x form s hs₀ hs ns₀ ns i count base longs) where
+  pub heads-refused : {e : Refused} → Headed (SoManyHeads count) (λ f is t. heads t form (suc f) is (cursor i longs) (drop i s)) form s base hs hs' (Err e) → (ns' : List ℕ)
+      → HeadsTaken x form s hs₀ hs' ns₀ ns' (Err e)
+  heads-refused {e} w ns' =
+      record { says = says-as form (informational_most - count) to.read s base hs hs' (Err e) to.turn (w.by (informational_most - count) to.read to.counted) }
 
-  pub heads-refused : (ns' : List ℕ) {k p : ℕ} → r ≡ head.Refused k p → HeadsTaken x form s hs₀ hs' ns₀ ns' (heads-read.Refused k p)
-  heads-refused ns' e = record { says = says e }
+module _ {x : Told → Got Message} {form : Form} {s hs₀ hs hs' ns₀ ns : List ℕ} {i count base longs : ℕ} (to : HeadsTo x form s hs₀ hs ns₀ ns i count base longs) {r : Head}
+    (w : Headed (SoManyHeads count) (λ f is t. heads t form (suc f) is (cursor i longs) (drop i s)) form s base hs hs' (Ok r)) where
+  says : {q : Head} → r ≡ q → HeadSays x form (informational_most - count) to.read s base hs hs' (Ok q)
+  says {q} e =
+      says-as form (informational_most - count) to.read s base hs hs' (Ok q) to.turn
+      (subst
+      (λ (z : Head).
+      HeadSays (λ t. heads t form (suc (informational_most - count)) to.read (cursor i longs) (drop i s)) form (informational_most - count) to.read s base hs hs' (Ok z))
+      e (w.by (informational_most - count) to.read to.counted))
 
   -- the fields of one head more
   stored_more : {e : Cursor} {k : ℕ} {h : Section} → HeadStored s base hs hs' e k h → Stores hs₀ 0 (fields_numbers (informational_lines to.read ++ kept true h.lines)) hs'
@@ -77,7 +81,7 @@ module _ {x : Told → Got Message} {form : Form} {s hs₀ hs hs' ns₀ ns : Lis
       pub final-some : base ≤ k
       final-some = omega (arith, (says q).1.count)
 
-      pub heads-final : HeadsTaken x form s hs₀ hs' ns₀ ns (heads-read.Done n e count (k - base) notes)
+      pub heads-final : HeadsTaken x form s hs₀ hs' ns₀ ns (Ok (record { status = n; end = e; count = count; kept = k - base; notes = notes }))
       heads-final =
           let d = says q in
           record {

@@ -1,6 +1,5 @@
 // Whole messages, the framing indicator first.
 ghost use Rattle.std.specs.Prelude.{◌≡◌, ◌≤◌, ◌<◌, length, drop};
-ghost use Rattle.octets.specs.Table.{classes};
 ghost use Rattle.messages.specs.Answers.{reading_of};
 ghost use Rattle.binary.specs.Read.{form_of, after_indicator, message_answer, read_sized, read_binary};
 ghost use Rattle.ranges.specs.Ranges.{places_end, Responded};
@@ -10,9 +9,9 @@ use crate::request::request_in;
 use crate::response::response_in;
 use binary::{Cursor, Form};
 use messages::call::is_edition;
-use messages::{Outcome, Reading, Told};
+use messages::{Outcome, Reading, Stop, Told};
 use numbers::{Integer, read_int};
-use octets::{Limits, Refusals, class_table};
+use octets::{ClassTable, Limits, Refusal};
 use ranges::reading;
 
 // What an edition allows, of messages of known or of indeterminate length.
@@ -20,24 +19,25 @@ fn form_of(edition: u32, known: bool) -> Form
     ensures { result ≡ form_of edition known }
 {
     if edition == 0 {
-        return Form {
+        Form {
             known,
             empty: true,
             padded: true,
             headless: false,
-        };
-    }
-    Form {
-        known,
-        empty: false,
-        padded: false,
-        headless: true,
+        }
+    } else {
+        Form {
+            known,
+            empty: false,
+            padded: false,
+            headless: true,
+        }
     }
 }
 
-// What stands behind the framing indicator, which ends at `from`.
+// What stands behind the framing indicator, which ends at `from`: 0 a request and 1 a response, of known length; 2 and 3 the same of indeterminate length.
 fn after_indicator(
-    t: &[u8; 256],
+    t: &ClassTable,
     s: &[u8],
     told: Told,
     indicator: usize,
@@ -47,20 +47,21 @@ fn after_indicator(
     chunks: &mut [u32],
     trailers: &mut [u32],
 ) -> Outcome
-    requires { (t.now ≡ classes) × (length s.now < places_end)
+    requires { (length s.now < places_end)
         × (heads_room ≤ length headers.old) × (informational_room ≤ length informational.old)
         × (chunks_room ≤ length chunks.old) × (section_room ≤ length trailers.old) × (from.long ≤ from.at) }
     ensures { Responded (message_answer (after_indicator told indicator from (drop from.at s.now)))
         headers.old headers.new informational.old informational.new
         chunks.old chunks.new trailers.old trailers.new result }
 {
-    if indicator == 0 {
-        let form = form_of(told.edition, true);
-        return request_in(t, s, from, form, headers, chunks, trailers);
+    if indicator > 3 {
+        return Err(Stop::Refused(Refusal::BadIndicator.at(0)));
     }
-    if indicator == 1 {
-        let form = form_of(told.edition, true);
-        return response_in(
+    let form = form_of(told.edition, indicator < 2);
+    if indicator % 2 == 0 {
+        request_in(t, s, from, form, headers, chunks, trailers)
+    } else {
+        response_in(
             t,
             s,
             told,
@@ -70,35 +71,13 @@ fn after_indicator(
             informational,
             chunks,
             trailers,
-        );
-    }
-    if indicator == 2 {
-        let form = form_of(told.edition, false);
-        return request_in(t, s, from, form, headers, chunks, trailers);
-    }
-    if indicator == 3 {
-        let form = form_of(told.edition, false);
-        return response_in(
-            t,
-            s,
-            told,
-            from,
-            form,
-            headers,
-            informational,
-            chunks,
-            trailers,
-        );
-    }
-    Outcome::Refusal {
-        number: Refusals::BAD_INDICATOR,
-        place: 0,
+        )
     }
 }
 
 // The message that s is in an edition: its outcome, and the ranges of an accepted one in the lent space.
 fn sized_in(
-    t: &[u8; 256],
+    t: &ClassTable,
     s: &[u8],
     told: Told,
     headers: &mut [u32],
@@ -106,42 +85,34 @@ fn sized_in(
     chunks: &mut [u32],
     trailers: &mut [u32],
 ) -> Outcome
-    requires { (t.now ≡ classes)
-        × (heads_room ≤ length headers.old) × (informational_room ≤ length informational.old)
+    requires { (heads_room ≤ length headers.old) × (informational_room ≤ length informational.old)
         × (chunks_room ≤ length chunks.old) × (section_room ≤ length trailers.old) }
     ensures { Responded (read_sized told s.now)
         headers.old headers.new informational.old informational.new
         chunks.old chunks.new trailers.old trailers.new result }
 {
-    if Limits::fits(s.len(), Limits::BINARY) {
-        let v = read_int(s, 0);
-        let Integer::Value { value, next, long } = v else {
-            return Outcome::Refusal {
-                number: Refusals::CUT_OFF,
-                place: 0,
-            };
-        };
-        return after_indicator(
-            t,
-            s,
-            told,
-            value,
-            Cursor { at: next, long },
-            headers,
-            informational,
-            chunks,
-            trailers,
-        );
+    if !Limits::fits(s.len(), Limits::BINARY) {
+        return Err(Stop::Refused(Refusal::TooLarge.at(0)));
     }
-    Outcome::Refusal {
-        number: Refusals::TOO_LARGE,
-        place: 0,
-    }
+    let Some(Integer { value, next, long }) = read_int(s, 0) else {
+        return Err(Stop::Refused(Refusal::CutOff.at(0)));
+    };
+    after_indicator(
+        t,
+        s,
+        told,
+        value,
+        Cursor { at: next, long },
+        headers,
+        informational,
+        chunks,
+        trailers,
+    )
 }
 
 // The message that s is, as told: its outcome, and the ranges of an accepted one in the lent space.
 pub fn binary_in(
-    t: &[u8; 256],
+    t: &ClassTable,
     s: &[u8],
     told: Told,
     headers: &mut [u32],
@@ -149,19 +120,16 @@ pub fn binary_in(
     chunks: &mut [u32],
     trailers: &mut [u32],
 ) -> Outcome
-    requires { (t.now ≡ classes)
-        × (heads_room ≤ length headers.old) × (informational_room ≤ length informational.old)
+    requires { (heads_room ≤ length headers.old) × (informational_room ≤ length informational.old)
         × (chunks_room ≤ length chunks.old) × (section_room ≤ length trailers.old) }
     ensures { Responded (read_binary told s.now)
         headers.old headers.new informational.old informational.new
         chunks.old chunks.new trailers.old trailers.new result }
 {
     if is_edition(told.edition) {
-        return sized_in(t, s, told, headers, informational, chunks, trailers);
-    }
-    Outcome::Refusal {
-        number: Refusals::BAD_EDITION,
-        place: 0,
+        sized_in(t, s, told, headers, informational, chunks, trailers)
+    } else {
+        Err(Stop::Refused(Refusal::BadEdition.at(0)))
     }
 }
 
@@ -169,7 +137,7 @@ pub fn binary_in(
 pub fn read_binary(input: &[u8], told: Told) -> Reading
     ensures { result ≡ reading_of (read_binary told input.now) }
 {
-    let t = class_table();
+    let t = ClassTable::new();
     let mut informational = [0u32; 8];
     let mut headers = [0u32; 1280];
     let mut chunks = [0u32; 512];

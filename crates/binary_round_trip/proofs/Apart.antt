@@ -7,22 +7,19 @@ use native.Mathlib.Omega.{arith}
 use borrow.Author.Tests.{leb-true}
 use lib.Dec.{lit<}
 use lib.ListN.{length}
+use Rattle.std.proofs.Common.{Option, Some, None}
 use Rattle.octets.specs.Limits.{lines_most, binary_most, stated_most}
 use Rattle.octets.specs.Refusals.{cut_off}
 use Rattle.octets.specs.Text.{same_text}
 use Rattle.numbers.specs.Digits.{num_of, most}
 use Rattle.numbers.specs.Integer.{integer_end, int_bytes}
-use Rattle.numbers.specs.declared.Number.{Number}
-use Rattle.numbers.specs.declared.Number.TheVariants.{Is, Not}
 use Rattle.numbers.proofs.DigitLaws.{decimal-round}
 use Rattle.script.specs.Do.{Piece}
-use Rattle.messages.specs.Control.{status_verdict, is_informational}
+use Rattle.messages.specs.Control.{status_verdict, is_informational, passed}
 use Rattle.messages.specs.Message.{Section}
 use Rattle.messages.specs.Names.{kind_of}
 use Rattle.messages.specs.Meaning.{Field, Informational, Control, request, response, Meaning, length_field, stated_fields}
 use Rattle.messages.specs.Valid.{valid_fields, valid_section, valid_heads, valid_control, valid_stated, of_response, valid}
-use Rattle.messages.specs.declared.StatedLength.{StatedLength}
-use Rattle.messages.specs.declared.StatedLength.TheVariants.{Missing, Of}
 use Rattle.messages.proofs.Verdicts.{status-rule}
 use Rattle.messages.proofs.Valid.{section-fields, section-few, first-ok, head_ok, response-ok, meaning-ok}
 use Rattle.messages.proofs.ValidLines.{said}
@@ -55,10 +52,10 @@ same-request e f g h = cc
 same-response : {hs ks : List Informational} {n k : ℕ} → hs ≡ ks → n ≡ k → response hs n ≡ response ks k
 same-response e f = cc
 
-abbrev made : Control → List Field → List ℕ → List Field → StatedLength → Meaning
+abbrev made : Control → List Field → List ℕ → List Field → Option ℕ → Meaning
 made c fs b ts x = record { control = c; headers = fs; content = b; trailers = ts; stated = x }
 
-same-meaning : {c d : Control} {fs gs : List Field} {a b : List ℕ} {ts us : List Field} {x y : StatedLength}
+same-meaning : {c d : Control} {fs gs : List Field} {a b : List ℕ} {ts us : List Field} {x y : Option ℕ}
     → c ≡ d → fs ≡ gs → a ≡ b → ts ≡ us → x ≡ y → made c fs a ts x ≡ made d gs b us y
 same-meaning e f g h k = cc
 
@@ -92,15 +89,15 @@ section-apart fs gs x y f g e =
 -- ---- a header, with a stated length or without
 
 -- a number has one way to be written
-number_of : Number → ℕ
-number_of (Is n) = n
-number_of Not = 0
+number_of : Option ℕ → ℕ
+number_of (Some n) = n
+number_of None = 0
 
 lengths-apart : (n k : ℕ) → n ≤ stated_most → k ≤ stated_most → length_field n ≡ length_field k → n ≡ k
 unfolding length_field number_of
 lengths-apart n k h g e =
     let z : num_of 10 (length_field n).value ≡ num_of 10 (length_field k).value = ap (λ (f : Field). num_of 10 f.value) e in
-    let q : Is (min n most) ≡ Is (min k most) = sym (decimal-round n (omega arith)) ∙ z ∙ decimal-round k (omega arith) in
+    let q : Some (min n most) ≡ Some (min k most) = sym (decimal-round n (omega arith)) ∙ z ∙ decimal-round k (omega arith) in
     let w : min n most ≡ min k most = ap number_of q in
     omega arith
 
@@ -112,18 +109,18 @@ no-length-field host n fs v =
     let z : ◌≡◌ {A = ℕ} 0 1 = cc in
     omega arith
 
-header-apart : (host : Bool) (x y : StatedLength) (l m : Meaning) (fs gs : List Field) → valid_stated x l ≡ true → valid_stated y m ≡ true
+header-apart : (host : Bool) (x y : Option ℕ) (l m : Meaning) (fs gs : List Field) → valid_stated x l ≡ true → valid_stated y m ≡ true
     → valid_fields host fs ≡ true → valid_fields host gs ≡ true → stated_fields x ++ fs ≡ stated_fields y ++ gs → (x ≡ y) × (fs ≡ gs)
-header-apart host Missing Missing l m fs gs s t v w e = (refl, e)
-header-apart host Missing (Of k) l m fs gs s t v w e = absurd (no-length-field host k gs (rw e at v))
-header-apart host (Of n) Missing l m fs gs s t v w e = absurd (no-length-field host n fs (rw (sym e) at w))
-header-apart host (Of n) (Of k) l m fs gs s t v w e =
+header-apart host None None l m fs gs s t v w e = (refl, e)
+header-apart host None (Some k) l m fs gs s t v w e = absurd (no-length-field host k gs (rw e at v))
+header-apart host (Some n) None l m fs gs s t v w e = absurd (no-length-field host n fs (rw (sym e) at w))
+header-apart host (Some n) (Some k) l m fs gs s t v w e =
     let z : length_field n ≡ length_field k = cc in
-    (ap (λ (i : ℕ). Of i) (lengths-apart n k (stated-ok n l s).small (stated-ok k m t).small z), cc)
+    (ap (λ (i : ℕ). Some i) (lengths-apart n k (stated-ok n l s).small (stated-ok k m t).small z), cc)
 
 -- ---- informational heads and the final status
 
-status-small : (n : ℕ) → status_verdict n ≡ 0 → n < integer_end
+status-small : (n : ℕ) → status_verdict n ≡ passed → n < integer_end
 status-small n e = omega (arith, status-rule n e)
 
 fields-sound : (host : Bool) (fs : List Field) → valid_section host fs ≡ true → length (section_bytes fs) ≤ binary_most → SectionOk fs
@@ -133,7 +130,7 @@ fields-sound host fs v h = record { lines = fields-ok host fs (section-fields ho
 early-late : (n k : ℕ) → is_informational n ≡ true → is_informational k ≡ false → n ≡ k → ⊥
 early-late n k e l q = let z : ◌≡◌ {A = ℕ} 0 1 = cc in omega arith
 
-module _ (n k : ℕ) (u : status_verdict n ≡ 0) (v : status_verdict k ≡ 0) (late : is_informational n ≡ false) (after : is_informational k ≡ false)
+module _ (n k : ℕ) (u : status_verdict n ≡ passed) (v : status_verdict k ≡ passed) (late : is_informational n ≡ false) (after : is_informational k ≡ false)
     (x y : List ℕ) where
   heads-apart : (hs ks : List Informational) → valid_heads hs ≡ true → valid_heads ks ≡ true
       → length (informational_bytes hs) ≤ binary_most → length (informational_bytes ks) ≤ binary_most

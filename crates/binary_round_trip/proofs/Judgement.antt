@@ -7,9 +7,9 @@ use native.Mathlib.Omega.{arith}
 use borrow.Author.Tests.{le-ltb}
 use lib.ListN.{length, length-append}
 use lib.Seq.{take-append_seam, drop_at}
+use Rattle.std.proofs.Common.{Some}
 use Rattle.octets.specs.Text.{is_empty}
-use Rattle.numbers.specs.Integer.{read_int, integer_end, int_bytes}
-use Rattle.numbers.specs.declared.Integer.TheVariants.{Value}
+use Rattle.numbers.specs.Integer.{read_int, integer_end, int_bytes, integer_of}
 use Rattle.numbers.proofs.IntegerLaws.{int-round, int-length}
 use Rattle.script.specs.Do.{piece, Judged, good}
 use Rattle.binary.specs.Reader.{got, cursor, Reader, ◌>>=◌, give, here, longs, ended, tell, integer, string}
@@ -40,7 +40,7 @@ reads-tell at rest j x e = reads_none (rw e)
 pub reads-integer : (k p at v : ℕ) (rest : List ℕ) → v < integer_end → Reads (integer k p) at (int_bytes v) rest v
 unfolding integer
 reads-integer k p at v rest h =
-    let e : read_int at (int_bytes v ++ rest) ≡ Value v (at + length (int_bytes v)) 0 = rw (int-length v) (int-round v at rest h) in
+    let e : read_int at (int_bytes v ++ rest) ≡ Some (integer_of v (at + length (int_bytes v)) 0) = rw (int-length v) (int-round v at rest h) in
     let z : length (int_bytes v) ≡ at + length (int_bytes v) - at = omega arith in
     record { go = rw (e, drop_at (int_bytes v) rest _ z) }
 

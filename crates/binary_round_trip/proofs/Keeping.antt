@@ -8,12 +8,11 @@ use native.Mathlib.Omega.{arith}
 use borrow.Author.Tests.{ne_eqb}
 use lib.Dec.{eqb}
 use lib.ListN.{length}
+use Rattle.std.proofs.Common.{Option, Some, None}
 use Rattle.messages.specs.Names.{lines_of, kept, kept_of, are_trailers}
 use Rattle.messages.specs.declared.Kind.TheVariants as kind
 use Rattle.messages.specs.declared.Framing.TheVariants.{Unstated}
 use Rattle.messages.specs.Rules.{binary_framing_of}
-use Rattle.messages.specs.declared.StatedLength.{StatedLength}
-use Rattle.messages.specs.declared.StatedLength.TheVariants.{Missing, Of}
 use Rattle.messages.specs.Meaning.{Field, field_means, Informational, informational_means, Meaning, length_field, stated_fields}
 use Rattle.messages.specs.Valid.{valid_fields, valid_heads, valid_stated, no_fields}
 use Rattle.messages.proofs.Valid.{section-fields, head_ok}
@@ -43,18 +42,18 @@ module _ (host : Bool) (fs : List Field) (at : ℕ) (v : valid_fields host fs �
 
 -- a header that a stated length begins
 module _ (host : Bool) (fs : List Field) (v : valid_fields host fs ≡ true) where
-  pub header-back : (x : StatedLength) (at : ℕ) → map field_means (kept host (lines_at at (stated_fields x ++ fs))) ≡ fs
+  pub header-back : (x : Option ℕ) (at : ℕ) → map field_means (kept host (lines_at at (stated_fields x ++ fs))) ≡ fs
   unfolding lines_at
-  header-back Missing at = fields_back host fs at v true
-  header-back (Of n) at =
+  header-back None at = fields_back host fs at v true
+  header-back (Some n) at =
       let q : ℕ = at + length (field_bytes (length_field n)) in
       rw (length-kept (line_at at (length_field n)) n refl host (lines_at q fs) (lines-valid host fs q v)) (fields_back host fs q v true)
 
-  pub header-framing : (x : StatedLength) (m : Meaning) → valid_stated x m ≡ true → (at : ℕ)
+  pub header-framing : (x : Option ℕ) (m : Meaning) → valid_stated x m ≡ true → (at : ℕ)
       → binary_framing_of (lines_at at (stated_fields x ++ fs)) ≡ framing_for x at
   unfolding lines_at
-  header-framing Missing m s at = unstated host fs at v
-  header-framing (Of n) m s at =
+  header-framing None m s at = unstated host fs at v
+  header-framing (Some n) m s at =
       let q : ℕ = at + length (field_bytes (length_field n)) in
       length-binary (line_at at (length_field n)) n refl host (lines_at q fs) (lines-valid host fs q v) (stated-ok n m s).small
 

@@ -7,6 +7,7 @@ use native.Mathlib.Omega.{arith}
 use borrow.Author.Tests.{lt-leb, ne_eqb}
 use lib.Dec.{leb, eqb, lit<}
 use lib.ListN.{length, length-append}
+use Rattle.std.proofs.Common.{Option, None}
 use Rattle.octets.specs.Text.{is_empty}
 use Rattle.octets.specs.Limits.{lines_most, content_most, binary_most, informational_most}
 use Rattle.octets.specs.Refusals.{cut_off}
@@ -15,13 +16,11 @@ use Rattle.numbers.specs.Integer.{integer_end, int_bytes}
 use Rattle.numbers.proofs.IntegerLaws.{int-length, int-some}
 use Rattle.script.specs.Do.{piece, good}
 use Rattle.messages.specs.Message.{Section, InformationalRead, Start, request_start, response_start, non_empty, stating_message, whole_path}
-use Rattle.messages.specs.Control.{status_verdict, is_informational, ends_at_head}
+use Rattle.messages.specs.Control.{status_verdict, is_informational, ends_at_head, passed}
 use Rattle.messages.specs.Names.{kept_trailers}
 use Rattle.messages.specs.Rules.{authority_from, authority_in, binary_framing_of, may_state, nothing_stated, bodyless_rule, stated_in}
 use Rattle.messages.specs.declared.Body.TheVariants.{Sized}
 use Rattle.messages.specs.declared.Framing.TheVariants.{Unstated}
-use Rattle.messages.specs.declared.StatedLength.{StatedLength}
-use Rattle.messages.specs.declared.StatedLength.TheVariants.{Missing}
 use Rattle.messages.specs.declared.Told.{Told}
 use Rattle.messages.specs.Meaning.{Field, Informational, request, response, Meaning}
 use Rattle.messages.specs.Valid.{valid_control, valid_section, valid_fields, valid_heads, valid_body, valid_stated, no_fields}
@@ -116,11 +115,11 @@ module _ (host body : Bool) (m : Meaning) (ok : TailOk host body m) where
       before _ (reads-ended at _ false (counted-some (fields_bytes (header_of m)) rest (omega arith)))
       (before _ (reads_here at _) (reads_section (header_of m) at rest (stated-lines m.stated m.headers l) ok.lines ok.headers_fit))
 
-  reads-bare : m.stated ≡ Missing → (at : ℕ) (rest : List ℕ)
+  reads-bare : m.stated ≡ None → (at : ℕ) (rest : List ℕ)
       → Reads (header_section (rfc9292 true)) at (section_bytes m.headers) rest (record { lines = section_at at m.headers; end = at + length (section_bytes m.headers) })
   reads-bare e at rest = rw e at (reads-header at rest)
 
-  reads-after : (x : StatedLength) (start : Start) (h : Section) (at : ℕ)
+  reads-after : (x : Option ℕ) (start : Start) (h : Section) (at : ℕ)
       → Reads (after_headers (rfc9292 true) body x start h Unstated) at (counted m.content ++ section_bytes m.trailers) []
       (stating_message x start h.lines (non_empty (counted_at at m.content)) (section_at (at + length (counted m.content)) m.trailers))
   unfolding after_headers after_content
@@ -157,7 +156,7 @@ request_at at m s a p =
     request_start (counted_at at m) s (counted_at (at + length (counted m) + length (counted (scheme_bytes s))) a)
     (whole_path (counted_at (at + length (counted m) + length (counted (scheme_bytes s)) + length (counted a)) p))
 
-pub reads-request-message : (w : Meaning) (m a p : List ℕ) (s at : ℕ) → valid_control (request m s a p) ≡ true → TailOk false true w → w.stated ≡ Missing
+pub reads-request-message : (w : Meaning) (m a p : List ℕ) (s at : ℕ) → valid_control (request m s a p) ≡ true → TailOk false true w → w.stated ≡ None
     → Reads (request_message (rfc9292 true)) at (request_bytes m s a p ++ tail_bytes w) [] (placed_from (request_at at m s a p) (at + length (request_bytes m s a p)) w)
 unfolding request_message after_control after_head placed_from
 reads-request-message w m a p s at v ok e =
@@ -165,7 +164,7 @@ reads-request-message w m a p s at v ok e =
     (reads-bind _ (reads-request m a p s at _ v)
     (reads-bind _ (reads-bare false true w ok e _ _)
     (before _ (reads-tell _ _ _ _ (authority-good _ _ _ a w.headers (request-ok m a p s v).host.some (section-fields false w.headers ok.headers)))
-    (before _ (reads-tell _ _ _ _ (may-state false w.headers _ _ ok.headers)) (reads-after false true w ok Missing _ _ _)))))
+    (before _ (reads-tell _ _ _ _ (may-state false w.headers _ _ ok.headers)) (reads-after false true w ok None _ _ _)))))
 
 -- ---- responses
 
@@ -192,17 +191,17 @@ reads-final t w hs is n at c s true e ok =
 reads-final t w hs is n at c s false e ok =
     rw (s.missing e)
     (reads-bind _ (reads-bare true true w ok (s.missing e) at _)
-    (rw e (before _ (reads-tell _ _ _ _ (may-state true w.headers _ _ ok.headers)) (reads-after true true w ok Missing _ _ _))))
+    (rw e (before _ (reads-tell _ _ _ _ (may-state true w.headers _ _ ok.headers)) (reads-after true true w ok None _ _ _))))
 
 -- a status that keeps its rule
-reads-status : (n at : ℕ) (rest : List ℕ) → status_verdict n ≡ 0 → Reads (integer cut_off at) at (int_bytes n) rest n
+reads-status : (n at : ℕ) (rest : List ℕ) → status_verdict n ≡ passed → Reads (integer cut_off at) at (int_bytes n) rest n
 reads-status n at rest e = reads-integer cut_off at at n rest (omega (arith, status-rule n e))
 
-status-good : (n p : ℕ) → status_verdict n ≡ 0 → rule (status_verdict n) p n ≡ good n
+status-good : (n p : ℕ) → status_verdict n ≡ passed → rule (status_verdict n) p n ≡ good n
 status-good n p e = rw e
 
 pub reads-response : (t : Told) (w : Meaning) (all : List Informational) (n : ℕ) → w.control ≡ response all n → Suited t n w
-    → status_verdict n ≡ 0 → is_informational n ≡ false → TailOk true (not (ends_at_head t n)) w → (hs : List Informational) (f at : ℕ) (is : List InformationalRead) → valid_heads hs ≡ true → length hs < f
+    → status_verdict n ≡ passed → is_informational n ≡ false → TailOk true (not (ends_at_head t n)) w → (hs : List Informational) (f at : ℕ) (is : List InformationalRead) → valid_heads hs ≡ true → length hs < f
     → length is + length hs ≤ informational_most → length (informational_bytes hs) ≤ binary_most
     → Reads (heads t (rfc9292 true) f is) at (informational_bytes hs ++ (int_bytes n ++ tail_bytes w)) []
     (placed_from (response_start (is ++ heads_at at hs) n) (at + length (informational_bytes hs ++ int_bytes n)) w)

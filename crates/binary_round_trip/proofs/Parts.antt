@@ -24,6 +24,7 @@ use Rattle.binary.specs.Read.{part, part_within, ruled_part, scheme_of, scheme_p
 use Rattle.binary_writer.specs.Write.{counted, scheme_bytes}
 use Rattle.binary_round_trip.specs.RoundTrip.{counted_at}
 use Rattle.binary_round_trip.proofs.Judgement.{Reads, reads-give, reads_here, reads-tell, reads-integer, reads-octets, reads-bind, before, behind}
+use Rattle.messages.specs.Control.{Verdict, passed}
 
 pub reads-part : (at : ℕ) (w rest : List ℕ) → length w < integer_end → Reads part at (counted w) rest (counted_at at w)
 unfolding part counted
@@ -36,7 +37,7 @@ reads-within most at w rest h g =
     before _ (reads_here at _)
     (reads-bind _ (reads-integer cut_off at at (length w) (w ++ rest) (omega arith)) (rw (le-leb (length w) most h) (reads-octets cut_off at _ w rest)))
 
-pub reads-ruled : (most : ℕ) (verdict : List ℕ → ℕ) (at : ℕ) (w rest : List ℕ) → length w ≤ most → most < integer_end → verdict w ≡ 0
+pub reads-ruled : (most : ℕ) (verdict : List ℕ → Verdict) (at : ℕ) (w rest : List ℕ) → length w ≤ most → most < integer_end → verdict w ≡ passed
     → Reads (ruled_part most verdict) at (counted w) rest (counted_at at w)
 unfolding ruled_part
 reads-ruled most verdict at w rest h g e =

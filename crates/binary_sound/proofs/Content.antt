@@ -7,6 +7,7 @@ use native.Mathlib.Omega.{arith}
 use borrow.Author.Tests.{ne_eqb, eqb-false, leb-false, ltb-false}
 use lib.Dec.{ltb, leb, eqb}
 use lib.ListN.{length}
+use Rattle.std.proofs.Common.{Option}
 use Rattle.octets.specs.Limits.{chunks_most, content_most}
 use Rattle.octets.specs.Refusals.{bad_padding}
 use Rattle.octets.specs.Text.{is_empty}
@@ -18,7 +19,6 @@ use Rattle.messages.specs.Rules.{agrees}
 use Rattle.messages.specs.Meaning.{field_means, content_of}
 use Rattle.messages.specs.Valid.{no_fields, valid_body}
 use Rattle.messages.specs.declared.Framing.{Framing}
-use Rattle.messages.specs.declared.StatedLength.{StatedLength}
 use Rattle.binary.specs.Reader.{no, cursor}
 use Rattle.binary.specs.declared.Form.{Form}
 use Rattle.binary.specs.declared.Cursor.{Cursor}
@@ -137,7 +137,7 @@ pub record TailAt (s : List ℕ) (body : Bool) (f : Framing) (cs : List Piece) (
   pub trailers : LinesAt s ts
   pub named : GoodTrailers body ts
 
-pub every-after : {s : List ℕ} {e : ℕ} {P : Cursor → Message → Type 0} {at : Cursor} (form : Form) (body : Bool) (stated : StatedLength) (start : Start) (h : Section) (f : Framing)
+pub every-after : {s : List ℕ} {e : ℕ} {P : Cursor → Message → Type 0} {at : Cursor} (form : Form) (body : Bool) (stated : Option ℕ) (start : Start) (h : Section) (f : Framing)
     → ((c : Cursor) → c.at ≡ e → (n : ℕ) → n ≤ e → (cs : List Piece) (ts : List FieldRead) → TailAt s body f cs ts
     → P c (counted_message n stated start h.lines cs ts))
     → Every s e P at (after_headers form body stated start h f)

@@ -4,14 +4,14 @@ use mathlib.Core.Path.{◌≡◌, refl, subst}
 use mathlib.Core.Bool.{Bool, true, false, cond}
 use mathlib.Core.List.{List}
 use native.Mathlib.Omega.{arith}
-use borrow.Author.Tests.{ltb-false, eqb-true, eqb-false}
-use lib.Dec.{ltb, eqb}
+use borrow.Author.Tests.{ltb-false}
+use lib.Dec.{ltb}
 use lib.ListN.{length, take, drop, length-drop}
 use lib.Seq.{length-take-le}
+use Rattle.std.proofs.Common.{Option, Some, None}
 use Rattle.octets.proofs.Kit.{either}
 use Rattle.numbers.specs.Integer.{read_int}
 use Rattle.numbers.specs.declared.Integer.{Integer}
-use Rattle.numbers.specs.declared.Integer.TheVariants.{Value, Cut}
 use Rattle.numbers.proofs.IntegerLaws.{read-within, int-once}
 use Rattle.script.specs.Script.{Lies}
 use Rattle.script.specs.Do.{Piece, piece, Judged, good, wrong}
@@ -19,6 +19,10 @@ use Rattle.script.proofs.Places.{lies-front, lies-rest, lies_in}
 use Rattle.script.proofs.Refusals.{Judges}
 use Rattle.binary.specs.declared.Cursor.{Cursor}
 use Rattle.binary.specs.Reader.{Got, got, no, cursor, Reader, on_got, ◌>>=◌, give, refuse, here, longs, ended, tell, rule, on_integer, integer, string}
+use Rattle.std.proofs.Common.{Ok, Err}
+use Rattle.octets.specs.Refusals.{refusal_number}
+use Rattle.octets.specs.declared.Refusal.{Refusal as Reason}
+use Rattle.messages.specs.Control.{Verdict, passed}
 
 -- where the cursor is in the input s stands l, up to the place e; no more integers are counted than octets stand before it
 pub record Stands (s : List ℕ) (e : ℕ) (c : Cursor) (l : List ℕ) : Type 0 where
@@ -77,10 +81,10 @@ module _ {s : List ℕ} {e : ℕ} {R : ℕ → ℕ → Type 0} where
   stops-tell (good x) f h = stops-give (h x refl)
   stops-tell (wrong n p) f h = stops-refuse f
 
-  pub stops-rule : {X : Type 0} {P : Cursor → X → Type 0} {at : Cursor} (n p : ℕ) (x : X) → ((n ≡ 0 → ⊥) → R n p) → (n ≡ 0 → P at x)
-      → Stops s e R P at (tell (rule n p x))
-  stops-rule {P = P} {at} n p x f h =
-      either (λ j. Stops s e R P at (tell j)) (eqb n 0) (good x) (wrong n p) (λ q. stops-give (h (eqb-true n 0 q))) (λ q. stops-refuse (f (eqb-false n 0 q)))
+  pub stops-rule : {X : Type 0} {P : Cursor → X → Type 0} {at : Cursor} (v : Verdict) (p : ℕ) (x : X) → ((r : Reason) → v ≡ Err r → R (refusal_number r) p) → (v ≡ passed → P at x)
+      → Stops s e R P at (tell (rule v p x))
+  stops-rule (Ok u) p x f h = stops-give (h refl)
+  stops-rule (Err r) p x f h = stops-refuse (f r refl)
 
   pub stops-if : {A : Type 0} {P : Cursor → A → Type 0} {at : Cursor} {x y : Reader A} (t : Bool) → (t ≡ true → Stops s e R P at x) → (t ≡ false → Stops s e R P at y)
       → Stops s e R P at (cond t x y)
@@ -90,13 +94,13 @@ module _ {s : List ℕ} {e : ℕ} {R : ℕ → ℕ → Type 0} where
   unfolding integer
   stops-integer {P} {at} k p f h = record { go = λ l y. on l y (read_int at.at l) refl }
     where
-      on : (l : List ℕ) → Stands s e at l → (x : Integer) → read_int at.at l ≡ x → Ends R (λ n i a. Stands s e n i × P n a) (on_integer k p at l x)
-      on l y (Value v next long) q =
+      on : (l : List ℕ) → Stands s e at l → (x : Option Integer) → read_int at.at l ≡ x → Ends R (λ n i a. Stands s e n i × P n a) (on_integer k p at l x)
+      on l y (Some i) q =
           let w = read-within at.at l q in
           let o = int-once at.at l q in
-          let z : at.at + (next - at.at) ≡ next = omega arith in
-          (subst (λ (n : ℕ). Stands s e (cursor n (at.long + long)) (drop (next - at.at) l)) z (stands-to (next - at.at) (at.long + long) (omega arith) (omega (arith, w, o)) y), h _ v)
-      on l y Cut q = f
+          let z : at.at + (i.next - at.at) ≡ i.next = omega arith in
+          (subst (λ (n : ℕ). Stands s e (cursor n (at.long + i.long)) (drop (i.next - at.at) l)) z (stands-to (i.next - at.at) (at.long + i.long) (omega arith) (omega (arith, w, o)) y), h _ i.value)
+      on l y None q = f
 
   pub stops-octets : {P : Cursor → Piece → Type 0} {at : Cursor} (n k p : ℕ) → R k p → ((w : List ℕ) → length w ≡ n → Lies s at.at w → at.long ≤ at.at → P (cursor (at.at + n) at.long) (piece at.at w))
       → Stops s e R P at (string n k p)
@@ -147,8 +151,8 @@ module _ {s : List ℕ} {e : ℕ} where
       any (good x) = tt
       any (wrong n p) = tt
 
-  pub every-rule : {X : Type 0} {P : Cursor → X → Type 0} {at : Cursor} (n p : ℕ) (x : X) → (n ≡ 0 → P at x) → Every s e P at (tell (rule n p x))
-  every-rule n p x h = stops-rule n p x (λ i. tt) h
+  pub every-rule : {X : Type 0} {P : Cursor → X → Type 0} {at : Cursor} (v : Verdict) (p : ℕ) (x : X) → (v ≡ passed → P at x) → Every s e P at (tell (rule v p x))
+  every-rule v p x h = stops-rule v p x (λ r i. tt) h
 
   pub every-integer : {P : Cursor → ℕ → Type 0} {at : Cursor} (k p : ℕ) → ((n : Cursor) (v : ℕ) → P n v) → Every s e P at (integer k p)
   every-integer k p h = stops-integer k p tt h

@@ -12,7 +12,7 @@ use Rattle.octets.specs.Text.{same_text}
 use Rattle.octets.specs.Limits.{method_most, authority_most, path_most}
 use Rattle.octets.specs.Refusals.{not_supported}
 use Rattle.script.specs.Do.{Piece, good, wrong}
-use Rattle.messages.specs.Control.{method_verdict, path_verdict, authority_verdict, is_options}
+use Rattle.messages.specs.Control.{method_verdict, path_verdict, authority_verdict, is_options, Verdict, passed}
 use Rattle.messages.specs.Valid.{is_scheme}
 use Rattle.binary.specs.declared.Cursor.{Cursor}
 use Rattle.binary.specs.Read.{part, part_within, ruled_part, scheme_of, scheme_part, RequestControl, after_scheme, request_control}
@@ -20,10 +20,10 @@ use Rattle.sound.specs.Placed.{Lying}
 use Rattle.binary_sound.proofs.Judgement.{Every, stops-give, every-refuse, every_here, every-tell, every-rule, stops-if, every-integer, every-octets, stops-bind, stops_then}
 
 -- what holds of a part of at most so many octets, by a rule
-pub record RuledAt (s : List ℕ) (most : ℕ) (verdict : List ℕ → ℕ) (p : Piece) : Type 0 where
+pub record RuledAt (s : List ℕ) (most : ℕ) (verdict : List ℕ → Verdict) (p : Piece) : Type 0 where
   pub lies : Lying s p
   pub short : length p.text ≤ most
-  pub keeps : verdict p.text ≡ 0
+  pub keeps : verdict p.text ≡ passed
 
 pub record ControlAt (s : List ℕ) (q : RequestControl) : Type 0 where
   pub method : RuledAt s method_most method_verdict q.method
@@ -61,7 +61,7 @@ module _ {s : List ℕ} {e : ℕ} where
       (λ h. every-octets n _ _ λ w l y f. (y, omega (arith, leb-true n most h)))
       (λ h. every-refuse))))
 
-  pub every-ruled : {at : Cursor} (most : ℕ) (verdict : List ℕ → ℕ) → Every s e (λ n p. RuledAt s most verdict p) at (ruled_part most verdict)
+  pub every-ruled : {at : Cursor} (most : ℕ) (verdict : List ℕ → Verdict) → Every s e (λ n p. RuledAt s most verdict p) at (ruled_part most verdict)
   unfolding ruled_part
   every-ruled most verdict =
       stops-bind _ (every_here (stops_then _ (every-within most) λ i w g.

@@ -6,6 +6,7 @@ use mathlib.Core.List.{List, [], ◌∷◌, ◌++◌}
 use native.Mathlib.Omega.{arith}
 use lib.Dec.{ltb, leb, eqb}
 use lib.ListN.{length}
+use Rattle.std.proofs.Common.{Option, None}
 use Rattle.octets.specs.Ascii.{ascii}
 use Rattle.octets.specs.Limits.{method_most, authority_most, path_most, lines_most, chunks_most, content_most, binary_most, informational_most}
 use Rattle.octets.specs.Refusals.{bad_syntax, not_supported, bad_length, too_large, cut_off, bad_section, bad_padding, bad_edition}
@@ -21,8 +22,6 @@ use Rattle.messages.specs.Names.{are_trailers, kept_trailers}
 use Rattle.messages.specs.Rules.{authority_in, binary_framing_of, nothing_stated, bodyless_rule, may_state, stated_in}
 use Rattle.messages.specs.declared.Framing.{Framing}
 use Rattle.messages.specs.declared.Framing.TheVariants.{Unstated}
-use Rattle.messages.specs.declared.StatedLength.{StatedLength}
-use Rattle.messages.specs.declared.StatedLength.TheVariants.{Missing}
 use Rattle.messages.specs.declared.Told.{Told}
 use Rattle.messages.specs.Told.{is_edition}
 use Rattle.binary.specs.Reader.{Got, got, no, cursor, Reader}
@@ -32,15 +31,17 @@ use Rattle.binary.specs.Read.{part, part_within, ruled_part, scheme_of, scheme_p
 use Rattle.binary.specs.Read.{known_content, open_chunks, content, content_agrees, content_rule, trailers_agree, trailer_rule, trailers, padding, after_content, after_headers}
 use Rattle.binary.specs.Read.{after_head, after_control, request_message, after_final, after_final_status, after_informational, after_informational_status, heads}
 use Rattle.binary.specs.Read.{after_indicator, message, message_answer, read_sized, read_binary}
-use Rattle.sound.specs.Placed.{Each, Lying}
+use Rattle.sound.specs.Placed.{Each}
 use Rattle.sound.specs.Refusal.{is_one_of, Refusal}
 use Rattle.sound.proofs.Each.{each_snoc}
-use Rattle.sound.proofs.Refusals.{Among, among, common_numbers, status_numbers, Verdict, method-verdict, path-verdict, authority-verdict, status-verdict, not_good, NamedIn, binary-framing-in, Refuses, refusal}
+use Rattle.sound.proofs.Refusals.{Among, among, common_numbers, status_numbers, CommonVerdict, method-verdict, path-verdict, authority-verdict, status-verdict, not_good, NamedIn, binary-framing-in, Refuses, refusal}
 use Rattle.sound.proofs.Refusals.{authority-judged, nothing-judged, may-judged, bodyless-judged}
 use Rattle.binary_sound.proofs.Judgement.{Stands, stands_on, Ends, Stops, stops-give, stops-refuse, stops-here, stops-longs, stops-ended, stops-tell, stops-rule, stops-if, stops-integer, stops-octets, stops-bind, stops_then}
 use Rattle.binary_sound.proofs.Parts.{PartAt}
 use Rattle.binary_sound.proofs.Lines.{no-wrong}
 use Rattle.binary_sound.specs.Sound.{edition_numbers, binary_numbers, EditionRefused, OtherEdition, BinaryRefused, BinarySettled}
+use Rattle.octets.specs.Refusals.{refusal_number}
+use Rattle.messages.specs.Control.{Verdict}
 
 -- ---- numbers of Binary HTTP
 
@@ -148,13 +149,13 @@ module _ {s : List ℕ} {e : ℕ} where
       stops-bind _ (stops-integer _ _ (cut-off p) λ j n.
       stops-both (leb n most) (stops-octets n _ _ (cut-off p) λ w k y f. tt) (stops-refuse (too-large p))))
 
-  stops-ruled : {at : Cursor} (most : ℕ) (verdict : List ℕ → ℕ) → ((w : List ℕ) → Verdict (verdict w))
+  stops-ruled : {at : Cursor} (most : ℕ) (verdict : List ℕ → Verdict) → ((w : List ℕ) → CommonVerdict (verdict w))
       → Refusing s e (λ n p. Unit {0}) at (ruled_part most verdict)
   unfolding ruled_part
   stops-ruled most verdict h =
       stops-bind _ (stops-here λ i.
       stops_then _ (stops-within most) λ j w z.
-      stops-rule (verdict w.text) _ w (λ a. refusal wide (not_good common_numbers (h w.text) a) i) λ a. tt)
+      stops-rule (verdict w.text) _ w (λ r a. refusal wide (not_good common_numbers (h w.text) a) i) λ a. tt)
 
   stops-scheme : {at : Cursor} → Refusing s e (λ n v. Unit {0}) at scheme_part
   unfolding scheme_part
@@ -293,7 +294,7 @@ module _ {s : List ℕ} {e : ℕ} where
   stops-padding : {at : Cursor} (form : Form) → Refusing s e (λ n z. Unit {0}) at (padding form)
   stops-padding {at} form = record { go = λ l y. padded form s e at l y }
 
-  stops-after : {at : Cursor} (form : Form) (body : Bool) (stated : StatedLength) (start : Start) (h : Section) (f : Framing)
+  stops-after : {at : Cursor} (form : Form) (body : Bool) (stated : Option ℕ) (start : Start) (h : Section) (f : Framing)
       → Refusing s e (λ n m. Unit {0}) at (after_headers form body stated start h f)
   unfolding after_headers after_content
   stops-after form body stated start h f =
@@ -314,7 +315,7 @@ module _ {s : List ℕ} {e : ℕ} where
       stops_then _ (stops-header form) λ j h g.
       stops-bind _ (stops-tell (authority_in h.end q.authority h.lines) (authority-judged edition_numbers s wide h.end g.end refl q.authority h.lines) λ a r.
       stops-bind _ (stops-tell (may_state h.end (binary_framing_of h.lines)) (may-judged edition_numbers s wide h.end g.end (binary_framing_of h.lines)) λ f q.
-      stops-after form true Missing _ h f))
+      stops-after form true None _ h f))
 
 module _ (t : Told) {s : List ℕ} {e : ℕ} where
   stops-final : {at : Cursor} (form : Form) (hs : List InformationalRead) (n : ℕ) → Refusing s e (λ i m. Unit {0}) at (after_final_status t form hs n)
@@ -326,7 +327,7 @@ module _ (t : Told) {s : List ℕ} {e : ℕ} where
       (stops-bind _ (stops-tell (bodyless_rule t n h.end f) (bodyless-judged edition_numbers s wide h.end g.end t n f (binary-framing-in (length s) h.lines g.lines)) λ u q.
       stops-after form false (stated_in t n f) _ h Unstated))
       (stops-bind _ (stops-tell (may_state h.end f) (may-judged edition_numbers s wide h.end g.end f) λ v q.
-      stops-after form true Missing _ h v))
+      stops-after form true None _ h v))
 
   stops-response : (f : ℕ) {at : Cursor} (form : Form) (hs : List InformationalRead) → Refusing s e (λ i m. Unit {0}) at (heads t form f hs)
   unfolding heads after_informational_status after_informational
@@ -334,7 +335,7 @@ module _ (t : Told) {s : List ℕ} {e : ℕ} where
   stops-response (suc f) form hs =
       stops-bind _ (stops-here λ p.
       stops-bind _ (stops-integer _ _ (cut-off p) λ j v.
-      stops-bind _ (stops-rule (status_verdict v) _ v (λ a. at_place (status-wide.has (status_verdict v) (not_good status_numbers (status-verdict v) a)) p) λ a.
+      stops-bind _ (stops-rule (status_verdict v) _ v (λ r a. at_place (status-wide.has (refusal_number r) (not_good status_numbers (status-verdict v) a)) p) λ a.
       stops-both (is_informational v)
       (stops-both (leb informational_most (length hs)) (stops-refuse (too-large p))
       (stops_then _ (stops-section form) λ k h g.

@@ -8,6 +8,7 @@ use native.Mathlib.Omega.{arith}
 use borrow.Author.Tests.{leb-true, leb-false, ltb-true}
 use lib.Dec.{leb, eqb}
 use lib.ListN.{length, length-map}
+use Rattle.std.proofs.Common.{Option, None}
 use Rattle.octets.specs.Limits.{binary_most, informational_most}
 use Rattle.octets.specs.Refusals.{too_large, bad_edition}
 use Rattle.octets.specs.Text.{is_empty}
@@ -16,7 +17,7 @@ use Rattle.script.specs.Script.{accepted, refused}
 use Rattle.script.specs.Do.{Piece, good}
 use Rattle.script.proofs.Places.{lies-all}
 use Rattle.messages.specs.Message.{FieldRead, Section, InformationalRead, request_start, response_start, Message, counted_message, whole_path}
-use Rattle.messages.specs.Control.{is_host, status_verdict, is_informational, is_bodyless, ends_at_head}
+use Rattle.messages.specs.Control.{is_host, status_verdict, is_informational, is_bodyless, ends_at_head, passed}
 use Rattle.messages.specs.Names.{lines_of, kept, kept_trailers}
 use Rattle.messages.specs.Rules.{authority_in, binary_framing_of, nothing_stated, bodyless_rule, may_state, stated_in}
 use Rattle.messages.specs.Notes.{is_clashing}
@@ -26,8 +27,6 @@ use Rattle.messages.specs.declared.Body.{Body}
 use Rattle.messages.specs.declared.Framing.{Framing}
 use Rattle.messages.specs.declared.Framing.TheVariants.{Unstated, Stated, Chunked, Clashing}
 use Rattle.messages.specs.declared.Kind.TheVariants as kind
-use Rattle.messages.specs.declared.StatedLength.{StatedLength}
-use Rattle.messages.specs.declared.StatedLength.TheVariants.{Missing}
 use Rattle.messages.specs.declared.Told.{Told}
 use Rattle.messages.specs.Told.{is_edition}
 use Rattle.messages.proofs.Verdicts.{host-made}
@@ -99,7 +98,7 @@ scheme-number (suc (suc v)) h = let z = ltb-true (suc (suc v)) 2 h in absurd (om
 
 request-at : (w : Told) (s : List ℕ) (z : ℕ) → z ≤ binary_most → (q : RequestControl) (h : Section) (a : Piece) (f : Framing) (cs : List Piece) (ts : List FieldRead) → ControlAt s q
     → LinesAt s h.lines → AuthorityAt s h.lines a → binary_framing_of h.lines ≡ f → TailAt s true f cs ts
-    → MessageAt w s (counted_message z Missing (request_start q.method q.scheme a (whole_path q.path)) h.lines cs ts)
+    → MessageAt w s (counted_message z None (request_start q.method q.scheme a (whole_path q.path)) h.lines cs ts)
 unfolding suits meaning
 request-at w s z small q h a f cs ts c l o g t = record {
   parts = record {
@@ -133,7 +132,7 @@ record HeadsIn (s : List ℕ) (hs : List InformationalRead) : Type 0 where
   lower : Each (λ h. Each LowerName h.lines) hs
   unstated : Each (λ h. binary_framing_of h.lines ≡ Unstated) hs
 
-one-more : (s : List ℕ) (hs : List InformationalRead) (n : ℕ) (fs : List FieldRead) → HeadsIn s hs → status_verdict n ≡ 0 → is_informational n ≡ true
+one-more : (s : List ℕ) (hs : List InformationalRead) (n : ℕ) (fs : List FieldRead) → HeadsIn s hs → status_verdict n ≡ passed → is_informational n ≡ true
     → LinesAt s fs → binary_framing_of fs ≡ Unstated → length hs < informational_most → HeadsIn s (hs ++ record { status = n; lines = fs } ∷ [])
 one-more s hs n fs a v i l u k = record {
   heads = heads-snoc s hs _ a.heads (head_at s n fs v i l.section) k;
@@ -147,13 +146,13 @@ unfolding valid_body
 any-body true c ts h = refl
 any-body false c ts h = h
 
-module _ (t : Told) (s : List ℕ) (hs : List InformationalRead) (n : ℕ) (h : Section) (a : HeadsIn s hs) (v : status_verdict n ≡ 0)
+module _ (t : Told) (s : List ℕ) (hs : List InformationalRead) (n : ℕ) (h : Section) (a : HeadsIn s hs) (v : status_verdict n ≡ passed)
     (i : is_informational n ≡ false) (l : LinesAt s h.lines) (z : ℕ) (small : z ≤ binary_most) (cs : List Piece) (ts : List FieldRead) where
   -- the message that states k
-  response : StatedLength → Message
+  response : Option ℕ → Message
   response k = counted_message z k (response_start hs n) h.lines cs ts
 
-  response-at : (body : Bool) (f : Framing) (k : StatedLength) → TailAt s body f cs ts
+  response-at : (body : Bool) (f : Framing) (k : Option ℕ) → TailAt s body f cs ts
       → valid_body (not (is_bodyless n)) (content_of cs) (map field_means (kept_trailers ts)) ≡ true → valid_stated k (meaning (response k)) ≡ true
       → suits t (meaning (response k)) ≡ true → ResponseLength t n (binary_framing_of h.lines) (response k) → MessageAt t s (response k)
   unfolding response
@@ -178,11 +177,11 @@ module _ (t : Told) (s : List ℕ) (hs : List InformationalRead) (n : ℕ) (h : 
 
   -- where content may follow
   content-at : (f : Framing) → ends_at_head t n ≡ false → may_state h.end (binary_framing_of h.lines) ≡ good f → TailAt s true f cs ts
-      → MessageAt t s (response Missing)
+      → MessageAt t s (response None)
   unfolding response suits meaning stated_in
   content-at f q j g =
       let m = may-state h.end (binary_framing_of h.lines) f j in
-      response-at true f Missing g (rw (content-status t n q) (body-valid true cs ts g.filled.empty g.named.none)) (none-stated _) (rw q)
+      response-at true f None g (rw (content-status t n q) (body-valid true cs ts g.filled.empty g.named.none)) (none-stated _) (rw q)
       (record {
         once = m.1;
         none = content-not-204 t n q (binary_framing_of h.lines);
@@ -212,9 +211,9 @@ module _ (t : Told) {s : List ℕ} {e : ℕ} (within : e ≤ binary_most) where
       stops-bind _ (every-tell (authority_in h.end q.authority h.lines) λ a p.
       stops-bind _ (every-tell (may_state h.end (binary_framing_of h.lines)) λ f g.
       let o = authority-at s q h.lines a c l.section (is_empty q.authority.text) refl (authority-is h.end q.authority h.lines a p) in
-      every-after form true Missing _ h f λ x y z u cs ts d. (request-at t s z (omega (arith, u, within)) q h a f cs ts c l o (may-state h.end _ f g).0 d, (y, u))))
+      every-after form true None _ h f λ x y z u cs ts d. (request-at t s z (omega (arith, u, within)) q h a f cs ts c l o (may-state h.end _ f g).0 d, (y, u))))
 
-  every-final : {at : Cursor} (form : Form) (hs : List InformationalRead) (n : ℕ) → HeadsIn s hs → status_verdict n ≡ 0 → is_informational n ≡ false
+  every-final : {at : Cursor} (form : Form) (hs : List InformationalRead) (n : ℕ) → HeadsIn s hs → status_verdict n ≡ passed → is_informational n ≡ false
       → Every s e (λ i m. MessageAt t s m × ((i.at ≡ e) × (m.long ≤ e))) at (after_final_status t form hs n)
   unfolding after_final_status after_final response
   every-final form hs n a v i =
@@ -225,7 +224,7 @@ module _ (t : Told) {s : List ℕ} {e : ℕ} (within : e ≤ binary_most) where
       every-after form false _ _ h Unstated λ x y z u cs ts d. (bodyless-at t s hs n h a v i l z (omega (arith, u, within)) cs ts b q (bodyless t n h.end _ b g) d, (y, u))))
       (λ q.
       stops-bind _ (every-tell (may_state h.end (binary_framing_of h.lines)) λ f g.
-      every-after form true Missing _ h f λ x y z u cs ts d. (content-at t s hs n h a v i l z (omega (arith, u, within)) cs ts f q g d, (y, u))))
+      every-after form true None _ h f λ x y z u cs ts d. (content-at t s hs n h a v i l z (omega (arith, u, within)) cs ts f q g d, (y, u))))
 
   every-response : (f : ℕ) {at : Cursor} (form : Form) (hs : List InformationalRead) → HeadsIn s hs
       → Every s e (λ i m. MessageAt t s m × ((i.at ≡ e) × (m.long ≤ e))) at (heads t form f hs)

@@ -6,6 +6,7 @@ use mathlib.Core.Bool.{Bool, true, false, cond}
 use mathlib.Core.List.{List, [], ◌∷◌, ◌++◌, map, append-nil, append_assoc}
 use lib.Dec.{eqb}
 use lib.ListN.{length, get_or, length-append, length-map}
+use Rattle.std.proofs.Common.{Option, Some, None}
 use Rattle.octets.specs.Text.{lower_of}
 use Rattle.octets.specs.Ascii.{ascii}
 use Rattle.numbers.specs.Digits.{count_of, digits}
@@ -16,8 +17,6 @@ use Rattle.numbers.proofs.IntegerLaws.{int-length}
 use Rattle.output.specs.Splice.{part}
 use Rattle.output.proofs.Laws.{elements-length}
 use Rattle.messages.specs.Meaning.{Field, field_means, length_field, stated_fields}
-use Rattle.messages.specs.declared.StatedLength.{StatedLength}
-use Rattle.messages.specs.declared.StatedLength.TheVariants.{Missing, Of}
 use Rattle.messages.specs.declared.Part.{Part}
 use Rattle.messages.specs.declared.Record.{Record}
 use Rattle.ranges.specs.Entries.{field_in, fields_in, heads_in, part_in, control_in, meaning_in, MessageWithin, path_in, path_size}
@@ -61,11 +60,11 @@ module _ (s ranges : List ℕ) where
   section-length k n = counted-length _ _ (fields-length k n)
 
 -- a stated length: what is written of it, and how long that is
-pub record StatedIs (x : StatedLength) (w : List ℕ) (n : ℕ) : Type 0 where
+pub record StatedIs (x : Option ℕ) (w : List ℕ) (n : ℕ) : Type 0 where
   pub bytes : fields_bytes (stated_fields x) ≡ w
   pub size : stated_size x ≡ n
 
-pub is-missing : {x : StatedLength} → x ≡ Missing → StatedIs x [] 0
+pub is-missing : {x : Option ℕ} → x ≡ None → StatedIs x [] 0
 unfolding fields_bytes
 is-missing e = rw e (record { bytes = refl; size = refl })
 
@@ -73,7 +72,7 @@ name-is : counted (ascii "content-length") ≡ 14 ∷ ascii "content-length"
 unfolding counted int_bytes int_len tag_of push
 name-is = refl
 
-pub is-of : {x : StatedLength} {n : ℕ} → x ≡ Of n
+pub is-of : {x : Option ℕ} {n : ℕ} → x ≡ Some n
     → StatedIs x ((14 ∷ ascii "content-length") ++ int_bytes (count_of 10 n) ++ digits 10 n) (15 + int_len (count_of 10 n) + count_of 10 n)
 unfolding fields_bytes field_bytes length_field
 is-of {x} {n} e =
@@ -86,10 +85,10 @@ is-of {x} {n} e =
       size = omega arith;
     })
 
-stated-length : (x : StatedLength) → length (fields_bytes (stated_fields x)) ≡ stated_size x
+stated-length : (x : Option ℕ) → length (fields_bytes (stated_fields x)) ≡ stated_size x
 unfolding int_len
-stated-length Missing = let e = is-missing refl in ap length e.bytes ∙ sym e.size
-stated-length (Of n) = let e = is-of refl in ap length e.bytes ∙ simp (length-append, int-length, digits-length) (omega arith)
+stated-length None = let e = is-missing refl in ap length e.bytes ∙ sym e.size
+stated-length (Some n) = let e = is-of refl in ap length e.bytes ∙ simp (length-append, int-length, digits-length) (omega arith)
 
 -- fields behind others
 pub fields-append : (a b : List Field) → fields_bytes (a ++ b) ≡ fields_bytes a ++ fields_bytes b
@@ -98,7 +97,7 @@ fields-append [] b = refl
 fields-append (f ∷ a) b = rw (fields-append a b) (sym (append_assoc (field_bytes f) (fields_bytes a) (fields_bytes b)))
 
 -- the fields of a final header section, and the section
-module _ (x : StatedLength) (s ranges : List ℕ) (k n : ℕ) where
+module _ (x : Option ℕ) (s ranges : List ℕ) (k n : ℕ) where
   pub header-fields : length (fields_bytes (stated_fields x ++ map field_means (fields_in s ranges k n))) ≡ stated_size x + fields_size ranges k n
   header-fields =
       let fs = map field_means (fields_in s ranges k n) in

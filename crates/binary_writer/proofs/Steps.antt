@@ -7,6 +7,7 @@ use native.Mathlib.Nat.{add-zero, sub-zero}
 use native.Mathlib.Omega.{arith}
 use lib.ListN.{get_or}
 use borrow.Author.Tests.{eq-eqb, ne_eqb}
+use Rattle.std.proofs.Common.{Option, Some}
 use Rattle.octets.specs.Ascii.{ascii}
 use Rattle.octets.specs.Text.{lower_of}
 use Rattle.numbers.specs.Digits.{count_of, digits}
@@ -17,8 +18,6 @@ use Rattle.output.specs.Splice.{part, Put, Puts, Left}
 use Rattle.output.proofs.Laws.{put_then, put_as, left-start, left-turn}
 use Rattle.output.proofs.Room.{puts_then}
 use Rattle.messages.specs.Meaning.{Informational, request, response, field_means, content_of, stated_fields}
-use Rattle.messages.specs.declared.StatedLength.{StatedLength}
-use Rattle.messages.specs.declared.StatedLength.TheVariants.{Of}
 use Rattle.messages.specs.declared.Record.{Record}
 use Rattle.ranges.specs.Entries.{field_in, fields_in, chunks_in, fields_before, heads_in, part_in, control_in, meaning_in, FieldsWithin, path_size, path_in}
 use Rattle.ranges.proofs.Entries.{fields-more, fields-none, heads-more, heads-none}
@@ -89,7 +88,7 @@ module _ (r : Record) (hs ns : List ℕ) where
   size-message ts a b c d e = rw (a, c, b, d, e)
 
 -- what a final header section counts
-pub header-sum : (x : StatedLength) (ranges : List ℕ) (k n : ℕ) {a b : ℕ} → a ≡ stated_size x → b ≡ fields_size ranges k n
+pub header-sum : (x : Option ℕ) (ranges : List ℕ) (k n : ℕ) {a b : ℕ} → a ≡ stated_size x → b ≡ fields_size ranges k n
     → a + b ≡ stated_size x + fields_size ranges k n
 header-sum x ranges k n e f = rw (e, f)
 
@@ -113,7 +112,7 @@ module _ {o o₁ : List ℕ} {at r n : ℕ} where
   put-https e p = rw (scheme-https n e, ne_eqb n 0 e) (put_as (https-is, refl) p)
 
 -- name and digits of a stated length, one behind the other
-pub put-length : {x : StatedLength} {n c : ℕ} {o o₁ o₂ o₃ : List ℕ} {at a b r : ℕ} → x ≡ Of n → c ≡ count_of 10 n
+pub put-length : {x : Option ℕ} {n c : ℕ} {o o₁ o₂ o₃ : List ℕ} {at a b r : ℕ} → x ≡ Some n → c ≡ count_of 10 n
     → Puts o at (14 ∷ ascii "content-length") 15 o₁ a → Puts o₁ a (int_bytes c) (int_len c) o₂ b → Puts o₂ b (digits 10 n) (count_of 10 n) o₃ r
     → Puts o at (fields_bytes (stated_fields x)) (stated_size x) o₃ r
 put-length e f p q t h = let z = is-of e in put_as (z.bytes, z.size) (puts_then (puts_then p (rw f at q)) t (omega (arith, z.size, h)))
@@ -157,7 +156,7 @@ module _ (s ranges : List ℕ) (k n : ℕ) where
   put-section e p q = put_as (counted_is _ _ (fields-length s ranges k n), refl) (put_then (rw e at p) q)
 
   -- a final header section: the count, the field of a stated length, the fields
-  pub put-header : (x : StatedLength) {o o₁ o₂ o₃ : List ℕ} {at a b r size : ℕ} → size ≡ stated_size x + fields_size ranges k n → Put o at (int_bytes size) (int_len size) o₁ a
+  pub put-header : (x : Option ℕ) {o o₁ o₂ o₃ : List ℕ} {at a b r size : ℕ} → size ≡ stated_size x + fields_size ranges k n → Put o at (int_bytes size) (int_len size) o₁ a
       → Put o₁ a (fields_bytes (stated_fields x)) (stated_size x) o₂ b
       → Put o₂ b (fields_bytes (map field_means (fields_in s ranges k n))) (fields_size ranges k n) o₃ r
       → Put o at (section_bytes (stated_fields x ++ map field_means (fields_in s ranges k n))) (header_size x ranges k n) o₃ r

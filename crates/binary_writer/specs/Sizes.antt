@@ -1,11 +1,9 @@
 -- How long a message is in Binary, by its numbers alone (no octet of its source is looked at): the length of `binary_of` (Write; 01, "How we write", "Sizes").
-use Rattle.std.specs.Prelude.{ℕ, zero, suc, ◌+◌, ◌*◌, Bool, true, false, cond, List, eqb, get_or}
+use Rattle.std.specs.Prelude.{ℕ, zero, suc, ◌+◌, ◌*◌, Bool, true, false, cond, List, eqb, get_or, Option, Some, None}
 use Rattle.numbers.specs.Digits.{count_of}
 use Rattle.numbers.specs.Integer.{int_len}
 use Rattle.messages.specs.declared.Part.{Part}
 use Rattle.messages.specs.declared.Record.{Record}
-use Rattle.messages.specs.declared.StatedLength.{StatedLength}
-use Rattle.messages.specs.declared.StatedLength.TheVariants.{Missing, Of}
 use Rattle.ranges.specs.Entries.{fields_before, path_size}
 
 -- so many octets with their count in front
@@ -26,12 +24,12 @@ abbrev pub section_size : List ℕ → ℕ → ℕ → ℕ
 section_size ranges k n = counted_size (fields_size ranges k n)
 
 -- the field of a stated length: `content-length` with its count, and as many digits as there are, with theirs
-abbrev pub stated_size : StatedLength → ℕ
-stated_size Missing = 0
-stated_size (Of n) = 15 + counted_size (count_of 10 n)
+abbrev pub stated_size : Option ℕ → ℕ
+stated_size None = 0
+stated_size (Some n) = 15 + counted_size (count_of 10 n)
 
 -- a final header section: the field of a stated length, then the fields of n entries from the entry k on
-abbrev pub header_size : StatedLength → List ℕ → ℕ → ℕ → ℕ
+abbrev pub header_size : Option ℕ → List ℕ → ℕ → ℕ → ℕ
 header_size stated ranges k n = counted_size (stated_size stated + fields_size ranges k n)
 
 -- the informational head i: its status, then its section

@@ -1,6 +1,6 @@
 -- A meaning as Binary HTTP (01, "How we write": known length, shortest integers, all three sections, no padding), and whether it may be written ("Sizes";
 -- 8 at 0: "Numbers a call answers with"; 02, item 5).
-use Rattle.std.specs.Prelude.{ℕ, Bool, true, false, cond, List, [], ◌∷◌, ◌++◌, leb, eqb, length}
+use Rattle.std.specs.Prelude.{ℕ, Bool, cond, List, [], ◌∷◌, ◌++◌, leb, eqb, length}
 use Rattle.octets.specs.Ascii.{ascii}
 use Rattle.octets.specs.Limits.{binary_most}
 use Rattle.octets.specs.Refusals.{too_large}

@@ -14,7 +14,7 @@ ghost use Rattle.binary_writer.specs.Write.{to_binary};
 use crate::measure::message_size;
 use crate::put::put_message;
 use messages::Record;
-use octets::{Limits, Refusals};
+use octets::{Limits, Refusal};
 use output::Written;
 
 // The message that the numbers of a record and of ranges name, as Binary; 8 at 0 above the size of a Binary input, 13 at 0 where it does not fit.
@@ -35,17 +35,11 @@ fn write_within(
     let n = message_size(r, headers, heads, trailers);
     if Limits::fits(n, Limits::BINARY) {
         if out.len() < n {
-            return Written::Refused {
-                number: Refusals::NO_ROOM,
-                place: 0,
-            };
+            return Err(Refusal::NoRoom.at(0));
         }
-        return Written::Done(put_message(out, s, r, headers, heads, chunks, trailers));
+        return Ok(put_message(out, s, r, headers, heads, chunks, trailers));
     }
-    Written::Refused {
-        number: Refusals::TOO_LARGE,
-        place: 0,
-    }
+    Err(Refusal::TooLarge.at(0))
 }
 
 // An accepted message, of either form, as Binary. A refusal writes nothing.

@@ -8,7 +8,7 @@ ghost use Rattle.binary_writer.specs.Sizes.{scheme_size, request_size, response_
 ghost use Rattle.binary_writer.specs.Sizes.{count_most, scheme_most, entry_most, fields_most, section_most, stated_field_most, header_most, head_most, heads_most};
 ghost use Rattle.binary_writer.specs.Sizes.{part_most, control_most};
 
-use messages::{Part, PathPrefix, Record, StatedLength};
+use messages::{Part, PathPrefix, Record};
 use numbers::{digit_count, int_len};
 use ranges::{fields_before, number_at, path_size};
 
@@ -35,11 +35,9 @@ pub(crate) fn fields_size(ranges: &[u32], k: usize, n: usize) -> usize
     requires { ((k + n) * 4 ≤ length ranges.now) × (n ≤ lines_most) }
     ensures { (result ≡ fields_size ranges.now k n) × (result ≤ fields_most) }
 {
-    let mut i = 0;
     let mut size = 0;
-    while i < n {
+    for i in 0..n {
         size += entry_size(ranges, k + i);
-        i += 1;
     }
     size
 }
@@ -54,17 +52,17 @@ fn section_size(ranges: &[u32], k: usize, n: usize) -> usize
 }
 
 // The field of a stated length.
-pub(crate) fn stated_size(stated: StatedLength) -> usize
+pub(crate) fn stated_size(stated: Option<usize>) -> usize
     ensures { (result ≡ stated_size stated) × (result ≤ stated_field_most) }
 {
     match stated {
-        StatedLength::Missing => return 0,
-        StatedLength::Of(n) => return 15 + counted_size(digit_count(n, 10)),
+        None => return 0,
+        Some(n) => return 15 + counted_size(digit_count(n, 10)),
     }
 }
 
 // A final header section: that field, then the fields of n entries from the entry k on.
-fn header_size(stated: StatedLength, ranges: &[u32], k: usize, n: usize) -> usize
+fn header_size(stated: Option<usize>, ranges: &[u32], k: usize, n: usize) -> usize
     requires { ((k + n) * 4 ≤ length ranges.now) × (n ≤ lines_most) }
     ensures { (result ≡ header_size stated ranges.now k n) × (result ≤ header_most) }
 {
@@ -85,15 +83,13 @@ fn heads_size(fields: &[u32], heads: &[u32], n: usize) -> usize
     requires { HeadsCounted fields.now heads.now n }
     ensures { (result ≡ heads_size fields.now heads.now 0 n) × (result ≤ heads_most) }
 {
-    let mut i = 0;
     let mut k = 0;
     let mut size = 0;
-    while i < n {
+    for i in 0..n {
         let status = number_at(heads, i * 2);
         let count = number_at(heads, i * 2 + 1);
         size += head_size(status, fields, k, count);
         k += count;
-        i += 1;
     }
     size
 }

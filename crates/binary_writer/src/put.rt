@@ -11,7 +11,7 @@ ghost use Rattle.binary_writer.specs.Sizes.{counted_size, entry_size, fields_siz
 ghost use Rattle.binary_writer.specs.Sizes.{scheme_size, request_size, response_size, control_size, message_size};
 
 use crate::measure::{fields_size, stated_size};
-use messages::{Part, PathPrefix, Record, StatedLength};
+use messages::{Part, PathPrefix, Record};
 use numbers::digit_count;
 use output::{put_decimal, put_int, put_lower, put_octet, put_part, put_text};
 use ranges::{fields_before, number_at, path_size, put_chunks, put_path};
@@ -75,11 +75,9 @@ fn put_fields(out: &mut [u8], at: usize, s: &[u8], ranges: &[u32], k: usize, n: 
     ensures { Put out.old at
         (fields_bytes (fields_named s.now ranges.now k n)) (fields_size ranges.now k n) out.new result }
 {
-    let mut i = 0;
     let mut a = at;
-    while i < n {
+    for i in 0..n {
         a = put_entry(out, a, s, ranges, k + i);
-        i += 1;
     }
     a
 }
@@ -96,13 +94,13 @@ fn put_section(out: &mut [u8], at: usize, s: &[u8], ranges: &[u32], k: usize, n:
 }
 
 // The field of a stated length, where there is one.
-fn put_stated(out: &mut [u8], at: usize, stated: StatedLength) -> usize
+fn put_stated(out: &mut [u8], at: usize, stated: Option<usize>) -> usize
     requires { at + stated_size stated ≤ length out.old }
     ensures { Put out.old at (fields_bytes (stated_fields stated)) (stated_size stated) out.new result }
 {
     match stated {
-        StatedLength::Missing => return at,
-        StatedLength::Of(n) => {
+        None => return at,
+        Some(n) => {
             let a = put_text(out, at, b"\x0econtent-length");
             let b = put_int(out, a, digit_count(n, 10));
             return put_decimal(out, b, n);
@@ -114,7 +112,7 @@ fn put_stated(out: &mut [u8], at: usize, stated: StatedLength) -> usize
 fn put_header(
     out: &mut [u8],
     at: usize,
-    stated: StatedLength,
+    stated: Option<usize>,
     s: &[u8],
     ranges: &[u32],
     k: usize,
@@ -158,15 +156,13 @@ fn put_heads(out: &mut [u8], at: usize, s: &[u8], fields: &[u32], heads: &[u32],
         (informational_bytes (heads_in s.now fields.now heads.now 0 n))
         (heads_size fields.now heads.now 0 n) out.new result }
 {
-    let mut i = 0;
     let mut k = 0;
     let mut a = at;
-    while i < n {
+    for i in 0..n {
         let status = number_at(heads, i * 2);
         let count = number_at(heads, i * 2 + 1);
         a = put_head(out, a, status, s, fields, k, count);
         k += count;
-        i += 1;
     }
     a
 }

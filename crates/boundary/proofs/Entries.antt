@@ -1,20 +1,19 @@
 -- The C entries under demand 1: from their promises, and from demands 1 and 2. Assumes nothing.
-use Prim.Native.Nat.{ℕ, ◌+◌, ◌≤◌}
+use Prim.Native.Nat.{ℕ, ◌≤◌}
 use mathlib.Core.Path.{◌≡◌, refl, sym, ap, ◌∙◌}
 use mathlib.Core.Bool.{Bool, true, false, cond}
-use mathlib.Core.Option.{Option, none, some}
 use mathlib.Core.List.{List, [], ◌∷◌, ◌++◌}
 use native.Mathlib.Omega.{arith}
 use borrow.Author.Tests.{le-leb, leb-true}
 use lib.Dec.{leb, lit≤}
-use lib.ListN.{length, drop, replicate, length-append, length-replicate}
-use Rattle.octets.specs.Refusals.{more_needed, no_room}
+use lib.ListN.{length, drop, length-append, length-replicate}
+use Rattle.octets.specs.Refusals.{more_needed, no_room, refused_at}
 use Rattle.script.specs.Script.{Answer, accepted, refused, more}
 use Rattle.script.specs.Do.{Piece}
 use Rattle.messages.specs.declared.Told.{Told}
 use Rattle.messages.specs.Message.{Start, request_start, response_start, Message}
 use Rattle.messages.specs.Answers.{chunks_numbers, informational_numbers, informational_in, padded, record_from, record_of}
-use Rattle.sound.specs.Refusal.{is_one_of, Refusal}
+use Rattle.sound.specs.Refusal.{is_one_of}
 use Rattle.sound.specs.Sound.{Sound}
 use Rattle.sound.proofs.Each.{each_map}
 use Rattle.http1_lines.specs.Read.{read_request, read_response}
@@ -28,19 +27,18 @@ use Rattle.binary_sound.proofs.Sound.{binary-sound}
 use Rattle.ranges.specs.Ranges.{head_numbers, trailer_numbers}
 use Rattle.ranges.proofs.Outcomes.{fields-small, informational-small, chunks-small, trailers-small}
 use Rattle.output.specs.Splice.{splice}
-use Rattle.output.specs.Reply.{Reply, writes, refuses, written_of, written_number, written_place, lent_after}
-use Rattle.output.specs.declared.Written.{Written}
-use Rattle.output.specs.declared.Written.TheVariants.{Done, Refused}
+use Rattle.output.specs.Reply.{Reply, writes, refuses, written_of, written_number, written_place, lent_after, Written}
 use Rattle.turn.specs.Turn.{taken_from, request_to_binary, response_to_binary}
-use Rattle.turn.specs.Question.{Question, value_or, request_question, response_question, binary_question}
+use Rattle.turn.specs.Question.{Question, found_part, lent_number, lent_place, value_or, request_question, response_question, binary_question}
 use Rattle.question.specs.Asking.{found_of, asked_of, points_to}
 use Rattle.listing.specs.Listing.{listing_of}
 use Rattle.demands.specs.Demand1.{RefusalOf, read_number, TurnNumbers, AskNumbers}
 use Rattle.demands.proofs.Demand1.{From, request-from, response-from, binary-from, above, later, octets-wrongs, turn-numbers, demand1}
 use Rattle.demands.proofs.Demand2.{no, splice_front, lent, demand2}
-use Rattle.capi.specs.Entries.{record_numbers, entry_numbers, Entered, EntryServed, EntryTaken, FieldEntered}
+use Rattle.capi.specs.Entries.{record_numbers, entry_numbers, Entered, EntryServed, FieldEntered}
 use Rattle.capi.proofs.Giving.{record-size}
 use Rattle.boundary.specs.Entries.{ranges_most, EntryReads, EntryWrites, EntryTakes, EntryAsks, SliceAsks, Boundary}
+use Rattle.std.proofs.Common.{Ok, Err, Option, Some, None}
 
 -- ---- room for the numbers of a message
 
@@ -169,21 +167,21 @@ module _ (ns : List ℕ) (turn : List ℕ → Reply) (d : TurnNumbers ns turn) (
   entry-refuses z = go (written_of (turn s) (length o)) refl h.answers h.places
     where
       go : (r : Written) → written_of (turn s) (length o) ≡ r → number ≡ written_number r → place ≡ written_place r → RefusalOf (13 ∷ ns) s number place × (o' ≡ o)
-      go (Done n) e a p = absurd (z a)
-      go (Refused k q) e a p = let r = d.in_room s (length o) k q e in ((rw a r.0, omega (arith, p, r.1)), h.after ∙ (lent (turn s)).unaltered o k q e)
+      go (Ok n) e a p = absurd (z a)
+      go (Err z) e a p = let r = d.in_room s (length o) z.number z.place e in ((rw a r.0, omega (arith, p, r.1)), h.after ∙ (lent (turn s)).unaltered o z.number z.place e)
 
   entry-wrote : number ≡ 0 → (b : List ℕ) × (turn s ≡ writes b) × (place ≡ length b) × (o' ≡ b ++ drop (length b) o)
   unfolding written_of
   entry-wrote z = go (turn s) refl h.answers h.places h.after ((d.writes s (length o)).0 (sym h.answers ∙ z))
     where
-      on : (b : List ℕ) (t : Bool) → leb (length b) (length o) ≡ t → turn s ≡ writes b → number ≡ written_number (cond t (Done (length b)) (Refused no_room 0))
-          → place ≡ written_place (cond t (Done (length b)) (Refused no_room 0)) → o' ≡ lent_after (writes b) o
+      on : (b : List ℕ) (t : Bool) → leb (length b) (length o) ≡ t → turn s ≡ writes b → number ≡ written_number (cond t (Ok (length b)) (Err (refused_at no_room 0)))
+          → place ≡ written_place (cond t (Ok (length b)) (Err (refused_at no_room 0))) → o' ≡ lent_after (writes b) o
           → (b : List ℕ) × (turn s ≡ writes b) × (place ≡ length b) × (o' ≡ b ++ drop (length b) o)
       on b true l e a p q = (b, e, p, q ∙ ((lent (writes b)).done o b refl (leb-true (length b) (length o) l)).1)
       on b false l e a p q = absurd (omega (arith, a, z))
 
       go : (y : Reply) → turn s ≡ y → number ≡ written_number (written_of y (length o)) → place ≡ written_place (written_of y (length o)) → o' ≡ lent_after y o
-          → ((n : ℕ) × (written_of (turn s) (length o) ≡ Done n)) → (b : List ℕ) × (turn s ≡ writes b) × (place ≡ length b) × (o' ≡ b ++ drop (length b) o)
+          → ((n : ℕ) × (written_of (turn s) (length o) ≡ Ok n)) → (b : List ℕ) × (turn s ≡ writes b) × (place ≡ length b) × (o' ≡ b ++ drop (length b) o)
       go (writes b) e a p q w = on b (leb (length b) (length o)) refl e a p q
       go (refuses k j) e a p q w = let f = ap (λ (y : Reply). written_of y (length o)) e in let g = w.1 in no cc
 
@@ -195,7 +193,7 @@ listing-numbers = turn-numbers [] tt (λ s. writes (listing_of s)) (λ s. octets
 
 -- ---- off a stream
 
-not_taken : (x : Answer Message) (k p : ℕ) → taken_from x (Refused k p) ≡ 0
+not_taken : (x : Answer Message) (k p : ℕ) → taken_from x (Err (refused_at k p)) ≡ 0
 not_taken (accepted n m) k p = refl
 not_taken (refused j q) k p = refl
 not_taken more k p = refl
@@ -214,8 +212,8 @@ entry-takes ns read turn d kept = record {
   where
     go : (s o : List ℕ) (w : Written) → written_of (turn s) (length o) ≡ w → (taken number : ℕ) → number ≡ written_number (written_of (turn s) (length o))
         → taken ≡ taken_from (read s) (written_of (turn s) (length o)) → (number ≡ 0 → ⊥) → taken ≡ 0
-    go s o (Done n) e taken number a t z = absurd (z (a ∙ ap written_number e))
-    go s o (Refused k p) e taken number a t z = t ∙ ap (taken_from (read s)) e ∙ not_taken (read s) k p
+    go s o (Ok n) e taken number a t z = absurd (z (a ∙ ap written_number e))
+    go s o (Err r) e taken number a t z = t ∙ ap (taken_from (read s)) e ∙ not_taken (read s) r.number r.place
 
 -- ---- the field question
 
@@ -224,28 +222,28 @@ unfolding asked_of
 entry-asks ns ask d = record {
   numbered = λ name s number place start len answer h.
       let r = d.receives name s in
-      (rw h.numbers r.0, omega (arith, h.places, r.1));
+      let n = lent (ask name s) number place start len answer h in
+      (rw n.0 r.0, omega (arith, n.1, r.1));
   found = λ name s number place start len answer h e. is (ask name s) number place start len answer h e;
   default = λ name s number place start len answer h e. none_is (ask name s) number place start len answer h e;
 }
   where
+    lent : (q : Question) (number place start len answer : ℕ) → FieldEntered (asked_of q) number place start len answer
+        → (number ≡ lent_number q) × (place ≡ lent_place q)
+    lent (Ok f) number place start len answer h = (h.numbers, h.places)
+    lent (Err k) number place start len answer h = (h.numbers, h.places)
+
     is : (q : Question) (number place start len answer : ℕ) → FieldEntered (asked_of q) number place start len answer → answer ≡ 1
-        → (w : Piece) × (q.found ≡ some w) × (start ≡ w.place) × (len ≡ length w.text)
-    is q number place start len answer h e = go q.found refl h
-      where
-        go : (f : Option Piece) → q.found ≡ f → FieldEntered (record { found = found_of f; number = q.number; place = q.place }) number place start len answer
-            → (w : Piece) × (q.found ≡ some w) × (start ≡ w.place) × (len ≡ length w.text)
-        go (some w) g h = (w, g, h.starts, h.lengths)
-        go none g h = absurd (omega (arith, h.answers, e))
+        → (w : Piece) × (found_part q ≡ Some w) × (start ≡ w.place) × (len ≡ length w.text)
+    is (Ok (Some w)) number place start len answer h e = (w, refl, h.starts, h.lengths)
+    is (Ok None) number place start len answer h e = absurd (omega (arith, h.answers, e))
+    is (Err k) number place start len answer h e = absurd (omega (arith, h.answers, e))
 
     none_is : (q : Question) (number place start len answer : ℕ) → FieldEntered (asked_of q) number place start len answer → (answer ≡ 1 → ⊥)
-        → (q.found ≡ none) × (answer ≡ 0) × (start ≡ 0) × (len ≡ 0)
-    none_is q number place start len answer h e = go q.found refl h
-      where
-        go : (f : Option Piece) → q.found ≡ f → FieldEntered (record { found = found_of f; number = q.number; place = q.place }) number place start len answer
-            → (q.found ≡ none) × (answer ≡ 0) × (start ≡ 0) × (len ≡ 0)
-        go (some w) g h = absurd (e h.answers)
-        go none g h = (g, h.answers, h.starts, h.lengths)
+        → (found_part q ≡ None) × (answer ≡ 0) × (start ≡ 0) × (len ≡ 0)
+    none_is (Ok (Some w)) number place start len answer h e = absurd (e h.answers)
+    none_is (Ok None) number place start len answer h e = (refl, h.answers, h.starts, h.lengths)
+    none_is (Err k) number place start len answer h e = (refl, h.answers, h.starts, h.lengths)
 
 slice-asks : (ns : List ℕ) (ask : List ℕ → List ℕ → Question) → AskNumbers ns ask → SliceAsks ns ask
 slice-asks ns ask d = record {

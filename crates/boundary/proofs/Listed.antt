@@ -1,26 +1,24 @@
 -- The listing of any input fits the program's buffer: an accepted request is of 16 octets at least, its row of 30 at most.
+use Rattle.std.proofs.Common.{Err, Ok, Result}
 use Prim.Native.Nat.{ℕ, zero, suc, ◌+◌, ◌-◌, ◌*◌, ◌/◌, ◌<◌, ◌≤◌}
-use mathlib.Core.Path.{◌≡◌, refl, sym, ap, ◌∙◌}
+use mathlib.Core.Path.{◌≡◌, refl, ◌∙◌}
 use mathlib.Core.Bool.{Bool, true, false, cond}
 use mathlib.Core.List.{List, [], ◌∷◌, ◌++◌, map}
 use native.Mathlib.Omega.{arith}
-use borrow.Author.Tests.{lt-ltb, le-leb, leb-true, leb-false, eqb-true}
-use lib.Dec.{leb, ltb, eqb, lit≤}
-use lib.ListN.{length, take, drop, length-append, length-drop, length-map}
+use borrow.Author.Tests.{lt-ltb, le-leb, leb-true}
+use lib.Dec.{leb, ltb, lit≤}
+use lib.ListN.{length, drop, length-append, length-drop, length-map}
 use Rattle.octets.specs.Limits.{head_most, lines_most, content_most, listing_most}
-use Rattle.octets.specs.Refusals.{more_needed, not_supported, too_large, no_room}
-use Rattle.octets.specs.Text.{span_len, same_text, is_empty}
+use Rattle.octets.specs.Refusals.{more_needed, not_supported, too_large}
+use Rattle.octets.specs.Text.{is_empty}
 use Rattle.octets.proofs.Kit.{either}
-use Rattle.octets.proofs.Texts.{same-eq}
-use Rattle.numbers.specs.Digits.{more_of, count_of, digits}
-use Rattle.numbers.proofs.DigitLaws.{digits-length}
-use Rattle.script.specs.Script.{Answer, accepted, refused, more, Script, run}
-use Rattle.script.specs.Do.{◌>>=◌, piece, Judged, good, wrong}
+use Rattle.numbers.specs.Digits.{more_of, count_of}
+use Rattle.script.specs.Script.{Answer, accepted, refused, more, run}
+use Rattle.script.specs.Do.{◌>>=◌, piece}
 use Rattle.script.proofs.Sound.{line-accepted}
 use Rattle.script.proofs.Refusals.{Answers, Judges, Stops, stops-word, stops-bind, stops-map, stops-judged}
 use Rattle.messages.specs.Told.{plain}
 use Rattle.messages.specs.declared.Told.{Told}
-use Rattle.messages.specs.Control.{method_verdict, path_verdict}
 use Rattle.messages.specs.Message.{Start, request_start, response_start, is_response, Message}
 use Rattle.messages.specs.Names.{kept, kept_trailers}
 use Rattle.messages.specs.Meaning.{field_means, content_of, meaning}
@@ -30,7 +28,6 @@ use Rattle.http1_lines.specs.Lines.{request_lens, on_request, request_of, Reques
 use Rattle.http1_lines.proofs.Views.{request-view}
 use Rattle.http1_lines.specs.Read.{line_within, less, section, field_lines, after_request_line, request, read_request}
 use Rattle.http1_lines.specs.declared.RequestLine.{RequestLine}
-use Rattle.http1_lines.specs.declared.RequestLine.TheVariants as request-line
 use Rattle.http1_sound.specs.Read.{request_numbers}
 use Rattle.http1_sound.proofs.Refusals.{request-refused}
 use Rattle.http1_sound.proofs.Sound.{request-sound}
@@ -38,20 +35,19 @@ use Rattle.sound.specs.Sound.{Sound}
 use Rattle.sound.proofs.Refusals.{one_of}
 use Rattle.ranges.specs.Ranges.{SmallRecord}
 use Rattle.ranges.proofs.Outcomes.{sound-small}
-use Rattle.stream.specs.Taking.{Taken, message, waits, stops, next, take_f, take_off}
-use Rattle.output.specs.Reply.{writes, written_of}
-use Rattle.output.specs.declared.Written.TheVariants.{Done, Refused}
+use Rattle.stream.specs.Taking.{waits, next, take_f, take_off}
+use Rattle.output.specs.Reply.{written_of}
 use Rattle.listing.specs.Listing.{row, rows, end_line, title, listing_of}
 use Rattle.listing.specs.Rows.{row_size, end_size}
 use Rattle.listing.proofs.Laws.{row-length, end-length}
-use Rattle.lister.specs.Printed.{printed_of}
 use Rattle.boundary.specs.Listed.{buffer_size, ListingFits, PrintsAll}
+use Rattle.octets.specs.declared.Refusal.{Refusal}
 
 -- ---- a request line has 12 octets at least
 
-abbrev Long : List ℕ → RequestLine → Type 0
-Long w (request-line.Of m p) = 12 ≤ length w
-Long w (request-line.Bad n) = Unit {0}
+abbrev Long : List ℕ → Result RequestLine Refusal → Type 0
+Long w (Ok q) = 12 ≤ length w
+Long w (Err n) = Unit {0}
 
 no : {A : Type 0} → ◌≡◌ {A = ℕ} 0 1 → A
 no z = absurd (omega arith)
@@ -59,17 +55,17 @@ no z = absurd (omega arith)
 lens-long : (scheme : ℕ) (w : List ℕ) → Long w (request_lens scheme w)
 lens-long scheme w = on (request_lens scheme w) refl
   where
-    on : (x : RequestLine) → request_lens scheme w ≡ x → Long w x
-    on (request-line.Of m y) e = let v = request-view scheme w m y e in omega (arith, v.some, v.more, v.size)
-    on (request-line.Bad n) e = tt
+    on : (x : Result RequestLine Refusal) → request_lens scheme w ≡ x → Long w x
+    on (Ok q) e = let v = request-view scheme w q.method q.target e in omega (arith, v.some, v.more, v.size)
+    on (Err n) e = tt
 
 line-long : (scheme at : ℕ) (w : List ℕ) → Judges (λ n p. Unit {0}) (λ x. 12 ≤ length w) (request_of scheme (piece at w))
 unfolding request_of
 line-long scheme at w = on (request_lens scheme w) (lens-long scheme w)
   where
-    on : (x : RequestLine) → Long w x → Judges (λ n p. Unit {0}) (λ q. 12 ≤ length w) (on_request (piece at w) x)
-    on (request-line.Of m p) h = h
-    on (request-line.Bad n) h = tt
+    on : (x : Result RequestLine Refusal) → Long w x → Judges (λ n p. Unit {0}) (λ q. 12 ≤ length w) (on_request (piece at w) x)
+    on (Ok q) h = h
+    on (Err n) h = tt
 
 -- ---- a request has 16
 

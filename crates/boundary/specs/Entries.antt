@@ -1,8 +1,7 @@
 -- The C entries under demand 1 (00: "It can be given arbitrary input and lent space .. A refusal names its number and the byte where it arose, and not one
 -- byte of the space lent for output is altered"). What a call of an entry answers and leaves is what its promise says (capi/Entries: `Entered`,
 -- `EntryServed`, `EntryTaken`, `FieldEntered`); here that is said in the demands' words, of every input and every lent space: `Boundary`.
-use Rattle.std.specs.Prelude.{ℕ, ◌+◌, ◌≤◌, ◌≡◌, true, List, [], ◌∷◌, ◌++◌, length, drop}
-use Rattle.std.proofs.Math.Option.{none, some}
+use Rattle.std.specs.Prelude.{ℕ, ◌+◌, ◌≤◌, ◌≡◌, List, [], ◌∷◌, ◌++◌, length, drop, Some, None}
 use Rattle.script.specs.Script.{Answer, accepted}
 use Rattle.script.specs.Do.{Piece}
 use Rattle.messages.specs.declared.Told.{Told}
@@ -13,7 +12,7 @@ use Rattle.binary.specs.Read.{read_binary}
 use Rattle.binary_sound.specs.Sound.{binary_numbers}
 use Rattle.output.specs.Reply.{Reply, writes}
 use Rattle.turn.specs.Turn.{request_to_binary, response_to_binary, binary_to_binary, binary_to_http1}
-use Rattle.turn.specs.Question.{Question, request_question, response_question, binary_question}
+use Rattle.turn.specs.Question.{Question, found_part, request_question, response_question, binary_question}
 use Rattle.question.specs.Asking.{asked_of, Answered}
 use Rattle.listing.specs.Listing.{listing_of}
 use Rattle.demands.specs.Demand1.{RefusalOf, read_number}
@@ -61,19 +60,19 @@ pub record EntryAsks (numbers : List ℕ) (ask : List ℕ → List ℕ → Quest
   pub numbered : (name s : List ℕ) (number place start len answer : ℕ) → FieldEntered (asked_of (ask name s)) number place start len answer
       → RefusalOf (0 ∷ numbers) s number place
   pub found : (name s : List ℕ) (number place start len answer : ℕ) → FieldEntered (asked_of (ask name s)) number place start len answer → answer ≡ 1
-      → (w : Piece) × ((ask name s).found ≡ some w) × (start ≡ w.place) × (len ≡ length w.text)
+      → (w : Piece) × (found_part (ask name s) ≡ Some w) × (start ≡ w.place) × (len ≡ length w.text)
   pub default : (name s : List ℕ) (number place start len answer : ℕ) → FieldEntered (asked_of (ask name s)) number place start len answer → (answer ≡ 1 → ⊥)
-      → ((ask name s).found ≡ none) × (answer ≡ 0) × (start ≡ 0) × (len ≡ 0)
+      → (found_part (ask name s) ≡ None) × (answer ≡ 0) × (start ≡ 0) × (len ≡ 0)
 
 -- the same in Rust, which is handed a slice: where nothing is found it is the default, else the part of the message, octets and place in memory
 pub record SliceAsks (numbers : List ℕ) (ask : List ℕ → List ℕ → Question) : Type 0 where
   pub numbered : (name s default : List ℕ) (message-at default-at : ℕ × ℕ) (octets : List ℕ) (at : ℕ × ℕ) (number place : ℕ)
       → Answered (ask name s) default message-at default-at octets at number place → RefusalOf (0 ∷ numbers) s number place
   pub found : (name s default : List ℕ) (message-at default-at : ℕ × ℕ) (octets : List ℕ) (at : ℕ × ℕ) (number place : ℕ)
-      → Answered (ask name s) default message-at default-at octets at number place → (w : Piece) → (ask name s).found ≡ some w
+      → Answered (ask name s) default message-at default-at octets at number place → (w : Piece) → found_part (ask name s) ≡ Some w
       → (octets ≡ w.text) × (at ≡ (message-at.0, w.place + message-at.1))
   pub default : (name s default : List ℕ) (message-at default-at : ℕ × ℕ) (octets : List ℕ) (at : ℕ × ℕ) (number place : ℕ)
-      → Answered (ask name s) default message-at default-at octets at number place → (ask name s).found ≡ none → (octets ≡ default) × (at ≡ default-at)
+      → Answered (ask name s) default message-at default-at octets at number place → found_part (ask name s) ≡ None → (octets ≡ default) × (at ≡ default-at)
 
 -- ---- the claim
 

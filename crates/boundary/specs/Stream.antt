@@ -1,6 +1,6 @@
 -- Demand 3 of the entry that the box calls (00; 01, "Streams under one scheme"): a list of calls of `ospirnar_binary_to_http1` in one lent space, each as its
 -- promise says (capi: `EntryServed`), is a list of demand 3's calls, so that every sentence of `Demand3` speaks of it.
-use Rattle.std.specs.Prelude.{ℕ, ◌+◌, ◌≡◌, cond, List, [], ◌∷◌, ◌++◌, eqb, take, drop}
+use Rattle.std.specs.Prelude.{ℕ, ◌+◌, ◌≡◌, cond, List, [], ◌∷◌, ◌++◌, eqb, take}
 use Rattle.messages.specs.Told.{plain, answering, keeping, in_edition}
 use Rattle.messages.specs.declared.Told.{Told}
 use Rattle.turn.specs.Turn.{binary_to_http1}

@@ -1,12 +1,12 @@
 -- What stands at a place, from the tests of the code.
-use Prim.Native.Nat.{ℕ, ◌+◌, ◌*◌, ◌-◌, ◌/◌, ◌%◌, ◌≤◌, ◌<◌}
-use mathlib.Core.Path.{◌≡◌, refl, sym, ap, subst, ◌∙◌}
-use mathlib.Core.Bool.{Bool, true, false, cond}
-use mathlib.Core.List.{List, [], ◌∷◌}
+use Prim.Native.Nat.{ℕ, ◌+◌, ◌*◌, ◌-◌, ◌≤◌, ◌<◌}
+use mathlib.Core.Path.{◌≡◌, sym, ◌∙◌}
+use mathlib.Core.Bool.{true, false}
+use mathlib.Core.List.{List}
 use native.Mathlib.Omega.{arith}
 use native.Mathlib.Nat.{add-zero}
 use borrow.Author.Tests.{le-leb, lt-leb, le-ltb, lt-ltb, eq-eqb, ne_eqb}
-use lib.Dec.{leb, ltb, eqb}
+use lib.Dec.{leb, ltb}
 use lib.ListN.{length, get_or, take, drop, length-drop, drop_of_length-le}
 use lib.Seq.{get_or-drop, drop-drop}
 use Rattle.octets.specs.Limits.{binary_most}
@@ -65,7 +65,7 @@ module _ (s : List ℕ) (w : ℕ) where
           head-bad n v z = sym (by-message ∙ rw (← v, ne_eqb n 0 z))
 
 module _ (s : List ℕ) (at left : ℕ) where
-  pub next-end : length s ≤ at → next.Stop 0 ≡ next_at left (drop at s)
+  pub next-end : length s ≤ at → next.End ≡ next_at left (drop at s)
   unfolding next_at is_empty
   next-end h = rw (drop_of_length-le s h)
 

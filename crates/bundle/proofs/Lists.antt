@@ -1,27 +1,26 @@
 -- The loops over the entries of a bundle that was walked, and a flock's list.
-use Prim.Native.Nat.{ℕ, zero, suc, ◌+◌, ◌*◌, ◌-◌, ◌/◌, ◌%◌, ◌≤◌, ◌<◌}
-use mathlib.Core.Path.{◌≡◌, refl, sym, ap, subst, ◌∙◌}
+use Prim.Native.Nat.{ℕ, zero, suc, ◌+◌, ◌*◌, ◌-◌, ◌≤◌, ◌<◌}
+use mathlib.Core.Path.{◌≡◌, refl, sym, ap, ◌∙◌}
 use mathlib.Core.Bool.{Bool, true, false, cond}
 use mathlib.Core.List.{List, [], ◌∷◌, ◌++◌}
 use native.Mathlib.Omega.{arith}
 use borrow.Author.Tests.{le-leb, eq-eqb, ne_eqb}
-use lib.Dec.{leb, eqb}
-use lib.ListN.{length, take, drop, length-drop, length-append}
+use lib.Dec.{eqb}
+use lib.ListN.{length, drop, length-drop, length-append}
 use lib.Seq.{drop-drop, take-add}
-use Rattle.octets.specs.Refusals.{too_large, bad_entry}
-use Rattle.output.specs.Splice.{splice, part, lies_within, Put, PutIf, Left}
-use Rattle.output.specs.Reply.{Reply, writes, refuses, Served}
-use Rattle.output.specs.declared.Written.{Written}
-use Rattle.output.specs.declared.Written.TheVariants.{Done, Refused}
+use Rattle.octets.specs.Refusals.{too_large, bad_entry, refused_at}
+use Rattle.output.specs.Splice.{part, lies_within, Put, PutIf, Left}
+use Rattle.output.specs.Reply.{writes, Served, Written}
 use Rattle.output.proofs.Laws.{elements-take, elements-length, left-start, left_step, left_end}
 use Rattle.output.proofs.Room.{put_of}
 use Rattle.output.proofs.Serve.{serve-wrong}
-use Rattle.bundle.specs.Bundle.{word_of, flock_of, length_of, is_flock, text_of, next_at, Entry, entry_octets, entries_octets, Walk, ends_at, follows, entry_at, onward, walk_from, walk, pick_if, is_of, of_flock, list_from, flock_list}
+use Rattle.bundle.specs.Bundle.{word_of, flock_of, length_of, is_flock, next_at, Entry, entry_octets, entries_octets, ends_at, follows, entry_at, onward, walk_from, walk, pick_if, is_of, of_flock, flock_list}
 use Rattle.bundle.specs.Answers.{bundle_of}
 use Rattle.bundle.specs.declared.Next.{Next}
 use Rattle.bundle.specs.declared.Next.TheVariants as next
 use Rattle.bundle.specs.declared.Bundle.{Bundle}
-use Rattle.bundle.proofs.Walks.{Stands, stands, word-taken, text-length, walk-entry, rest_at}
+use Rattle.bundle.proofs.Walks.{Stands, stands, word-taken, walk-entry, rest_at}
+use Rattle.std.proofs.Common.{Err}
 
 -- ---- where a walk has entries, one stands
 
@@ -31,11 +30,13 @@ has-entry zero at s = go (next_at zero s) refl
   where
     go : (x : Next) → x ≡ next_at zero s → 0 < length (onward x at s (λ a r. ends_at a too_large)).entries → next.Entry (word_of s) ≡ next_at zero s
     go (next.Entry w) e h = let z = (stands zero s w e).some in absurd (omega arith)
+    go next.End e h = absurd (omega arith)
     go (next.Stop k) e h = absurd (omega arith)
 has-entry (suc left) at s = go (next_at (suc left) s) refl
   where
     go : (x : Next) → x ≡ next_at (suc left) s → 0 < length (onward x at s (walk_from left)).entries → next.Entry (word_of s) ≡ next_at (suc left) s
     go (next.Entry w) e h = ap (λ (v : ℕ). next.Entry v) (sym (stands (suc left) s w e).word) ∙ e
+    go next.End e h = absurd (omega arith)
     go (next.Stop k) e h = absurd (omega arith)
 
 -- its octets, as they stand
@@ -189,7 +190,7 @@ module _ (f : ℕ) (s : List ℕ) {b : Bundle} (e : b ≡ bundle_of (walk s)) wh
   number : b.number ≡ (walk s).stop
   number = ap (λ (x : Bundle). x.number) e
 
-  pub list-stops : (o : List ℕ) → (b.number ≡ 0 → ⊥) → Served (flock_list f s) o o (Refused b.number b.end)
+  pub list-stops : (o : List ℕ) → (b.number ≡ 0 → ⊥) → Served (flock_list f s) o o (Err (refused_at b.number b.end))
   unfolding flock_list
   list-stops o n =
       let z : eqb (walk s).stop 0 ≡ false = ne_eqb (walk s).stop 0 (λ q. n (number ∙ q)) in
@@ -200,7 +201,7 @@ module _ (f : ℕ) (s : List ℕ) {b : Bundle} (e : b ≡ bundle_of (walk s)) wh
     zero-stop : eqb (walk s).stop 0 ≡ true
     zero-stop = eq-eqb (walk s).stop 0 (sym number ∙ n)
 
-    pub list-flockless : (o : List ℕ) → is_flock f ≡ false → Served (flock_list f s) o o (Refused bad_entry 0)
+    pub list-flockless : (o : List ℕ) → is_flock f ≡ false → Served (flock_list f s) o o (Err (refused_at bad_entry 0))
     unfolding flock_list
     list-flockless o g = rw (zero-stop, g) (serve-wrong o bad_entry 0)
 

@@ -1,34 +1,32 @@
 -- The verdict on an entry's message, from what the Binary reader and the Binary writer answer.
-use Prim.Native.Nat.{ℕ, ◌+◌, ◌≤◌, ◌<◌}
+use Prim.Native.Nat.{ℕ, ◌+◌, ◌≤◌}
 use mathlib.Core.Path.{◌≡◌, refl, sym, ap, subst, ◌∙◌}
 use mathlib.Core.Bool.{Bool, true, false, cond}
 use mathlib.Core.List.{List, ◌++◌}
 use native.Mathlib.Omega.{arith}
-use borrow.Author.Tests.{le-leb, leb-true, eqb-true, eq-eqb, ne_eqb}
+use borrow.Author.Tests.{le-leb, leb-true}
 use lib.Dec.{leb, eqb}
 use lib.ListN.{length, take, drop}
 use lib.Seq.{take-append_seam}
 use Rattle.octets.specs.Text.{same_text}
-use Rattle.octets.specs.Refusals.{more_needed, too_large, no_room, bad_entry}
-use Rattle.octets.proofs.Kit.{no_true}
-use Rattle.script.specs.Script.{Answer, accepted, refused, more}
+use Rattle.octets.specs.declared.Refused.{Refused}
+use Rattle.octets.specs.Refusals.{more_needed, too_large, no_room, bad_entry, refused_at}
 use Rattle.messages.specs.Message.{Start, request_start, response_start, is_response, Message}
 use Rattle.messages.specs.Meaning.{Meaning, meaning}
 use Rattle.messages.specs.Told.{plain}
 use Rattle.messages.specs.declared.Told.{Told}
 use Rattle.messages.specs.Answers.{record_from, record_of}
 use Rattle.messages.specs.declared.Record.{Record}
-use Rattle.messages.specs.declared.Outcome.{Outcome}
-use Rattle.messages.specs.declared.Outcome.TheVariants as outcome
+use Rattle.messages.specs.Answers.{Outcome}
+use Rattle.std.proofs.Common.{Ok, Err}
+use Rattle.messages.specs.declared.Stop.{Stop}
 use Rattle.binary.specs.Read.{read_binary}
 use Rattle.binary_sound.proofs.Sound.{binary-sound}
 use Rattle.binary_writer.specs.Write.{binary_of, binary_fits, to_binary}
 use Rattle.ranges.specs.Ranges.{Responded, Held}
 use Rattle.ranges.proofs.Outcomes.{IsHeld, held, given-refusal, given-more, response-outcomed}
 use Rattle.output.specs.Splice.{splice}
-use Rattle.output.specs.Reply.{Reply, writes, refuses, written_of, lent_after, Served}
-use Rattle.output.specs.declared.Written.{Written}
-use Rattle.output.specs.declared.Written.TheVariants.{Done, Refused}
+use Rattle.output.specs.Reply.{Reply, writes, refuses, written_of, lent_after, Served, Written}
 use Rattle.output.proofs.Laws.{splice-is}
 use Rattle.bundle.specs.Bundle.{read_message, kind_number, is_written, verdict_on, message_verdict}
 
@@ -48,11 +46,11 @@ small x = go (leb (length (binary_of x)) 65535) refl
     go false e = tt
 
 -- where such a reply is served in enough room, a refusal is the reply's own, and octets stand at the front
-pub form-refused : (y : Reply) (s : List ℕ) {o o' : List ℕ} {k p : ℕ} → IsSmall y → 65535 ≤ length o → Served y o o' (Refused k p) → false ≡ is_written y s
+pub form-refused : (y : Reply) (s : List ℕ) {o o' : List ℕ} {x : Refused} → IsSmall y → 65535 ≤ length o → Served y o o' (Err x) → false ≡ is_written y s
 unfolding written_of
-form-refused (writes bs) s {o} {o'} {k} {p} h r v =
+form-refused (writes bs) s {o} {o'} {x} h r v =
     let e : leb (length bs) (length o) ≡ true = le-leb (length bs) (length o) (omega (arith, h, r)) in
-    let a : Refused k p ≡ Done (length bs) = v.answer ∙ rw e in
+    let a : Err x ≡ Ok (length bs) = v.answer ∙ rw e in
     let z : ◌≡◌ {A = ℕ} 0 1 = cc in absurd (omega arith)
 form-refused (refuses a b) s h r v = refl
 
@@ -64,14 +62,14 @@ pub record Stand (y : Reply) (o' : List ℕ) (n : ℕ) : Type 0 where
   pub size : n ≡ length front
   pub stands : take n o' ≡ front
 
-no-done : {A : Type 0} {n k p : ℕ} → Done n ≡ Refused k p → A
+no-done : {A : Type 0} {n k p : ℕ} → Ok n ≡ Err (refused_at k p) → A
 no-done e = let z : ◌≡◌ {A = ℕ} 0 1 = cc in absurd (omega arith)
 
-pub done-stand : (y : Reply) {o o' : List ℕ} {n : ℕ} → Served y o o' (Done n) → Stand y o' n
+pub done-stand : (y : Reply) {o o' : List ℕ} {n : ℕ} → Served y o o' (Ok n) → Stand y o' n
 unfolding written_of lent_after
 done-stand (writes bs) {o} {o'} {n} v = go (leb (length bs) (length o)) refl v.answer v.after
   where
-    go : (b : Bool) → leb (length bs) (length o) ≡ b → Done n ≡ cond b (Done (length bs)) (Refused no_room 0) → o' ≡ cond b (splice o 0 bs) o → Stand (writes bs) o' n
+    go : (b : Bool) → leb (length bs) (length o) ≡ b → Ok n ≡ cond b (Ok (length bs)) (Err (refused_at no_room 0)) → o' ≡ cond b (splice o 0 bs) o → Stand (writes bs) o' n
     go true e a w =
         let m : n ≡ length bs = cc in
         let l = leb-true (length bs) (length o) e in
@@ -87,7 +85,7 @@ done-stand (writes bs) {o} {o'} {n} v = go (leb (length bs) (length o)) refl v.a
     go false e a w = no-done a
 done-stand (refuses k p) v = no-done v.answer
 
-pub form-done : (y : Reply) (s : List ℕ) {o o' : List ℕ} {n : ℕ} {r : Bool} → Served y o o' (Done n) → r ≡ same_text (take n o') s → r ≡ is_written y s
+pub form-done : (y : Reply) (s : List ℕ) {o o' : List ℕ} {n : ℕ} {r : Bool} → Served y o o' (Ok n) → r ≡ same_text (take n o') s → r ≡ is_written y s
 form-done y s {n = n} v e =
     let d = done-stand y v in
     e ∙ ap (λ (x : List ℕ). same_text x s) d.stands ∙ ap (λ (x : Reply). is_written x s) (sym d.wrote)
@@ -116,17 +114,17 @@ told-nothing s {hs = hs} {hs' = hs'} {ns = ns} {ns' = ns'} {cs = cs} {cs' = cs'}
     subst (λ (t : Told). Responded (read_binary t s) hs hs' ns ns' cs cs' ts ts' o) e h
 
 pub message-held : (s : List ℕ) {hs hs' ns ns' cs cs' ts ts' : List ℕ} {o : Outcome} {r : Record} → Responded (read_message s) hs hs' ns ns' cs cs' ts ts' o
-    → o ≡ outcome.Message r → 1280 ≤ length hs → 8 ≤ length ns → 512 ≤ length cs → 256 ≤ length ts → IsHeld (read_message s) s r hs' ns' cs' ts'
+    → o ≡ Ok r → 1280 ≤ length hs → 8 ≤ length ns → 512 ≤ length cs → 256 ≤ length ts → IsHeld (read_message s) s r hs' ns' cs' ts'
 message-held s h e = held s h e (λ n m q. (binary-sound (plain 0) s n m q).sound)
 
 module _ (kind : ℕ) (s : List ℕ) where
-  pub verdict-more : {hs hs' ns ns' cs cs' ts ts' : List ℕ} {o : Outcome} → Responded (read_message s) hs hs' ns ns' cs cs' ts ts' o → o ≡ outcome.More
+  pub verdict-more : {hs hs' ns ns' cs cs' ts ts' : List ℕ} {o : Outcome} → Responded (read_message s) hs hs' ns ns' cs cs' ts ts' o → o ≡ Err Stop.More
       → more_needed ≡ message_verdict kind s
   unfolding message_verdict
   verdict-more h e = sym (ap (verdict_on kind s) (given-more (response-outcomed h) e))
 
   pub verdict-refused : {hs hs' ns ns' cs cs' ts ts' : List ℕ} {o : Outcome} → Responded (read_message s) hs hs' ns ns' cs cs' ts ts' o → (k p : ℕ)
-      → o ≡ outcome.Refusal k p → k ≡ message_verdict kind s
+      → o ≡ Err (Stop.Refused (refused_at k p)) → k ≡ message_verdict kind s
   unfolding message_verdict
   verdict-refused h k p e = sym (ap (verdict_on kind s) (given-refusal (response-outcomed h) k p e))
 

@@ -1,26 +1,24 @@
 -- The walk, entry by entry: what it says of an entry that stands at a place, and how the loop of the reader goes on.
-use Prim.Native.Nat.{ℕ, zero, suc, ◌+◌, ◌*◌, ◌-◌, ◌%◌, ◌≤◌, ◌<◌}
-use mathlib.Core.Path.{◌≡◌, refl, sym, ap, subst, ◌∙◌}
-use mathlib.Core.Bool.{Bool, true, false, cond}
-use mathlib.Core.List.{List, [], ◌∷◌, ◌++◌, append-nil}
+use Prim.Native.Nat.{ℕ, zero, suc, ◌+◌, ◌*◌, ◌-◌, ◌≤◌, ◌<◌}
+use mathlib.Core.Path.{◌≡◌, refl, sym, ap, ◌∙◌}
+use mathlib.Core.Bool.{true}
+use mathlib.Core.List.{List, [], ◌∷◌}
 use native.Mathlib.Omega.{arith}
-use native.Mathlib.Nat.{add-zero}
-use borrow.Author.Tests.{le-leb, lt-leb, le-ltb, lt-ltb, eq-eqb, ne_eqb, leb-true, leb-false, ltb-true, ltb-false, eqb-true, eqb-false}
+use borrow.Author.Tests.{leb-true, ltb-true, eqb-true, eqb-false}
 use lib.Dec.{leb, ltb, eqb}
-use lib.ListN.{length, get_or, take, drop, replicate, length-drop}
+use lib.ListN.{length, take, drop, replicate, length-drop}
 use lib.Seq.{get_or-take, drop-drop, length-take-le}
-use Rattle.octets.specs.Limits.{binary_most, entries_most}
-use Rattle.octets.specs.Refusals.{too_large, cut_off, bad_entry}
+use Rattle.octets.specs.Limits.{binary_most}
+use Rattle.octets.specs.Refusals.{too_large}
 use Rattle.octets.specs.Text.{is_empty}
 use Rattle.octets.proofs.Kit.{past, into}
 use Rattle.output.specs.Splice.{splice}
 use Rattle.output.proofs.Laws.{splice-append, splice-length}
 use Rattle.ranges.proofs.ByValue.{zeros-padded}
-use Rattle.bundle.specs.Bundle.{word_of, flock_of, kind_of, length_of, is_flock, message_verdict, judged, text_of, headed, next_at, Entry, Walk, ends_at, follows, entry_at, onward, walk_from, walk}
-use Rattle.bundle.specs.Answers.{entry_numbers, numbers_from, bundle_of, Walked}
+use Rattle.bundle.specs.Bundle.{word_of, flock_of, kind_of, length_of, is_flock, message_verdict, text_of, headed, next_at, Entry, Walk, ends_at, follows, entry_at, onward, walk_from, walk}
+use Rattle.bundle.specs.Answers.{numbers_from, bundle_of, Walked}
 use Rattle.bundle.specs.declared.Next.{Next}
 use Rattle.bundle.specs.declared.Next.TheVariants as next
-use Rattle.bundle.specs.declared.Bundle.{Bundle}
 
 -- ---- an entry that stands at the front of s
 
@@ -33,6 +31,9 @@ pub record Stands (left : ℕ) (s : List ℕ) (w : ℕ) : Type 0 where
   pub whole : 4 + length_of w ≤ length s
   pub good : message_verdict (kind_of w) (text_of s w) ≡ 0
 
+no_end : {w : ℕ} → next.End ≡ next.Entry w → ⊥
+no_end e = let z : ◌≡◌ {A = ℕ} 0 1 = cc in omega arith
+
 no_stop : {k w : ℕ} → next.Stop k ≡ next.Entry w → ⊥
 no_stop e = let z : ◌≡◌ {A = ℕ} 0 1 = cc in omega arith
 
@@ -42,7 +43,7 @@ same_word e = cc
 pub stands : (left : ℕ) (s : List ℕ) (w : ℕ) → next.Entry w ≡ next_at left s → Stands left s w
 unfolding next_at headed
 stands left s w e =
-    let a = past no_stop (is_empty s) _ (sym e) in
+    let a = past no_end (is_empty s) _ (sym e) in
     let b = past no_stop (ltb (length s) 4) _ a.1 in
     let c = past no_stop (eqb left 0) _ b.1 in
     let v = word_of s in
@@ -86,6 +87,11 @@ unfolding walk_from
 walk-stop zero at s k e = ap (λ (x : Next). onward x at s (λ a r. ends_at a too_large)) (sym e)
 walk-stop (suc left) at s k e = ap (λ (x : Next). onward x at s (walk_from left)) (sym e)
 
+pub walk-end : (left at : ℕ) (s : List ℕ) → next.End ≡ next_at left s → walk_from left at s ≡ ends_at at 0
+unfolding walk_from
+walk-end zero at s e = ap (λ (x : Next). onward x at s (λ a r. ends_at a too_large)) (sym e)
+walk-end (suc left) at s e = ap (λ (x : Next). onward x at s (walk_from left)) (sym e)
+
 -- ---- the loop of the reader: behind `count` entries, at the place `at`, o₀ has become o
 
 abbrev pub rest_at : List ℕ → ℕ → ℕ → Walk
@@ -107,15 +113,20 @@ walking_start s o =
     record { few = omega arith; within = omega arith; below = omega arith; kept = refl; counted = omega arith; ended = refl; stopped = refl; stored = refl }
 
 module _ {s o₀ o : List ℕ} {count at : ℕ} (h : Walking s o₀ o count at) where
-  pub walking-end : (k : ℕ) → next.Stop k ≡ next_at (256 - count) (drop at s) → Walked (walk s) o₀ o count at k
+  walking-off : (k : ℕ) → rest_at s count at ≡ ends_at at k → Walked (walk s) o₀ o count at k
   unfolding numbers_from
-  walking-end k e =
-      let q = walk-stop (256 - count) at (drop at s) k e in
+  walking-off k q =
       let a = rw q at h.counted in
       let b = rw q at h.ended in
       let c = rw q at h.stopped in
       let d = rw q at h.stored in
       record { counted = omega (arith, a); ended = b; stopped = c; stored = d }
+
+  pub walking-end : next.End ≡ next_at (256 - count) (drop at s) → Walked (walk s) o₀ o count at 0
+  walking-end e = walking-off 0 (walk-end (256 - count) at (drop at s) e)
+
+  pub walking-stop : (k : ℕ) → next.Stop k ≡ next_at (256 - count) (drop at s) → Walked (walk s) o₀ o count at k
+  walking-stop k e = walking-off k (walk-stop (256 - count) at (drop at s) k e)
 
   module _ (w : ℕ) (e : next.Entry w ≡ next_at (256 - count) (drop at s)) where
     pub here : Stands (256 - count) (drop at s) w
@@ -160,11 +171,13 @@ walk-few zero at s = go (next_at zero s) refl
   where
     go : (x : Next) → x ≡ next_at zero s → length (onward x at s (λ a r. ends_at a too_large)).entries ≤ 0
     go (next.Entry w) e = let h = (stands zero s w e).some in absurd (omega arith)
+    go next.End e = omega arith
     go (next.Stop k) e = omega arith
 walk-few (suc left) at s = go (next_at (suc left) s) (walk-few left)
   where
     go : (x : Next) → ((a : ℕ) (r : List ℕ) → length (walk_from left a r).entries ≤ left) → length (onward x at s (walk_from left)).entries ≤ suc left
     go (next.Entry w) h = let k = h (at + (4 + length_of w)) (drop (4 + length_of w) s) in omega arith
+    go next.End h = omega arith
     go (next.Stop k) h = omega arith
 
 pub few-entries : (s : List ℕ) → length (walk s).entries ≤ 256
@@ -177,6 +190,7 @@ walk-within zero at s = go (next_at zero s) refl
   where
     go : (x : Next) → x ≡ next_at zero s → (onward x at s (λ a r. ends_at a too_large)).end ≤ at + length s
     go (next.Entry w) e = let h = (stands zero s w e).some in absurd (omega arith)
+    go next.End e = omega arith
     go (next.Stop k) e = omega arith
 walk-within (suc left) at s = go (next_at (suc left) s) refl (walk-within left)
   where
@@ -184,6 +198,7 @@ walk-within (suc left) at s = go (next_at (suc left) s) refl (walk-within left)
     go (next.Entry w) e h =
         let k = h (at + (4 + length_of w)) (drop (4 + length_of w) s) in
         omega (arith, k, (stands (suc left) s w e).whole, length-drop (4 + length_of w) s)
+    go next.End e h = omega arith
     go (next.Stop k) e h = omega arith
 
 pub end-within : (s : List ℕ) → (walk s).end ≤ length s

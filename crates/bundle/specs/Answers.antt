@@ -8,7 +8,6 @@ use Rattle.messages.specs.declared.Record.{Record}
 use Rattle.ranges.specs.Ranges.{Held}
 use Rattle.binary_writer.specs.Write.{to_binary}
 use Rattle.octets.specs.Limits.{binary_most, entries_most}
-use Rattle.octets.specs.Table.{classes}
 use Rattle.output.specs.Splice.{splice, part, lies_within, Put, PutIf}
 use Rattle.bundle.specs.Bundle.{Entry, word_of, is_written, Walk, list_octets}
 use Rattle.bundle.specs.declared.Bundle.{Bundle}
@@ -37,10 +36,10 @@ pub record Walked (w : Walk) (o o' : List ℕ) (count end number : ℕ) : Type 0
   pub stopped : number ≡ w.stop
   pub stored : o' ≡ splice o 0 (numbers_from 0 w.entries)
 
--- what is lent to judge a message: the table of classes, room for its ranges, and for what is written of it
-abbrev pub Lent : List ℕ → List ℕ → List ℕ → List ℕ → List ℕ → List ℕ → Type 0
-Lent t hs ns cs ts scratch =
-    (t ≡ classes) × (heads_room ≤ length hs) × (informational_room ≤ length ns) × (chunks_room ≤ length cs) × (section_room ≤ length ts)
+-- what is lent to judge a message: room for its ranges, and for what is written of it
+abbrev pub Lent : List ℕ → List ℕ → List ℕ → List ℕ → List ℕ → Type 0
+Lent hs ns cs ts scratch =
+    (heads_room ≤ length hs) × (informational_room ≤ length ns) × (chunks_room ≤ length cs) × (section_room ≤ length ts)
     × (binary_most ≤ length scratch)
 
 -- n octets of s from a place on, put into o from w on if they are picked and there is room

@@ -124,10 +124,10 @@ headed s w =
     (next.Stop bad_entry))
     (next.Stop bad_entry)
 
--- the end of the octets is a stop by 0; "Order: cut head, count, .."
+-- "Order: cut head, count, .."
 unfoldable pub next_at : ℕ → List ℕ → Next
 next_at left s =
-    cond (is_empty s) (next.Stop 0) (cond (ltb (length s) 4) (next.Stop cut_off) (cond (eqb left 0) (next.Stop too_large) (headed s (word_of s))))
+    cond (is_empty s) next.End (cond (ltb (length s) 4) (next.Stop cut_off) (cond (eqb left 0) (next.Stop too_large) (headed s (word_of s))))
 
 -- ---- the walk
 
@@ -153,6 +153,7 @@ entry_at s w = record { head = take 4 s; text = text_of s w }
 -- what stands at the front of s, which is at the place `at`, and the walk behind it
 abbrev pub onward : Next → ℕ → List ℕ → (ℕ → List ℕ → Walk) → Walk
 onward (next.Entry w) at s rest = follows (entry_at s w) (rest (at + (4 + length_of w)) (drop (4 + length_of w) s))
+onward next.End at s rest = ends_at at 0
 onward (next.Stop number) at s rest = ends_at at number
 
 -- from the place `at` on, where `left` entries more may come. With none left an entry never stands there (next_at)

@@ -1,20 +1,18 @@
 // One entry of a bundle: its head, then its message.
-ghost use Rattle.std.specs.Prelude.{◌≡◌, cond, ℕ, ◌+◌, ◌≤◌, ◌<◌, leb, eqb, length, take, drop};
+ghost use Rattle.std.specs.Prelude.{◌≡◌, ℕ, ◌+◌, ◌≤◌, ◌<◌, eqb, length, take, drop};
 ghost use Rattle.octets.specs.Text.{same_text};
 ghost use Rattle.octets.specs.Limits.{binary_most};
-ghost use Rattle.octets.specs.Table.{classes};
 ghost use Rattle.messages.specs.Message.{Message};
-ghost use Rattle.ranges.specs.Ranges.{places_end, Held};
-ghost use Rattle.bundle.specs.Bundle.{word_of, flock_of, kind_of, length_of, is_flock, kind_number, message_verdict, headed, next_at};
+ghost use Rattle.ranges.specs.Ranges.{Held};
+ghost use Rattle.bundle.specs.Bundle.{word_of, is_flock, kind_number, message_verdict, headed, next_at};
 ghost use Rattle.bundle.specs.Answers.{Lent, FormJudged};
 
 use crate::{Head, Next};
 use binary_reader::whole::binary_in;
 use binary_writer::write_message;
 use messages::call::plain;
-use messages::{Outcome, Record};
-use octets::{Limits, Refusals, equal};
-use output::Written;
+use messages::{Record, Stop};
+use octets::{ClassTable, Limits, Refusal, equal};
 
 // Whether the number is a flock's.
 pub fn is_flock(f: u32) -> bool
@@ -77,16 +75,15 @@ fn in_form(
     requires binary_most_in_bounds { binary_most ≤ length scratch.old }
     ensures { FormJudged s.now r headers.now heads.now chunks.now trailers.now result }
 {
-    let w = write_message(s, r, headers, heads, chunks, trailers, scratch);
-    match w {
-        Written::Refused { number, place } => return false,
-        Written::Done(n) => return are_first(scratch, n, s),
+    match write_message(s, r, headers, heads, chunks, trailers, scratch) {
+        Ok(n) => are_first(scratch, n, s),
+        Err(_) => false,
     }
 }
 
 // The number of a message's octets under a head of this kind, through working space; 0 is a good one.
 fn judge_message(
-    t: &[u8; 256],
+    t: &ClassTable,
     s: &[u8],
     kind: u32,
     headers: &mut [u32],
@@ -95,30 +92,30 @@ fn judge_message(
     trailers: &mut [u32],
     scratch: &mut [u8],
 ) -> u32
-    requires { Lent t.now headers.old heads.old chunks.old trailers.old scratch.old }
+    requires { Lent headers.old heads.old chunks.old trailers.old scratch.old }
     ensures { result ≡ message_verdict kind s.now }
 {
     let o = binary_in(t, s, plain(0), headers, heads, chunks, trailers);
     match o {
-        Outcome::More => return Refusals::MORE_NEEDED,
-        Outcome::Refusal { number, place } => return number,
-        Outcome::Message(r) => {
+        Err(Stop::More) => return Refusal::MoreNeeded as u32,
+        Err(Stop::Refused(e)) => return e.number,
+        Ok(r) => {
             if is_kind(kind, r.response) {
                 if in_form(s, r, headers, heads, chunks, trailers, scratch) {
                     return 0;
                 } else {
-                    return Refusals::BAD_ENTRY;
+                    return Refusal::BadEntry as u32;
                 }
             } else {
-                return Refusals::BAD_ENTRY;
+                return Refusal::BadEntry as u32;
             }
         }
     }
 }
 
 // The same, with working space of its own.
-fn message_verdict(t: &[u8; 256], s: &[u8], kind: u32, scratch: &mut [u8]) -> u32
-    requires { (t.now ≡ classes) × (binary_most ≤ length scratch.old) }
+fn message_verdict(t: &ClassTable, s: &[u8], kind: u32, scratch: &mut [u8]) -> u32
+    requires { binary_most ≤ length scratch.old }
     ensures { result ≡ message_verdict kind s.now }
 {
     let mut headers = [0u32; 1280];
@@ -138,26 +135,26 @@ fn message_verdict(t: &[u8; 256], s: &[u8], kind: u32, scratch: &mut [u8]) -> u3
 }
 
 // The entry behind a whole head at the place `at`.
-fn headed_entry(t: &[u8; 256], s: &[u8], at: usize, word: u32, scratch: &mut [u8]) -> Next
-    requires { (t.now ≡ classes) × (at + 4 ≤ length s.now) × (binary_most ≤ length scratch.old) }
+fn headed_entry(t: &ClassTable, s: &[u8], at: usize, word: u32, scratch: &mut [u8]) -> Next
+    requires { (at + 4 ≤ length s.now) × (binary_most ≤ length scratch.old) }
     ensures { result ≡ headed (drop at s.now) word }
 {
     if is_flock(word / Head::FLOCK) {
         let kind = word / Head::KIND % 4;
         if 2 <= kind {
             return Next::Stop {
-                number: Refusals::BAD_ENTRY,
+                number: Refusal::BadEntry as u32,
             };
         }
         let n = (word % Head::KIND) as usize;
         if Limits::BINARY < n {
             return Next::Stop {
-                number: Refusals::TOO_LARGE,
+                number: Refusal::TooLarge as u32,
             };
         }
         if s.len() - at - 4 < n {
             return Next::Stop {
-                number: Refusals::CUT_OFF,
+                number: Refusal::CutOff as u32,
             };
         }
         let v = message_verdict(t, &s[at + 4..at + 4 + n], kind, scratch);
@@ -167,32 +164,32 @@ fn headed_entry(t: &[u8; 256], s: &[u8], at: usize, word: u32, scratch: &mut [u8
         return Next::Stop { number: v };
     }
     Next::Stop {
-        number: Refusals::BAD_ENTRY,
+        number: Refusal::BadEntry as u32,
     }
 }
 
 // What stands at the place `at`, where `left` entries more may come.
 pub(crate) fn next_entry(
-    t: &[u8; 256],
+    t: &ClassTable,
     s: &[u8],
     at: usize,
     left: usize,
     scratch: &mut [u8],
 ) -> Next
-    requires { (t.now ≡ classes) × (at ≤ length s.now) × (binary_most ≤ length scratch.old) }
+    requires { (at ≤ length s.now) × (binary_most ≤ length scratch.old) }
     ensures { result ≡ next_at left (drop at s.now) }
 {
     if s.len() <= at {
-        return Next::Stop { number: 0 };
+        return Next::End;
     }
     if s.len() - at < 4 {
         return Next::Stop {
-            number: Refusals::CUT_OFF,
+            number: Refusal::CutOff as u32,
         };
     }
     if left == 0 {
         return Next::Stop {
-            number: Refusals::TOO_LARGE,
+            number: Refusal::TooLarge as u32,
         };
     }
     let word = word_at(s, at);

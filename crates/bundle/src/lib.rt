@@ -17,10 +17,11 @@ impl Head {
     pub const DELIVERED: u32 = 16777216;
 }
 
-// What stands at a place of a bundle: an entry by its head, or where the walk stops and why; 0 is the end of the octets.
+// What stands at a place of a bundle: an entry by its head, the end of the octets, or what stops the walk, by its number.
 #[derive(Clone, Copy)]
 pub enum Next {
     Entry { word: u32 },
+    End,
     Stop { number: u32 },
 }
 

@@ -7,7 +7,7 @@ ghost use Rattle.bundle.specs.Answers.{PickedPut, ListPut};
 use crate::Head;
 use crate::entry::{is_flock, word_at};
 use crate::reader::read_bundle;
-use octets::Refusals;
+use octets::{Refusal, Refused};
 use output::{Written, put_part};
 
 // Whether the entry of this head is the flock's, delivered or not.
@@ -42,15 +42,13 @@ fn list_size(s: &[u8], count: usize, flock: u32) -> usize
     requires { count ≡ length (walk s.now).entries }
     ensures { result ≡ length (list_octets flock (walk s.now)) }
 {
-    let mut i = 0;
     let mut at = 0;
     let mut size = 0;
-    while i < count {
+    for _i in 0..count {
         let word = word_at(s, at);
         let n = 4 + (word % Head::KIND) as usize;
         size += size_if(is_of(word, flock), n);
         at += n;
-        i += 1;
     }
     size
 }
@@ -61,15 +59,13 @@ fn put_list(s: &[u8], count: usize, flock: u32, out: &mut [u8]) -> usize
     requires s_in_bounds { length (list_octets flock (walk s.now)) ≤ length out.old }
     ensures { ListPut flock (walk s.now) out.old out.new result }
 {
-    let mut i = 0;
     let mut at = 0;
     let mut o = 0;
-    while i < count {
+    for _i in 0..count {
         let word = word_at(s, at);
         let n = 4 + (word % Head::KIND) as usize;
         o = put_if(out, o, s, at, n, is_of(word, flock));
         at += n;
-        i += 1;
     }
     o
 }
@@ -81,12 +77,9 @@ fn write_list(s: &[u8], count: usize, flock: u32, out: &mut [u8]) -> Written
 {
     let n = list_size(s, count, flock);
     if out.len() < n {
-        return Written::Refused {
-            number: Refusals::NO_ROOM,
-            place: 0,
-        };
+        return Err(Refusal::NoRoom.at(0));
     }
-    Written::Done(put_list(s, count, flock, out))
+    Ok(put_list(s, count, flock, out))
 }
 
 // The list of a flock. A refusal writes nothing.
@@ -97,15 +90,11 @@ pub fn flock_list(s: &[u8], flock: u32, out: &mut [u8]) -> Written
     if b.number == 0 {
         if is_flock(flock) {
             return write_list(s, b.count, flock, out);
-        } else {
-            return Written::Refused {
-                number: Refusals::BAD_ENTRY,
-                place: 0,
-            };
         }
+        return Err(Refusal::BadEntry.at(0));
     }
-    Written::Refused {
+    Err(Refused {
         number: b.number,
         place: b.end,
-    }
+    })
 }

@@ -1,14 +1,13 @@
 // The reader of a bundle: one walk over its octets.
-ghost use Rattle.std.specs.Prelude.{◌≡◌, [], ◌∷◌, ◌+◌, ◌*◌, ◌≤◌, length};
+ghost use Rattle.std.specs.Prelude.{◌≡◌, ◌≤◌, length};
 ghost use Rattle.octets.specs.Limits.{binary_most};
-ghost use Rattle.octets.specs.Table.{classes};
-ghost use Rattle.output.specs.Splice.{splice};
 ghost use Rattle.bundle.specs.Bundle.{walk};
 ghost use Rattle.bundle.specs.Answers.{entries_room, bundle_of, Walked};
 
 use crate::entry::next_entry;
 use crate::{Bundle, Head, Next};
-use octets::{Limits, class_table};
+use octets::{ClassTable, Limits};
+use ranges::store;
 
 // How a walk ended: after so many entries, at a place, by a number.
 #[derive(Clone, Copy)]
@@ -18,20 +17,9 @@ struct Ended {
     number: u32,
 }
 
-// Three numbers are stored as the entry k: head, start and length.
-fn store_entry(out: &mut [u32], k: usize, word: u32, start: u32, len: u32)
-    requires { k * 3 + 3 ≤ length out.old }
-    ensures { out.new ≡ splice out.old (k * 3) (word ∷ start ∷ len ∷ []) }
-{
-    let at = k * 3;
-    out[at] = word;
-    out[at + 1] = start;
-    out[at + 1 + 1] = len;
-}
-
-// The walk, each entry's numbers into lent space.
-fn walk_into(t: &[u8; 256], s: &[u8], out: &mut [u32], scratch: &mut [u8]) -> Ended
-    requires { (t.now ≡ classes) × (entries_room ≤ length out.old) × (binary_most ≤ length scratch.old) }
+// The walk, each entry's head, start and length into lent space.
+fn walk_into(t: &ClassTable, s: &[u8], out: &mut [u32], scratch: &mut [u8]) -> Ended
+    requires { (entries_room ≤ length out.old) × (binary_most ≤ length scratch.old) }
     ensures { Walked (walk s.now) out.old out.new result.count result.end result.number }
 {
     let mut at = 0;
@@ -39,6 +27,11 @@ fn walk_into(t: &[u8; 256], s: &[u8], out: &mut [u32], scratch: &mut [u8]) -> En
     loop {
         let next = next_entry(t, s, at, Limits::ENTRIES - count, scratch);
         match next {
+            Next::End => return Ended {
+                count,
+                end: at,
+                number: 0,
+            },
             Next::Stop { number } => return Ended {
                 count,
                 end: at,
@@ -46,7 +39,7 @@ fn walk_into(t: &[u8; 256], s: &[u8], out: &mut [u32], scratch: &mut [u8]) -> En
             },
             Next::Entry { word } => {
                 let n = word % Head::KIND;
-                store_entry(out, count, word, (at + 4) as u32, n);
+                store(out, count, [word, (at + 4) as u32, n]);
                 count += 1;
                 at += 4 + n as usize;
             }
@@ -58,7 +51,7 @@ fn walk_into(t: &[u8; 256], s: &[u8], out: &mut [u32], scratch: &mut [u8]) -> En
 pub fn read_bundle(s: &[u8]) -> Bundle
     ensures { result ≡ bundle_of (walk s.now) }
 {
-    let t = class_table();
+    let t = ClassTable::new();
     let mut numbers = [0u32; 768];
     let mut scratch = [0u8; 65535];
     let e = walk_into(&t, s, &mut numbers, &mut scratch);

@@ -1,8 +1,8 @@
 -- From a bundle by value to the reader's entry.
-use Prim.Native.Nat.{ℕ, ◌+◌, ◌*◌, ◌-◌, ◌≤◌, ◌<◌}
+use Prim.Native.Nat.{ℕ, ◌*◌, ◌-◌, ◌≤◌, ◌<◌}
 use mathlib.Core.Path.{◌≡◌, refl, sym, ap, ◌∙◌}
-use mathlib.Core.Bool.{true, false, cond}
-use mathlib.Core.List.{List, ◌++◌}
+use mathlib.Core.Bool.{true, false}
+use mathlib.Core.List.{List}
 use native.Mathlib.Omega.{arith}
 use borrow.Author.Tests.{le-leb, lt-leb, eq-eqb, ne_eqb}
 use lib.Dec.{leb, eqb}
@@ -11,15 +11,13 @@ use lib.Seq.{take_at}
 use Rattle.octets.specs.Refusals.{no_room}
 use Rattle.messages.specs.Answers.{padded}
 use Rattle.output.specs.Splice.{splice, part}
-use Rattle.output.specs.Reply.{Reply, Served}
-use Rattle.output.specs.declared.Written.{Written}
+use Rattle.output.specs.Reply.{Reply, Served, Written}
 use Rattle.output.proofs.Laws.{elements-take}
 use Rattle.bundle.specs.Bundle.{walk}
 use Rattle.bundle.specs.Answers.{numbers_from, bundle_of}
 use Rattle.bundle.specs.declared.Bundle.{Bundle}
 use Rattle.bundle.proofs.Walks.{few-entries, numbers-length}
 use Rattle.bundle_capi.specs.Entries.{bundle_refused, bundle_answer, bundle_after, BundleEntered, list_of, ListEntered}
-use Rattle.bundle_capi.specs.declared.BundleAnswer.{BundleAnswer}
 use Rattle.bundle_capi.specs.declared.ListAnswer.{ListAnswer}
 
 padded-length : (n : ℕ) (l : List ℕ) → length l ≤ n → length (padded n l) ≡ n

@@ -1,18 +1,18 @@
--- What the walks over the lent table rest on: where a plan's record stands, which way a choice goes, and a table of which the first records are changed.
-use Prim.Native.Nat.{ℕ, zero, suc, ◌<◌, ◌≤◌, ◌+◌, ◌-◌}
+-- What the walks over the lent table rest on: where a plan's record stands, and a table of which the first records are changed.
+use Prim.Native.Nat.{ℕ, zero, suc, ◌<◌, ◌+◌, ◌-◌}
 use native.Mathlib.Nat.{add-zero, zero-add}
-use mathlib.Core.Path.{◌≡◌, refl, sym, subst, ap, ◌∙◌}
+use mathlib.Core.Path.{◌≡◌, refl, sym, ap, ◌∙◌}
 use mathlib.Core.List.{List, [], ◌∷◌}
-use mathlib.Core.Bool.{Bool, true, false, not, cond}
 use native.Mathlib.Omega.{arith}
 use borrow.Author.Tests.{eqb-true}
 use lib.ListN.{length, get_or, set}
-use lib.Dec.{T as Holds, eqb}
-use Rattle.octets.proofs.Kit.{no_true, either}
+use lib.Dec.{eqb}
+use Rattle.std.proofs.Common.{Some, Result, Ok}
+use Rattle.octets.proofs.Kit.{either}
 use Rattle.bundle.specs.Bundle.{is_flock}
 use Rattle.flock_table.specs.Table.{none, slot_of}
 use Rattle.flock_table.specs.declared.Flock.{Flock}
-use Rattle.flock_table.specs.declared.Slot.{Slot}
+use Rattle.octets.specs.declared.Refusal.{Refusal}
 use Rattle.flock_table.proofs.Counted.{flock-least}
 use Rattle.bundle_edit.specs.Append.{append_plan}
 use Rattle.bundle_edit.specs.Changes.{changed, changed_from}
@@ -22,39 +22,25 @@ use Rattle.bundle_edit.specs.Delivery.{mark_plan}
 use Rattle.bundle_edit.proofs.Appends as appends
 use Rattle.bundle_edit.proofs.Sweeping as sweeping
 
--- ---- choices
-
-pub taken : {X : Type 0} (b : Bool) (x y : X) → Holds b → x ≡ cond b x y
-taken true x y t = refl
-taken false x y t = absurd t
-
-pub left : {X : Type 0} (b : Bool) (x y : X) → Holds (not b) → y ≡ cond b x y
-left true x y t = absurd t
-left false x y t = refl
-
-is_true : (b : Bool) → Holds b → b ≡ true
-is_true true t = refl
-is_true false t = absurd t
-
 -- ---- where the record stands
 
-slot-goes : (n f : ℕ) → (slot_of n f).go ≡ true → (slot_of n f).index < n
+pub slot-index : (n f : ℕ) {i : ℕ} → Ok i ≡ slot_of n f → i < n
 unfolding slot_of
-slot-goes n f =
-    let Q : Slot → Type 0 = λ (s : Slot). s.go ≡ true → s.index < n in
+slot-index n f {i} e =
+    let Q : Result ℕ Refusal → Type 0 = λ (s : Result ℕ Refusal). Ok i ≡ s → i < n in
     either Q (eqb n 127) _ _
     (λ a.
-    either Q (is_flock f) _ _ (λ h _. let b = flock-least f h in let e = eqb-true n 127 a in omega (arith, b.0, b.1, e)) (λ _ g. absurd (no_true g)))
-    (λ _ g. absurd (no_true g))
+    either Q (is_flock f) _ _
+    (λ h q. let b = flock-least f h in let z = eqb-true n 127 a in let k : i ≡ f - 1 = cc in omega (arith, b.0, b.1, z, k))
+    (λ _ q. let z : ◌≡◌ {A = ℕ} 0 1 = cc in absurd (omega arith)))
+    (λ _ q. let z : ◌≡◌ {A = ℕ} 0 1 = cc in absurd (omega arith))
+    e
 
-pub slot-index : (n f : ℕ) (r : Slot) → r ≡ slot_of n f → Holds r.go → r.index < n
-slot-index n f r e h = rw e (slot-goes n f (rw e at (is_true r.go h)))
+pub append-index : (n : ℕ) (b : List ℕ) (used f : ℕ) (m : List ℕ) {r : Plan} {k : ℕ} → r ≡ append_plan n b used f m → r.index ≡ Some k → k < n
+append-index n b used f m e h = appends.append-index n b used f m (sym (ap (λ (p : Plan). p.index) e) ∙ h)
 
-pub append-index : (n : ℕ) (b : List ℕ) (used f : ℕ) (m : List ℕ) (r : Plan) → r ≡ append_plan n b used f m → Holds r.go → r.index < n
-append-index n b used f m r e h = rw e (appends.append-index n b used f m (rw e at (is_true r.go h)))
-
-pub mark-index : (n : ℕ) (b : List ℕ) (used i : ℕ) (r : Plan) → r ≡ mark_plan n b used i → Holds r.go → r.index < n
-mark-index n b used i r e h = rw e (sweeping.mark-index n b used i (rw e at (is_true r.go h)))
+pub mark-index : (n : ℕ) (b : List ℕ) (used i : ℕ) {r : Plan} {k : ℕ} → r ≡ mark_plan n b used i → r.index ≡ Some k → k < n
+mark-index n b used i e h = sweeping.mark-index n b used i (sym (ap (λ (p : Plan). p.index) e) ∙ h)
 
 -- ---- the first m records changed, the k-th being the first of the list: what a loop has done after m turns
 

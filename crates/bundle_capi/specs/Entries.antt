@@ -1,12 +1,10 @@
 -- What the C entries on bundles answer, by value, and what they leave in what they are lent (02, items 1, 6 and 11), in terms of `walk`, `flock_list`,
 -- `append_plan`, `rebuild_changes`, `mark_plan` and `sweep_changes`; a flock's answer is `totals_answer` (flock_table/Table), salvage answers as
 -- `salvaging/Answers` says.
-use Rattle.std.specs.Prelude.{ℕ, ◌*◌, ◌≡◌, Bool, true, false, cond, List, leb, eqb, length}
+use Rattle.std.specs.Prelude.{ℕ, ◌*◌, ◌≡◌, cond, List, leb, eqb, length, Ok, Err}
 use Rattle.octets.specs.Refusals.{no_room}
 use Rattle.output.specs.Splice.{splice}
-use Rattle.output.specs.Reply.{Reply, written_of, lent_after}
-use Rattle.output.specs.declared.Written.{Written}
-use Rattle.output.specs.declared.Written.TheVariants.{Done, Refused}
+use Rattle.output.specs.Reply.{Reply, written_of, lent_after, Written}
 use Rattle.bundle.specs.Bundle.{Walk}
 use Rattle.bundle.specs.Answers.{numbers_from}
 use Rattle.flock_table.specs.declared.Flock.{Flock}
@@ -76,8 +74,8 @@ SweepEntered c t t' b b' used r = (r ≡ outcome_of c) × ((t' ≡ changed_from 
 
 -- the length written, or the refusal's number and place
 abbrev pub list_of : Written → ListAnswer
-list_of (Done n) = record { number = 0; place = 0; len = n }
-list_of (Refused number place) = record { number = number; place = place; len = 0 }
+list_of (Ok n) = record { number = 0; place = 0; len = n }
+list_of (Err e) = record { number = e.number; place = e.place; len = 0 }
 
 -- the promise of the entry that was lent o
 pub record ListEntered (y : Reply) (o o' : List ℕ) (r : ListAnswer) : Type 0 where

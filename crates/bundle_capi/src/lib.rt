@@ -1,7 +1,7 @@
 // The entries for C on bundles: answers by value. A refusal alters nothing that is lent.
 #![tactic(auto)]
 
-ghost use Rattle.std.specs.Prelude.{◌≡◌, ◌+◌, ◌≤◌, length};
+ghost use Rattle.std.specs.Prelude.{◌≡◌, ◌≤◌, length};
 ghost use Rattle.output.specs.Splice.{splice, part};
 ghost use Rattle.bundle.specs.Bundle.{walk, flock_list};
 ghost use Rattle.output.specs.Reply.{writes};
@@ -20,7 +20,7 @@ use bundle_edit::delivery::{lessen, mark, sweep};
 use bundle_edit::tables::{change, rebuild};
 use bundle_edit::{Changes, Plan, append, enter};
 use flock_table::{Flock, Totals, no_totals, slot_of, totals_of};
-use octets::Refusals;
+use octets::Refusal;
 use output::Written;
 use salvaging::{Salvaged, salvage, salvage_line};
 
@@ -69,27 +69,29 @@ fn copy_numbers(out: &mut [u32], src: &[u32], n: usize)
     requires n_in_bounds_2 { n ≤ length src.now }
     ensures { out.new ≡ splice out.old 0 (part src.now 0 n) }
 {
-    let mut i = 0;
-    while i < n {
-        out[i] = src[i];
-        i += 1;
-    }
+    out[..n].copy_from_slice(&src[..n]);
 }
 
-fn list_answer(w: Written) -> ListAnswer
-    ensures { result ≡ list_of w }
-{
-    match w {
-        Written::Done(n) => return ListAnswer {
-            number: 0,
-            place: 0,
-            len: n,
-        },
-        Written::Refused { number, place } => return ListAnswer {
-            number,
-            place,
-            len: 0,
-        },
+// What C sees of a writer's answer.
+impl From<Written> for ListAnswer {
+    ghost use Rattle.std.specs.Prelude.{◌≡◌};
+    ghost use Rattle.bundle_capi.specs.Entries.{list_of};
+
+    ghost from_gives = { λ w a. a ≡ list_of w };
+
+    fn from(w: Written) -> ListAnswer {
+        match w {
+            Ok(n) => ListAnswer {
+                number: 0,
+                place: 0,
+                len: n,
+            },
+            Err(e) => ListAnswer {
+                number: e.number,
+                place: e.place,
+                len: 0,
+            },
+        }
     }
 }
 
@@ -99,27 +101,26 @@ pub extern "C" fn ospirnar_read_bundle(input: &[u8], entries: &mut [u32]) -> Bun
     ensures { BundleEntered (walk input.now) entries.old entries.new result }
 {
     let b = read_bundle(input);
-    if b.number == 0 {
-        let n = b.count * 3;
-        if entries.len() < n {
-            return BundleAnswer {
-                number: Refusals::NO_ROOM,
-                place: 0,
-                count: 0,
-            };
-        }
-        let found = b.numbers;
-        copy_numbers(entries, &found, n);
+    if b.number != 0 {
         return BundleAnswer {
-            number: 0,
+            number: b.number,
             place: b.end,
-            count: b.count,
+            count: 0,
         };
     }
+    let n = b.count * 3;
+    if entries.len() < n {
+        return BundleAnswer {
+            number: Refusal::NoRoom as u32,
+            place: 0,
+            count: 0,
+        };
+    }
+    copy_numbers(entries, &b.numbers, n);
     BundleAnswer {
-        number: b.number,
+        number: 0,
         place: b.end,
-        count: 0,
+        count: b.count,
     }
 }
 
@@ -128,8 +129,7 @@ pub extern "C" fn ospirnar_read_bundle(input: &[u8], entries: &mut [u32]) -> Bun
 pub extern "C" fn ospirnar_flock_list(input: &[u8], flock: u32, output: &mut [u8]) -> ListAnswer
     ensures { ListEntered (flock_list flock input.now) output.old output.new result }
 {
-    let w = flock_list(input, flock, output);
-    list_answer(w)
+    ListAnswer::from(flock_list(input, flock, output))
 }
 
 // The longest front of whole entries that is a bundle, copied: what is kept of octets that came through whole or not.
@@ -145,56 +145,66 @@ pub extern "C" fn ospirnar_salvage(input: &[u8], output: &mut [u8]) -> Salvaged
 pub extern "C" fn ospirnar_salvage_line(input: &[u8], output: &mut [u8]) -> ListAnswer
     ensures { ListEntered (writes (salvage_line input.now)) output.old output.new result }
 {
-    let w = salvage_line(input, output);
-    list_answer(w)
+    ListAnswer::from(salvage_line(input, output))
 }
 
-// What C sees of a plan.
-fn append_answer(p: Plan) -> AppendAnswer
-    ensures { result ≡ append_of p }
-{
-    AppendAnswer {
-        number: p.number,
-        place: p.place,
-        used: p.used,
-        long: p.long,
+// What C sees of an append's plan.
+impl From<Plan> for AppendAnswer {
+    ghost use Rattle.std.specs.Prelude.{◌≡◌};
+    ghost use Rattle.bundle_capi.specs.Entries.{append_of};
+
+    ghost from_gives = { λ p a. a ≡ append_of p };
+
+    fn from(p: Plan) -> AppendAnswer {
+        AppendAnswer {
+            number: p.number,
+            place: p.place,
+            used: p.used,
+            long: p.long,
+        }
     }
 }
 
 // What C sees of a change of all records.
-fn outcome(c: Changes) -> TableAnswer
-    ensures { result ≡ outcome_of c }
-{
-    TableAnswer {
-        number: c.number,
-        place: c.place,
-        used: c.used,
+impl From<Changes> for TableAnswer {
+    ghost use Rattle.std.specs.Prelude.{◌≡◌};
+    ghost use Rattle.bundle_capi.specs.Entries.{outcome_of};
+
+    ghost from_gives = { λ c a. a ≡ outcome_of c };
+
+    fn from(c: Changes) -> TableAnswer {
+        TableAnswer {
+            number: c.number,
+            place: c.place,
+            used: c.used,
+        }
     }
 }
 
 // What C sees of a mark's plan.
-fn mark_answer(p: Plan) -> TableAnswer
-    ensures { result ≡ mark_of p }
-{
-    TableAnswer {
-        number: p.number,
-        place: p.place,
-        used: p.used,
+impl From<Plan> for TableAnswer {
+    ghost use Rattle.std.specs.Prelude.{◌≡◌};
+    ghost use Rattle.bundle_capi.specs.Entries.{mark_of};
+
+    ghost from_gives = { λ p a. a ≡ mark_of p };
+
+    fn from(p: Plan) -> TableAnswer {
+        TableAnswer {
+            number: p.number,
+            place: p.place,
+            used: p.used,
+        }
     }
 }
 
-// From here on each function takes the lent table; its proof is written by tools/walks_bundle.py. All judging and all arithmetic is in what they call.
+// From here on each function takes the lent table. All judging and all arithmetic is in what they call.
 
 // Every record, by a change of all.
 fn update_all(table: &mut [Flock], c: Changes)
     ensures { table.new ≡ changed_from c 0 table.old }
 {
-    let mut i = 0;
-    while i < table.len() {
-        let old = table[i];
-        let new = change(old, c, i);
-        table[i] = new;
-        i += 1;
+    for i in 0..table.len() {
+        table[i] = change(table[i], c, i);
     }
 }
 
@@ -203,14 +213,9 @@ fn update_all(table: &mut [Flock], c: Changes)
 pub extern "C" fn ospirnar_totals(table: &[Flock], flock: u32) -> Totals
     ensures { result ≡ totals_answer table.now flock }
 {
-    let n = table.len();
-    let s = slot_of(n, flock);
-    if s.go {
-        let i = s.index;
-        let r = table[i];
-        return totals_of(r);
-    } else {
-        return no_totals(s.number);
+    match slot_of(table.len(), flock) {
+        Ok(i) => totals_of(table[i]),
+        Err(r) => no_totals(r.number()),
     }
 }
 
@@ -226,17 +231,11 @@ pub extern "C" fn ospirnar_append(
     ensures { AppendEntered (append_plan (length table.old) buffer.old used flock message.now)
         table.old table.new buffer.old buffer.new used flock message.now result }
 {
-    let n = table.len();
-    let p = append(n, buffer, used, flock, message);
-    if p.go {
-        let i = p.index;
-        let old = table[i];
-        let new = enter(old, p.size);
-        table[i] = new;
-        return append_answer(p);
-    } else {
-        return append_answer(p);
+    let p = append(table.len(), buffer, used, flock, message);
+    if let Some(i) = p.index {
+        table[i] = enter(table[i], p.size);
     }
+    AppendAnswer::from(p)
 }
 
 // The table of a bundle.
@@ -244,10 +243,9 @@ pub extern "C" fn ospirnar_append(
 pub extern "C" fn ospirnar_rebuild(table: &mut [Flock], input: &[u8]) -> TableAnswer
     ensures { RebuildEntered (rebuild_changes (length table.old) input.now) table.old table.new result }
 {
-    let n = table.len();
-    let c = rebuild(n, input);
+    let c = rebuild(table.len(), input);
     update_all(table, c);
-    outcome(c)
+    TableAnswer::from(c)
 }
 
 // An entry is delivered from now on, and its flock has one undelivered entry less.
@@ -261,17 +259,11 @@ pub extern "C" fn ospirnar_mark(
     ensures { MarkEntered (mark_plan (length table.old) buffer.old used entry)
         table.old table.new buffer.old buffer.new used entry result }
 {
-    let n = table.len();
-    let p = mark(n, buffer, used, entry);
-    if p.go {
-        let i = p.index;
-        let old = table[i];
-        let new = lessen(old);
-        table[i] = new;
-        return mark_answer(p);
-    } else {
-        return mark_answer(p);
+    let p = mark(table.len(), buffer, used, entry);
+    if let Some(i) = p.index {
+        table[i] = lessen(table[i]);
     }
+    TableAnswer::from(p)
 }
 
 // The delivered entries are swept out of the bundle, and taken off the table.
@@ -280,8 +272,7 @@ pub extern "C" fn ospirnar_sweep(table: &mut [Flock], buffer: &mut [u8], used: u
     ensures { SweepEntered (sweep_changes (length table.old) buffer.old used)
         table.old table.new buffer.old buffer.new used result }
 {
-    let n = table.len();
-    let c = sweep(n, buffer, used);
+    let c = sweep(table.len(), buffer, used);
     update_all(table, c);
-    outcome(c)
+    TableAnswer::from(c)
 }

@@ -1,5 +1,5 @@
 -- From what the Binary writer answers behind a head to what the append answers.
-use Prim.Native.Nat.{ℕ, ◌+◌, ◌*◌, ◌-◌, ◌≤◌, ◌<◌}
+use Prim.Native.Nat.{ℕ, ◌+◌, ◌-◌, ◌≤◌, ◌<◌}
 use mathlib.Core.Path.{◌≡◌, refl, sym, ap, subst, ◌∙◌}
 use mathlib.Core.Bool.{Bool, true, false, cond}
 use mathlib.Core.List.{List, [], ◌∷◌, ◌++◌, append_assoc}
@@ -8,8 +8,9 @@ use borrow.Author.Tests.{le-leb, lt-leb, lt-ltb, le-ltb, eq-eqb, ne_eqb, leb-tru
 use lib.Dec.{leb, ltb, eqb}
 use lib.ListN.{length, take, drop, get_or, length-append}
 use lib.Seq.{get_or_at, length-take-le}
-use Rattle.octets.specs.Refusals.{more_needed, too_large, no_room, bad_entry, bad_table}
-use Rattle.octets.proofs.Kit.{no_true, either}
+use Rattle.octets.specs.declared.Refused.{Refused}
+use Rattle.octets.specs.Refusals.{too_large, no_room, bad_entry, bad_table, refused_at}
+use Rattle.octets.proofs.Kit.{either}
 use Rattle.numbers.specs.Places.{push}
 use Rattle.numbers.specs.Integer.{int_len, tag_of, int_bytes, plain}
 use Rattle.numbers.proofs.Places.{push-length}
@@ -18,8 +19,9 @@ use Rattle.messages.specs.Message.{Start, request_start, response_start, Message
 use Rattle.messages.specs.Answers.{reading_of, record_from, record_of}
 use Rattle.messages.specs.declared.Record.{Record}
 use Rattle.messages.specs.declared.Reading.{Reading}
-use Rattle.messages.specs.declared.Outcome.{Outcome}
-use Rattle.messages.specs.declared.Outcome.TheVariants as outcome
+use Rattle.messages.specs.Answers.{Outcome}
+use Rattle.std.proofs.Common.{Ok, Err}
+use Rattle.messages.specs.declared.Stop.{Stop}
 use Rattle.messages.specs.Meaning.{Control, request, response, Meaning, meaning}
 use Rattle.messages.specs.Valid.{of_response}
 use Rattle.binary.specs.Read.{read_binary}
@@ -27,9 +29,7 @@ use Rattle.messages.specs.Told.{plain as told_plain}
 use Rattle.messages.specs.declared.Told.{Told}
 use Rattle.binary_writer.specs.Write.{control_bytes, binary_of, binary_fits, to_binary}
 use Rattle.output.specs.Splice.{splice}
-use Rattle.output.specs.Reply.{Reply, writes, refuses, written_of, lent_after_at, ServedAt}
-use Rattle.output.specs.declared.Written.{Written}
-use Rattle.output.specs.declared.Written.TheVariants.{Done, Refused}
+use Rattle.output.specs.Reply.{Reply, writes, refuses, written_of, lent_after_at, ServedAt, Written}
 use Rattle.output.proofs.Laws.{splice-is, splice-before}
 use Rattle.turn.specs.Turn.{reply_from, binary_to_binary}
 use Rattle.bundle.specs.Bundle.{head_of, head_octets, is_flock, read_message, kind_number, walk}
@@ -38,6 +38,7 @@ use Rattle.bundle.specs.declared.Bundle.{Bundle}
 use Rattle.flock_table.proofs.Counted.{flock-least}
 use Rattle.bundle_edit.specs.Append.{with_head, entry_for, message_entry, behind_bundle, buffer_reply, append_reply, plan_of, long_in, append_plan, appended, Fair}
 use Rattle.bundle_edit.specs.declared.Plan.{Plan}
+use Rattle.std.proofs.Common.{Some}
 
 -- ---- a message's first octet is its kind
 
@@ -120,7 +121,7 @@ end_none size used h l = sym (rw (lt-leb (used + 4) size (omega arith)))
 pub end-some : (size used : ℕ) → used ≤ size → 4 ≤ size - used → used + 4 ≡ head_end size used
 end-some size used h l = sym (rw (le-leb (used + 4) size (omega arith)))
 
-no-done : {A : Type 0} {n k p : ℕ} → Refused k p ≡ Done n → A
+no-done : {A : Type 0} {n : ℕ} {x : Refused} → Err x ≡ Ok n → A
 no-done e = let z : ◌≡◌ {A = ℕ} 0 1 = cc in absurd (omega arith)
 
 pub end-in : (size used : ℕ) → used ≤ size → head_end size used ≤ size
@@ -155,24 +156,24 @@ lent-in : (bs : List ℕ) (k : ℕ) (o : List ℕ) → k + length bs ≤ length 
 unfolding lent_after_at
 lent-in bs k o h = rw (le-leb (k + length bs) (length o) h)
 
-written-past : (bs : List ℕ) (room : ℕ) → room < length bs → written_of (writes bs) room ≡ Refused no_room 0
+written-past : (bs : List ℕ) (room : ℕ) → room < length bs → written_of (writes bs) room ≡ Err (refused_at no_room 0)
 unfolding written_of
 written-past bs room h = rw (lt-leb (length bs) room h)
 
-written_in : (bs : List ℕ) (room : ℕ) → length bs ≤ room → written_of (writes bs) room ≡ Done (length bs)
+written_in : (bs : List ℕ) (room : ℕ) → length bs ≤ room → written_of (writes bs) room ≡ Ok (length bs)
 unfolding written_of
 written_in bs room h = rw (le-leb (length bs) room h)
 
-refused-room : (bs : List ℕ) (room k p : ℕ) (b : Bool) → leb (length bs) room ≡ b → Refused k p ≡ cond b (Done (length bs)) (Refused no_room 0)
-    → (room < length bs) × (Refused k p ≡ Refused no_room 0)
-refused-room bs room k p true e q = no-done q
-refused-room bs room k p false e q = (leb-false (length bs) room e, q)
+refused-room : (bs : List ℕ) (room : ℕ) (x : Refused) (b : Bool) → leb (length bs) room ≡ b → Err x ≡ cond b (Ok (length bs)) (Err (refused_at no_room 0))
+    → (room < length bs) × (◌≡◌ {A = Written} (Err x) (Err (refused_at no_room 0)))
+refused-room bs room x true e q = no-done q
+refused-room bs room x false e q = (leb-false (length bs) room e, q)
 
-pub behind-refused : (f : ℕ) (y z : Reply) {used from k p : ℕ} {b b' : List ℕ} → Paired f y z → used ≤ length b → from ≡ head_end (length b) used
-    → ServedAt y from b b' (Refused k p) → ServedAt z used b b' (Refused k p)
+pub behind-refused : (f : ℕ) (y z : Reply) {used from : ℕ} {x : Refused} {b b' : List ℕ} → Paired f y z → used ≤ length b → from ≡ head_end (length b) used
+    → ServedAt y from b b' (Err x) → ServedAt z used b b' (Err x)
 unfolding written_of lent_after_at
-behind-refused f (writes bs) z {used} {from} {k} {p} {b} {b'} h u e v =
-    let q = refused-room bs (length b - from) k p (leb (length bs) (length b - from)) refl v.answer in
+behind-refused f (writes bs) z {used} {from} {x} {b} {b'} h u e v =
+    let q = refused-room bs (length b - from) x (leb (length bs) (length b - from)) refl v.answer in
     let w = head_octets (head_of f 0 h.kind (length bs)) in
     let l : length (w ++ bs) ≡ 4 + length bs = length-append w bs ∙ rw (head-long (head_of f 0 h.kind (length bs))) in
     let i = end-in (length b) used u in
@@ -184,7 +185,7 @@ behind-refused f (writes bs) z {used} {from} {k} {p} {b} {b'} h u e v =
       answer = q.1 ∙ sym (written-past (w ++ bs) (length b - used) small);
       after = v.after ∙ lent-past bs from b out ∙ sym (lent-past (w ++ bs) used b past);
     })
-behind-refused f (refuses a c) z {used} {from} {k} {p} {b} {b'} h u e v = rw h (record { answer = v.answer; after = v.after })
+behind-refused f (refuses a c) z {used} {from} {x} {b} {b'} h u e v = rw h (record { answer = v.answer; after = v.after })
 
 -- octets that were written behind the head
 pub record Stood (y : Reply) (f used from n : ℕ) (b b₁ : List ℕ) (z : Reply) : Type 0 where
@@ -197,7 +198,7 @@ pub record Stood (y : Reply) (f used from n : ℕ) (b b₁ : List ℕ) (z : Repl
   pub wrote : b₁ ≡ splice b (used + 4) text
   pub kind : get_or b₁ from 0 ≡ headed.kind
 
-done-room : (bs : List ℕ) (room n : ℕ) (b : Bool) → leb (length bs) room ≡ b → Done n ≡ cond b (Done (length bs)) (Refused no_room 0)
+done-room : (bs : List ℕ) (room n : ℕ) (b : Bool) → leb (length bs) room ≡ b → Ok n ≡ cond b (Ok (length bs)) (Err (refused_at no_room 0))
     → (length bs ≤ room) × (n ≡ length bs)
 done-room bs room n true e q = (leb-true (length bs) room e, cc)
 done-room bs room n false e q = no-done (sym q)
@@ -214,7 +215,7 @@ kind_at b bs at {kind} h g =
     ap (λ (x : List ℕ). get_or x at 0) (splice-is b at bs h) ∙ q ∙ get_or_at (take at b) kind (g.rest ++ drop (at + length bs) b) 0 at t
 
 pub behind-done : (f : ℕ) (y z : Reply) {used from n : ℕ} {b b₁ : List ℕ} → Paired f y z → used ≤ length b → from ≡ head_end (length b) used
-    → ServedAt y from b b₁ (Done n) → Stood y f used from n b b₁ z
+    → ServedAt y from b b₁ (Ok n) → Stood y f used from n b b₁ z
 unfolding written_of lent_after_at
 behind-done f (writes bs) z {used} {from} {n} {b} {b₁} h u e v =
     let q = done-room bs (length b - from) n (leb (length bs) (length b - from)) refl v.answer in
@@ -237,7 +238,7 @@ behind-done f (writes bs) z {used} {from} {n} {b} {b₁} h u e v =
 behind-done f (refuses a c) z h u e v = no-done (sym v.answer)
 
 pub entry_done : {y z : Reply} {f used from n : ℕ} {b b₁ b₂ : List ℕ} {w : ℕ} (s : Stood y f used from n b b₁ z) → w ≡ head_of f 0 s.headed.kind n
-    → b₂ ≡ splice b₁ used (head_octets w) → ServedAt z used b b₂ (Done (n + 4))
+    → b₂ ≡ splice b₁ used (head_octets w) → ServedAt z used b b₂ (Ok (n + 4))
 unfolding written_of lent_after_at
 entry_done {f = f} {used = used} {n = n} {b = b} {b₁ = b₁} {b₂ = b₂} {w = w} s ew e =
     let bs = s.text in
@@ -250,13 +251,13 @@ entry_done {f = f} {used = used} {n = n} {b = b} {b₁ = b₁} {b₂ = b₂} {w 
     let at : used + 4 ≡ used + length h = omega (arith, hl) in
     let whole : splice b₁ used (head_octets w) ≡ splice b used (h ++ bs) = rw (same, s.wrote, at) (splice-before b used h bs) in
     rw s.headed.reply (record {
-      answer = ap (λ (x : ℕ). Done x) (sym l) ∙ sym (written_in (h ++ bs) (length b - used) fits);
+      answer = ap (λ (x : ℕ). Ok x) (sym l) ∙ sym (written_in (h ++ bs) (length b - used) fits);
       after = e ∙ whole ∙ sym (lent-in (h ++ bs) used b all);
     })
 
 -- ---- the judgements before it
 
-pub serve-at-wrong : (k p used : ℕ) (o : List ℕ) → ServedAt (refuses k p) used o o (Refused k p)
+pub serve-at-wrong : (k p used : ℕ) (o : List ℕ) → ServedAt (refuses k p) used o o (Err (refused_at k p))
 unfolding written_of lent_after_at
 serve-at-wrong k p used o = record { answer = refl; after = refl }
 
@@ -267,7 +268,7 @@ module _ (b : List ℕ) (used f : ℕ) (m : List ℕ) {z : Bundle} (e : z ≡ bu
   count : z.count ≡ length (walk (take used b)).entries
   count = ap (λ (x : Bundle). x.count) e
 
-  pub append-stops : (z.number ≡ 0 → ⊥) → ServedAt (behind_bundle b used f m) used b b (Refused z.number z.end)
+  pub append-stops : (z.number ≡ 0 → ⊥) → ServedAt (behind_bundle b used f m) used b b (Err (refused_at z.number z.end))
   unfolding behind_bundle
   append-stops n =
       let w = walk (take used b) in
@@ -279,7 +280,7 @@ module _ (b : List ℕ) (used f : ℕ) (m : List ℕ) {z : Bundle} (e : z ≡ bu
     good : eqb (walk (take used b)).stop 0 ≡ true
     good = eq-eqb (walk (take used b)).stop 0 (sym number ∙ n)
 
-    pub append-full : 256 ≤ z.count → ServedAt (behind_bundle b used f m) used b b (Refused too_large 0)
+    pub append-full : 256 ≤ z.count → ServedAt (behind_bundle b used f m) used b b (Err (refused_at too_large 0))
     unfolding behind_bundle
     append-full h = rw (good, le-ltb (length (walk (take used b)).entries) 256 (rw (← count) h)) (serve-at-wrong too_large 0 used b)
 
@@ -287,7 +288,7 @@ module _ (b : List ℕ) (used f : ℕ) (m : List ℕ) {z : Bundle} (e : z ≡ bu
       few : ltb (length (walk (take used b)).entries) 256 ≡ true
       few = lt-ltb (length (walk (take used b)).entries) 256 (rw (← count) h)
 
-      pub append-flockless : is_flock f ≡ false → ServedAt (behind_bundle b used f m) used b b (Refused bad_entry 0)
+      pub append-flockless : is_flock f ≡ false → ServedAt (behind_bundle b used f m) used b b (Err (refused_at bad_entry 0))
       unfolding behind_bundle
       append-flockless g = rw (good, few, g) (serve-at-wrong bad_entry 0 used b)
 
@@ -342,14 +343,14 @@ fair-call n b used f m =
 
 -- an answer that is given for a reply of this kind
 abbrev pub FairAnswer : ℕ → ℕ → ℕ → ℕ → Written → Type 0
-FairAnswer n room used f (Done k) = Fair room used f (Done k) × (f ≤ 127) × (n ≡ 127)
-FairAnswer n room used f (Refused k p) = Unit {0}
+FairAnswer n room used f (Ok k) = Fair room used f (Ok k) × (f ≤ 127) × (n ≡ 127)
+FairAnswer n room used f (Err e) = Unit {0}
 
 fair-of : (y : Reply) (n f used room : ℕ) → FairCall n room used f y → FairAnswer n room used f (written_of y (room - used))
 unfolding written_of
 fair-of (writes l) n f used room g = go (leb (length l) (room - used)) refl
   where
-    go : (t : Bool) → leb (length l) (room - used) ≡ t → FairAnswer n room used f (cond t (Done (length l)) (Refused no_room 0))
+    go : (t : Bool) → leb (length l) (room - used) ≡ t → FairAnswer n room used f (cond t (Ok (length l)) (Err (refused_at no_room 0)))
     go true h =
         let i = leb-true (length l) (room - used) h in
         let u = g.table l refl in
@@ -362,15 +363,15 @@ pub fair-answer : (n : ℕ) (b : List ℕ) (used f : ℕ) (m : List ℕ) → Fai
 fair-answer n b used f m = fair-of (append_reply n b used f m) n f used (length b) (fair-call n b used f m)
 
 answer-fair : (n room used f : ℕ) (w : Written) → FairAnswer n room used f w → Fair room used f w
-answer-fair n room used f (Done k) h = h.0
-answer-fair n room used f (Refused k p) h = tt
+answer-fair n room used f (Ok k) h = h.0
+answer-fair n room used f (Err e) h = tt
 
 pub fair : (n : ℕ) (b : List ℕ) (used f : ℕ) (m : List ℕ) {b' : List ℕ} {w : Written} → ServedAt (append_reply n b used f m) used b b' w → Fair (length b) used f w
 fair n b used f m {b'} {w} v =
     subst (Fair (length b) used f) (sym v.answer)
     (answer-fair n (length b) used f (written_of (append_reply n b used f m) (length b - used)) (fair-answer n b used f m))
 
-pub fair-done : (room used f n : ℕ) (w : Written) → Fair room used f w → w ≡ Done n → (used + n ≤ room) × (4 ≤ n) × (n ≤ 65539) × (1 ≤ f)
+pub fair-done : (room used f n : ℕ) (w : Written) → Fair room used f w → w ≡ Ok n → (used + n ≤ room) × (4 ≤ n) × (n ≤ 65539) × (1 ≤ f)
 fair-done room used f n w h e = subst (Fair room used f) e h
 
 -- ---- the tests before the bundle
@@ -380,7 +381,7 @@ module _ (b : List ℕ) (used f : ℕ) (m : List ℕ) where
   unfolding buffer_reply
   within-served u v = rw (le-leb used (length b) u) v
 
-  pub within-past : length b < used → ServedAt (buffer_reply b used f m) used b b (Refused no_room 0)
+  pub within-past : length b < used → ServedAt (buffer_reply b used f m) used b b (Err (refused_at no_room 0))
   unfolding buffer_reply
   within-past u = rw (lt-leb used (length b) u) (serve-at-wrong no_room 0 used b)
 
@@ -388,7 +389,7 @@ module _ (b : List ℕ) (used f : ℕ) (m : List ℕ) where
   unfolding append_reply
   beside-served n e v = rw e v
 
-  pub beside_none : (n : ℕ) → eqb n 127 ≡ false → ServedAt (append_reply n b used f m) used b b (Refused bad_table 0)
+  pub beside_none : (n : ℕ) → eqb n 127 ≡ false → ServedAt (append_reply n b used f m) used b b (Err (refused_at bad_table 0))
   unfolding append_reply
   beside_none n e = rw e (serve-at-wrong bad_table 0 used b)
 
@@ -401,7 +402,7 @@ plan-served n b used f m {w = w} v k q e =
 -- ---- the count of long integers
 
 module _ (x : Answer Message) {o : Outcome} (e : o ≡ (reading_of x).outcome) where
-  pub long-message : {r : Record} → o ≡ outcome.Message r → r.long ≡ long_in x
+  pub long-message : {r : Record} → o ≡ Ok r → r.long ≡ long_in x
   unfolding record_of
   long-message {r} q = go x (sym q ∙ e)
     where
@@ -409,23 +410,15 @@ module _ (x : Answer Message) {o : Outcome} (e : o ≡ (reading_of x).outcome) w
       by-start n m (request_start a b c d) = refl
       by-start n m (response_start a b) = refl
 
-      go : (y : Answer Message) → outcome.Message r ≡ (reading_of y).outcome → r.long ≡ long_in y
+      go : (y : Answer Message) → Ok r ≡ (reading_of y).outcome → r.long ≡ long_in y
       go (accepted n m) z = let w : r ≡ record_of n m = cc in ap (λ (c : Record). c.long) w ∙ by-start n m m.start
       go (refused k p) z = let w : ◌≡◌ {A = ℕ} 0 1 = cc in absurd (omega arith)
       go more z = let w : ◌≡◌ {A = ℕ} 0 1 = cc in absurd (omega arith)
 
-  pub long-refusal : {k p : ℕ} → o ≡ outcome.Refusal k p → 0 ≡ long_in x
-  long-refusal {k} {p} q = go x (sym q ∙ e)
+  pub long-none : {f : Stop} → o ≡ Err f → 0 ≡ long_in x
+  long-none {f} q = go x (sym q ∙ e)
     where
-      go : (y : Answer Message) → outcome.Refusal k p ≡ (reading_of y).outcome → 0 ≡ long_in y
-      go (accepted n m) z = let w : ◌≡◌ {A = ℕ} 0 1 = cc in absurd (omega arith)
-      go (refused i j) z = refl
-      go more z = refl
-
-  pub long-more : o ≡ outcome.More → 0 ≡ long_in x
-  long-more q = go x (sym q ∙ e)
-    where
-      go : (y : Answer Message) → outcome.More ≡ (reading_of y).outcome → 0 ≡ long_in y
+      go : (y : Answer Message) → Err f ≡ (reading_of y).outcome → 0 ≡ long_in y
       go (accepted n m) z = let w : ◌≡◌ {A = ℕ} 0 1 = cc in absurd (omega arith)
       go (refused i j) z = refl
       go more z = refl
@@ -440,11 +433,11 @@ long-plain m t e q = ap (λ (x : Reading). x.outcome) q ∙ ap (λ (x : Told). (
 
 -- ---- the record that an append changes
 
-index_of : (n room used f long : ℕ) (w : Written) → FairAnswer n room used f w → (plan_of used f long w).go ≡ true → (plan_of used f long w).index < n
-index_of n room used f long (Done k) h g = omega (arith, h.0.3, h.1, h.2)
-index_of n room used f long (Refused k p) h g = absurd (no_true g)
+index_of : (n room used f long : ℕ) (w : Written) → FairAnswer n room used f w → {i : ℕ} → (plan_of used f long w).index ≡ Some i → i < n
+index_of n room used f long (Ok k) h {i} g = let q : f - 1 ≡ i = cc in omega (arith, h.0.3, h.1, h.2, q)
+index_of n room used f long (Err e) h g = let z : ◌≡◌ {A = ℕ} 0 1 = cc in absurd (omega arith)
 
-pub append-index : (n : ℕ) (b : List ℕ) (used f : ℕ) (m : List ℕ) → (append_plan n b used f m).go ≡ true → (append_plan n b used f m).index < n
+pub append-index : (n : ℕ) (b : List ℕ) (used f : ℕ) (m : List ℕ) {i : ℕ} → (append_plan n b used f m).index ≡ Some i → i < n
 unfolding append_plan
 append-index n b used f m =
     index_of n (length b) used f (long_in (read_message m)) (written_of (append_reply n b used f m) (length b - used)) (fair-answer n b used f m)

@@ -1,6 +1,6 @@
 -- A table as numbers, and the loop that counts the entries of a bundle.
-use Prim.Native.Nat.{ℕ, zero, suc, ◌+◌, ◌*◌, ◌-◌, ◌/◌, ◌%◌, ◌≤◌, ◌<◌}
-use mathlib.Core.Path.{◌≡◌, refl, sym, ap, subst, ◌∙◌}
+use Prim.Native.Nat.{ℕ, zero, suc, ◌+◌, ◌*◌, ◌-◌, ◌≤◌, ◌<◌}
+use mathlib.Core.Path.{◌≡◌, refl, sym, ap, ◌∙◌}
 use mathlib.Core.Bool.{Bool, true, false, not, cond}
 use mathlib.Core.List.{List, [], ◌∷◌, ◌++◌, append_assoc, append-nil}
 use native.Mathlib.Omega.{arith}
@@ -9,18 +9,17 @@ use lib.Dec.{eqb}
 use lib.ListN.{length, get_or, set, drop, replicate, length-append, length-replicate}
 use Rattle.sound.specs.Placed.{Each}
 use Rattle.output.specs.Splice.{splice}
-use Rattle.bundle.specs.Bundle.{word_of, flock_of, delivered_of, length_of, is_flock, Entry, Walk, entry_at, text_of, walk, pick_if, of_flock}
+use Rattle.bundle.specs.Bundle.{word_of, flock_of, delivered_of, length_of, is_flock, Entry, Walk, entry_at, walk, pick_if, of_flock}
 use Rattle.bundle.specs.Answers.{bundle_of}
 use Rattle.bundle.specs.declared.Bundle.{Bundle}
 use Rattle.bundle.proofs.Walks.{rest_at, word-taken, text-length}
 use Rattle.bundle.proofs.Lists.{Passing, passing-none, stood, passed}
-use Rattle.flock_table.specs.Table.{picked, is_delivered, is_undelivered, message_octets, record_of, totals, table_of, none, plus}
+use Rattle.flock_table.specs.Table.{picked, is_delivered, message_octets, record_of, totals, table_of, none, plus}
 use Rattle.flock_table.specs.Tabulate.{tabulate}
 use Rattle.flock_table.specs.declared.Flock.{Flock}
 use Rattle.flock_table.proofs.Counted.{Short, picked-append, picked-few, picked-each, each_last, table-length, table-plus}
-use Rattle.bundle_edit.specs.Calls.{beside_table, of_bundle}
-use Rattle.bundle_edit.specs.Changes.{record_numbers, table_numbers, record_at, head_record, is_counted, puts, changes_by, refused_changes, rebuild_changes}
-use Rattle.bundle_edit.specs.declared.Changes.{Changes}
+use Rattle.bundle_edit.specs.Changes.{record_numbers, table_numbers, record_at, head_record, is_counted, refused_changes, rebuild_changes}
+use Rattle.bundle_edit.specs.declared.Kind.TheVariants.{Puts}
 
 -- ---- a table as numbers
 
@@ -176,7 +175,7 @@ module _ (n : ℕ) (s : List ℕ) where
         rw (h, q, number, y)
 
     pub rebuild-puts : b.number ≡ 0 → {counts : List ℕ} → counts ≡ table_numbers (table_of (picked (is_counted true) (walk s).entries))
-        → record { kind = 1; number = 0; place = 0; used = length s; counts = counts } ≡ rebuild_changes n s
+        → record { kind = Puts; number = 0; place = 0; used = length s; counts = counts } ≡ rebuild_changes n s
     unfolding rebuild_changes
     rebuild-puts z {counts} q =
         let g : eqb (walk s).stop 0 ≡ true = eq-eqb (walk s).stop 0 (sym number ∙ z) in

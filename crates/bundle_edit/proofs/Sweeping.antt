@@ -1,16 +1,16 @@
 -- The loops of a mark and of a sweep over the entries of a bundle.
-use Prim.Native.Nat.{ℕ, zero, suc, ◌+◌, ◌*◌, ◌-◌, ◌/◌, ◌%◌, ◌≤◌, ◌<◌}
+use Prim.Native.Nat.{ℕ, zero, suc, ◌+◌, ◌*◌, ◌/◌, ◌≤◌, ◌<◌, ◌-◌}
 use mathlib.Core.Path.{◌≡◌, refl, sym, ap, subst, ◌∙◌}
 use mathlib.Core.Bool.{Bool, true, false, not, cond}
 use mathlib.Core.List.{List, [], ◌∷◌, ◌++◌, append_assoc, append-nil}
 use native.Mathlib.Omega.{arith}
 use borrow.Author.Tests.{eqb-true, eqb-false, eq-eqb, ne_eqb, le-leb, lt-leb, lt-ltb, le-ltb, ltb-true}
 use lib.Dec.{leb, ltb, eqb}
-use lib.ListN.{length, get_or, set, take, drop, length-append, length-set, length-drop, take-append-drop}
-use lib.Seq.{get_or-take, get_or-drop, get_or_at, get_or-set_other, take_at, take-take, drop-drop, drop-set-lt, length-take-le, take-add}
-use Rattle.octets.proofs.Kit.{either, no_true}
+use lib.ListN.{length, get_or, set, take, drop, length-append, take-append-drop}
+use lib.Seq.{get_or-take, get_or-drop, get_or_at, take_at, drop-set-lt, length-take-le, take-add}
+use Rattle.octets.proofs.Kit.{either}
 use Rattle.output.specs.Splice.{splice, part}
-use Rattle.output.proofs.Laws.{splice-length, splice-append, splice-is, elements-length, elements-more, elements-none, elements-take, put-turn}
+use Rattle.output.proofs.Laws.{splice-length, splice-append, splice-is, elements-length, elements-take}
 use Rattle.bundle.specs.Bundle.{word_of, flock_of, delivered_of, length_of, is_flock, Entry, entry_octets, entries_octets, Walk, entry_at, walk, pick_if}
 use Rattle.bundle.specs.Answers.{bundle_of}
 use Rattle.bundle.specs.declared.Bundle.{Bundle}
@@ -20,11 +20,14 @@ use Rattle.flock_table.specs.Table.{picked, is_delivered, is_undelivered}
 use Rattle.flock_table.proofs.Counted.{flock-least, picked-append}
 use Rattle.bundle_edit.specs.Calls.{on_bundle}
 use Rattle.bundle_edit.specs.Delivery.{entry_number, entry_place, kept_octets, judged_call, Finds, none_there, idle_plan, marking_plan, mark_plan_of, marked_of, mark_plan, marked, sweep_changes, swept}
-use Rattle.bundle_edit.specs.Changes.{refused_changes, changes_by, takes_off, table_numbers}
+use Rattle.bundle_edit.specs.Changes.{refused_changes, changes_by, table_numbers}
 use Rattle.flock_table.specs.Table.{table_of}
-use Rattle.bundle_edit.specs.declared.Judged.{Judged}
+use Rattle.octets.specs.declared.Refused.{Refused}
+use Rattle.octets.specs.Refusals.{refused_at}
+use Rattle.std.proofs.Common.{Option, Some, None, Result, Ok, Err}
 use Rattle.bundle_edit.specs.declared.Plan.{Plan}
 use Rattle.bundle_edit.specs.declared.Changes.{Changes}
+use Rattle.bundle_edit.specs.declared.Kind.TheVariants.{TakesOff}
 
 part_length : (l : List ℕ) (from n : ℕ) → length (part l from n) ≡ n
 part_length l from n = elements-length 0 l from n
@@ -150,44 +153,6 @@ splice-behind : (o : List ℕ) (at : ℕ) (bs : List ℕ) (k : ℕ) → at + len
 splice-behind o at [] k h = refl
 splice-behind o at (b ∷ bs) k h = splice-behind (set o at b) (at + 1) bs k (omega (arith, h)) ∙ drop-set-lt k o at b (omega (arith, h))
 
-pub record Moving (b₀ : List ℕ) (to from n : ℕ) (b : List ℕ) (i : ℕ) : Type 0 where
-  pub few : i ≤ n
-  pub kept : length b ≡ length b₀
-  pub left : splice b (to + i) (part b₀ (from + i) (n - i)) ≡ splice b₀ to (part b₀ from n)
-  pub behind : drop (from + i) b ≡ drop (from + i) b₀
-
-pub moving-start : (b : List ℕ) (to from n : ℕ) → Moving b to from n b 0
-moving-start b to from n =
-    let a : to + 0 ≡ to = omega arith in
-    let c : from + 0 ≡ from = omega arith in
-    let d : n - 0 ≡ n = omega arith in
-    record { few = omega arith; kept = refl; left = rw (a, c, d); behind = refl }
-
-read_behind : (b b₀ : List ℕ) (k : ℕ) → drop k b ≡ drop k b₀ → get_or b k 0 ≡ get_or b₀ k 0
-read_behind b b₀ k e =
-    let z : k + 0 ≡ k = omega arith in
-    ap (λ (j : ℕ). get_or b j 0) (sym z) ∙ sym (get_or-drop k b 0 0) ∙ ap (λ (l : List ℕ). get_or l 0 0) e ∙ get_or-drop k b₀ 0 0 ∙ ap (λ (j : ℕ). get_or b₀ j 0) z
-
-drop_more : (b b₀ : List ℕ) (k : ℕ) → drop k b ≡ drop k b₀ → drop (k + 1) b ≡ drop (k + 1) b₀
-drop_more b b₀ k e = sym (drop-drop 1 k b) ∙ ap (drop 1) e ∙ drop-drop 1 k b₀
-
-pub moving-next : {b₀ b : List ℕ} {to from n i : ℕ} → to ≤ from → Moving b₀ to from n b i → i < n → Moving b₀ to from n (set b (to + i) (get_or b (from + i) 0)) (i + 1)
-moving-next {b₀} {b} {to} {from} {n} {i} le z lt =
-    let v = get_or b (from + i) 0 in
-    let e : v ≡ get_or b₀ (from + i) 0 = read_behind b b₀ (from + i) z.behind in
-    let a : from + (i + 1) ≡ from + i + 1 = omega arith in
-    record {
-      few = omega (arith, lt);
-      kept = length-set b (to + i) v ∙ z.kept;
-      left =
-          put-turn b to i v (part b₀ (from + i) (n - i)) (part b₀ (from + (i + 1)) (n - (i + 1)))
-          (elements-more 0 b₀ from i n lt ∙ ap (λ (x : ℕ). x ∷ part b₀ (from + (i + 1)) (n - (i + 1))) (sym e)) ∙ z.left;
-      behind = rw a (drop-set-lt (from + i + 1) b (to + i) v (omega (arith, le)) ∙ drop_more b b₀ (from + i) z.behind);
-    }
-
-pub moving-end : {b₀ b : List ℕ} {to from n i : ℕ} → Moving b₀ to from n b i → n ≤ i → b ≡ splice b₀ to (part b₀ from n)
-moving-end {b₀} {b} {to} {from} {n} {i} z e = rw (elements-none 0 b₀ (from + i) i n e) at z.left
-
 -- an entry that stays where it is
 pub splice-self : (b : List ℕ) (at n : ℕ) → at + n ≤ length b → b ≡ splice b at (part b at n)
 splice-self b at n h =
@@ -295,8 +260,8 @@ keeps-end {b₀} {b} {used} h z e =
 
 -- ---- what is judged first
 
-abbrev turned_down : ℕ → ℕ → Judged
-turned_down k p = record { number = k; place = p; count = 0 }
+abbrev turned_down : ℕ → ℕ → Result ℕ Refused
+turned_down k p = Err (refused_at k p)
 
 module _ (n : ℕ) (b : List ℕ) (used : ℕ) where
   pub judge-none : eqb n 127 ≡ false → turned_down 16 0 ≡ judged_call n b used
@@ -319,12 +284,15 @@ module _ (n : ℕ) (b : List ℕ) (used : ℕ) where
           let y : z.end ≡ (walk (take used b)).end = ap (λ (x : Bundle). x.end) e in
           rw (h, le-leb used (length b) u, q, number, y)
 
-      pub judge-good : z.number ≡ 0 → record { number = 0; place = 0; count = z.count } ≡ judged_call n b used
+      pub judge-good : z.number ≡ 0 → Ok z.count ≡ judged_call n b used
       unfolding judged_call
       judge-good k =
           let q : eqb (walk (take used b)).stop 0 ≡ true = eq-eqb (walk (take used b)).stop 0 (sym number ∙ k) in
           let y : z.count ≡ length (walk (take used b)).entries = ap (λ (x : Bundle). x.count) e in
           rw (h, le-leb used (length b) u, q, y)
+
+no-count : {A : Type 0} {k p count : ℕ} → turned_down k p ≡ Ok count → A
+no-count e = let z : ◌≡◌ {A = ℕ} 0 1 = cc in absurd (omega arith)
 
 -- a call that is accepted
 pub record Accepts (n : ℕ) (b : List ℕ) (used count : ℕ) : Type 0 where
@@ -334,39 +302,38 @@ pub record Accepts (n : ℕ) (b : List ℕ) (used count : ℕ) : Type 0 where
   pub counted : count ≡ length (walk (take used b)).entries
 
 accepted : (n : ℕ) (b : List ℕ) (used : ℕ) (x y z : Bool) → eqb n 127 ≡ x → leb used (length b) ≡ y → eqb (walk (take used b)).stop 0 ≡ z
-    → (j : Judged)
-    → j ≡ cond x (cond y (cond z (record { number = 0; place = 0; count = length (walk (take used b)).entries }) (turned_down (walk (take used b)).stop (walk (take used b)).end)) (turned_down 13 0)) (turned_down 16 0)
-    → j.number ≡ 0 → Accepts n b used j.count
-accepted n b used true true true ex ey ez j e k = record { table = ex; within = ey; bundle = ez; counted = ap (λ (v : Judged). v.count) e }
-accepted n b used true true false ex ey ez j e k =
-    let q : j.number ≡ (walk (take used b)).stop = ap (λ (v : Judged). v.number) e in absurd (eqb-false (walk (take used b)).stop 0 ez (sym q ∙ k))
-accepted n b used true false z ex ey ez j e k = let q : j.number ≡ 13 = ap (λ (v : Judged). v.number) e in absurd (omega (arith, q, k))
-accepted n b used false y z ex ey ez j e k = let q : j.number ≡ 16 = ap (λ (v : Judged). v.number) e in absurd (omega (arith, q, k))
+    → (count : ℕ)
+    → cond x (cond y (cond z (Ok (length (walk (take used b)).entries)) (turned_down (walk (take used b)).stop (walk (take used b)).end)) (turned_down 13 0)) (turned_down 16 0) ≡ Ok count
+    → Accepts n b used count
+accepted n b used true true true ex ey ez count e = let q : count ≡ length (walk (take used b)).entries = cc in record { table = ex; within = ey; bundle = ez; counted = q }
+accepted n b used true true false ex ey ez count e = no-count e
+accepted n b used true false z ex ey ez count e = no-count e
+accepted n b used false y z ex ey ez count e = no-count e
 
-pub judged-good : (n : ℕ) (b : List ℕ) (used : ℕ) {j : Judged} → j ≡ judged_call n b used → j.number ≡ 0 → Accepts n b used j.count
+pub judged-good : (n : ℕ) (b : List ℕ) (used : ℕ) {count : ℕ} → judged_call n b used ≡ Ok count → Accepts n b used count
 unfolding judged_call
-judged-good n b used {j} e k = accepted n b used (eqb n 127) (leb used (length b)) (eqb (walk (take used b)).stop 0) refl refl refl j e k
+judged-good n b used {count} e = accepted n b used (eqb n 127) (leb used (length b)) (eqb (walk (take used b)).stop 0) refl refl refl count e
 
 -- its answer is that of the entries
 pub on-good : {A : Type 0} (n : ℕ) (b : List ℕ) (used count : ℕ) → Accepts n b used count → (refuse : ℕ → ℕ → A) (answer : List Entry → A)
     → answer (walk (take used b)).entries ≡ on_bundle refuse n b used answer
 on-good n b used count a refuse answer = sym (rw (a.table, a.within, a.bundle))
 
-refused-by : {A : Type 0} (x y z : Bool) (k p c : ℕ) (refuse : ℕ → ℕ → A) (answer : A) (j : Judged)
-    → j ≡ cond x (cond y (cond z (record { number = 0; place = 0; count = c }) (turned_down k p)) (turned_down 13 0)) (turned_down 16 0) → (j.number ≡ 0 → ⊥)
-    → refuse j.number j.place ≡ cond x (cond y (cond z answer (refuse k p)) (refuse 13 0)) (refuse 16 0)
-refused-by true true true k p c refuse answer j e n = absurd (n (ap (λ (v : Judged). v.number) e))
-refused-by true true false k p c refuse answer j e n = ap (λ (v : Judged). refuse v.number v.place) e
-refused-by true false z k p c refuse answer j e n = ap (λ (v : Judged). refuse v.number v.place) e
-refused-by false y z k p c refuse answer j e n = ap (λ (v : Judged). refuse v.number v.place) e
+refused-by : {A : Type 0} (x y z : Bool) (k p c : ℕ) (refuse : ℕ → ℕ → A) (answer : A) (e : Refused)
+    → cond x (cond y (cond z (Ok c) (turned_down k p)) (turned_down 13 0)) (turned_down 16 0) ≡ Err e
+    → refuse e.number e.place ≡ cond x (cond y (cond z answer (refuse k p)) (refuse 13 0)) (refuse 16 0)
+refused-by true true true k p c refuse answer e h = let z : ◌≡◌ {A = ℕ} 0 1 = cc in absurd (omega arith)
+refused-by true true false k p c refuse answer e h = let q : e ≡ refused_at k p = cc in ap (λ (v : Refused). refuse v.number v.place) q
+refused-by true false z k p c refuse answer e h = let q : e ≡ refused_at 13 0 = cc in ap (λ (v : Refused). refuse v.number v.place) q
+refused-by false y z k p c refuse answer e h = let q : e ≡ refused_at 16 0 = cc in ap (λ (v : Refused). refuse v.number v.place) q
 
 -- and a refused one is refused so, whatever it answers
-pub on-bad : {A : Type 0} (n : ℕ) (b : List ℕ) (used : ℕ) {j : Judged} → j ≡ judged_call n b used → (j.number ≡ 0 → ⊥) → (refuse : ℕ → ℕ → A) (answer : List Entry → A)
-    → refuse j.number j.place ≡ on_bundle refuse n b used answer
+pub on-bad : {A : Type 0} (n : ℕ) (b : List ℕ) (used : ℕ) {e : Refused} → judged_call n b used ≡ Err e → (refuse : ℕ → ℕ → A) (answer : List Entry → A)
+    → refuse e.number e.place ≡ on_bundle refuse n b used answer
 unfolding judged_call
-on-bad n b used {j} e k refuse answer =
+on-bad n b used {e} h refuse answer =
     refused-by (eqb n 127) (leb used (length b)) (eqb (walk (take used b)).stop 0) (walk (take used b)).stop (walk (take used b)).end
-    (length (walk (take used b)).entries) refuse (answer (walk (take used b)).entries) j e k
+    (length (walk (take used b)).entries) refuse (answer (walk (take used b)).entries) e h
 
 -- ---- a mark
 
@@ -405,29 +372,29 @@ module _ (n : ℕ) (b : List ℕ) (used i : ℕ) {r : Plan} where
   unfolding mark_plan marked
   mark-done {b'} {count} a q = (q.0 ∙ on-good n b used count a (idle_plan used) (mark_plan_of used i), q.1 ∙ on-good n b used count a (λ _ _. b) (marked_of b i))
 
-  pub mark-refused : {j : Judged} → j ≡ judged_call n b used → (j.number ≡ 0 → ⊥) → r ≡ idle_plan used j.number j.place
+  pub mark-refused : {e : Refused} → judged_call n b used ≡ Err e → r ≡ idle_plan used e.number e.place
       → (r ≡ mark_plan n b used i) × (b ≡ marked n b used i)
   unfolding mark_plan marked
-  mark-refused e k q = (q ∙ on-bad n b used e k (idle_plan used) (mark_plan_of used i), on-bad n b used e k (λ _ _. b) (marked_of b i))
+  mark-refused e q = (q ∙ on-bad n b used e (idle_plan used) (mark_plan_of used i), on-bad n b used e (λ _ _. b) (marked_of b i))
 
 -- ---- a sweep
 
 abbrev off : List Entry → Changes
-off es = changes_by takes_off (length (kept_octets es)) (picked is_delivered es)
+off es = changes_by TakesOff (length (kept_octets es)) (picked is_delivered es)
 
 module _ (n : ℕ) (b : List ℕ) (used : ℕ) where
   pub sweep-done : {b' counts : List ℕ} {count end : ℕ} → Accepts n b used count → counts ≡ table_numbers (table_of (picked is_delivered (walk (take used b)).entries))
       → (end ≡ length (kept_octets (walk (take used b)).entries)) × (b' ≡ splice b 0 (kept_octets (walk (take used b)).entries))
-      → (record { kind = 2; number = 0; place = 0; used = end; counts = counts } ≡ sweep_changes n b used) × (b' ≡ swept n b used)
+      → (record { kind = TakesOff; number = 0; place = 0; used = end; counts = counts } ≡ sweep_changes n b used) × (b' ≡ swept n b used)
   unfolding sweep_changes swept
   sweep-done {b'} {counts} {count} {end} a ec q =
-      let c : record { kind = 2; number = 0; place = 0; used = end; counts = counts } ≡ off (walk (take used b)).entries = rw (ec, q.0) in
+      let c : record { kind = TakesOff; number = 0; place = 0; used = end; counts = counts } ≡ off (walk (take used b)).entries = rw (ec, q.0) in
       (c ∙ on-good n b used count a (refused_changes used) off, q.1 ∙ on-good n b used count a (λ _ _. b) (λ es. splice b 0 (kept_octets es)))
 
-  pub sweep-refused : {j : Judged} {r : Changes} → j ≡ judged_call n b used → (j.number ≡ 0 → ⊥) → r ≡ refused_changes used j.number j.place
+  pub sweep-refused : {e : Refused} {r : Changes} → judged_call n b used ≡ Err e → r ≡ refused_changes used e.number e.place
       → (r ≡ sweep_changes n b used) × (b ≡ swept n b used)
   unfolding sweep_changes swept
-  sweep-refused e k q = (q ∙ on-bad n b used e k (refused_changes used) off, on-bad n b used e k (λ _ _. b) (λ es. splice b 0 (kept_octets es)))
+  sweep-refused e q = (q ∙ on-bad n b used e (refused_changes used) off, on-bad n b used e (λ _ _. b) (λ es. splice b 0 (kept_octets es)))
 
 -- ---- the record that a mark changes
 
@@ -437,10 +404,13 @@ flock-at s i l =
     let f = placed-finds s {count = length (walk s).entries} refl l {at = entry_place (walk s).entries i} refl refl in
     subst (λ (w : ℕ). is_flock (flock_of w) ≡ true) f.head f.flock
 
-pub mark-index : (n : ℕ) (b : List ℕ) (used i : ℕ) → (mark_plan n b used i).go ≡ true → (mark_plan n b used i).index < n
+no-index : {A : Type 0} {k : ℕ} → ◌≡◌ {A = Option ℕ} None (Some k) → A
+no-index e = let z : ◌≡◌ {A = ℕ} 0 1 = cc in absurd (omega arith)
+
+pub mark-index : (n : ℕ) (b : List ℕ) (used i : ℕ) {k : ℕ} → (mark_plan n b used i).index ≡ Some k → k < n
 unfolding mark_plan
-mark-index n b used i =
-    let Q : Plan → Type 0 = λ (p : Plan). p.go ≡ true → p.index < n in
+mark-index n b used i {k} =
+    let Q : Plan → Type 0 = λ (p : Plan). p.index ≡ Some k → k < n in
     let w = walk (take used b) in
     let v = word_of (entry_number w.entries i).head in
     either Q (eqb n 127) _ _
@@ -451,12 +421,13 @@ mark-index n b used i =
     (λ _.
     either Q (ltb i (length w.entries)) _ _
     (λ l.
-    either Q (is_delivered (entry_number w.entries i)) (idle_plan used 0 0) (marking_plan used v) (λ _ g. absurd (no_true g))
-    (λ _ _.
+    either Q (is_delivered (entry_number w.entries i)) (idle_plan used 0 0) (marking_plan used v) (λ _. no-index)
+    (λ _ g.
     let h = flock-least (flock_of v) (flock-at (take used b) i (ltb-true i (length w.entries) l)) in
     let e = eqb-true n 127 x in
-    omega (arith, h.0, h.1, e)))
-    (λ _ g. absurd (no_true g)))
-    (λ _ g. absurd (no_true g)))
-    (λ _ g. absurd (no_true g)))
-    (λ _ g. absurd (no_true g))
+    let q : flock_of v - 1 ≡ k = cc in
+    omega (arith, h.0, h.1, e, q)))
+    (λ _. no-index))
+    (λ _. no-index))
+    (λ _. no-index))
+    (λ _. no-index)

@@ -1,13 +1,11 @@
 -- The appender of Binary messages (02, item 1): "judges the bundle (its own place), then count, flock and message, then written length, then room". It is a
 -- writer into the buffer from the used length on: what it writes there is one entry, undelivered, of the message's kind and as long as what is written.
-use Rattle.std.specs.Prelude.{ℕ, ◌+◌, ◌-◌, ◌≤◌, ◌≡◌, Bool, true, false, cond, List, [], ◌∷◌, ◌++◌, ltb, eqb, length, take, get_or, set}
+use Rattle.std.specs.Prelude.{ℕ, ◌+◌, ◌-◌, ◌≤◌, ◌≡◌, cond, List, ◌++◌, ltb, length, take, get_or, set, Option, Some, None, Ok, Err}
 use Rattle.octets.specs.Refusals.{too_large, bad_entry}
 use Rattle.messages.specs.Meaning.{Meaning}
 use Rattle.messages.specs.Valid.{of_response}
 use Rattle.binary_writer.specs.Write.{to_binary}
-use Rattle.output.specs.Reply.{Reply, writes, refuses, written_of, lent_after_at}
-use Rattle.output.specs.declared.Written.{Written}
-use Rattle.output.specs.declared.Written.TheVariants.{Done, Refused}
+use Rattle.output.specs.Reply.{Reply, writes, refuses, written_of, lent_after_at, Written}
 use Rattle.turn.specs.Turn.{reply_from}
 use Rattle.octets.specs.Limits.{binary_most, entries_most}
 use Rattle.bundle.specs.Bundle.{head_of, head_octets, is_flock, read_message, kind_number, Entry, walk}
@@ -51,11 +49,11 @@ append_reply n b used f m = beside_table refuses n (buffer_reply b used f m)
 
 -- ---- the flat answer, and the buffer afterwards
 
--- whether a record of a table is to be changed, which one and by how many octets of message; number, place and the used length afterwards; and how many
+-- which record of a table is to be changed, if any, and by how many octets of message; number, place and the used length afterwards; and how many
 -- integers of the message were not in their shortest form (item 8)
 abbrev pub plan_of : ℕ → ℕ → ℕ → Written → Plan
-plan_of used f long (Done n) = record { go = true; index = f - 1; size = n - 4; number = 0; place = 0; used = used + n; long = long }
-plan_of used f long (Refused number place) = record { go = false; index = 0; size = 0; number = number; place = place; used = used; long = 0 }
+plan_of used f long (Ok n) = record { index = Some (f - 1); size = n - 4; number = 0; place = 0; used = used + n; long = long }
+plan_of used f long (Err e) = record { index = None; size = 0; number = e.number; place = e.place; used = used; long = 0 }
 
 -- how many integers of a message that was read are not in their shortest form; none where it was refused
 abbrev pub long_in : Answer Message → ℕ
@@ -81,13 +79,18 @@ Planned n b used f m b' r = (r ≡ append_plan n b used f m) × (b' ≡ appended
 abbrev pub new_record : ℕ → Flock
 new_record n = record { entries = 1; bytes = n; undelivered = 1 }
 
+-- with an entry more in the record of this index, if there is one
+abbrev pub entered_at : Option ℕ → ℕ → List Flock → List Flock
+entered_at (Some i) size t = set t i (plus (get_or t i none) (new_record size))
+entered_at None size t = t
+
 -- by the plan: one record changes, or none
 abbrev pub entered : Plan → List Flock → List Flock
-entered p t = cond p.go (set t p.index (plus (get_or t p.index none) (new_record p.size))) t
+entered p t = entered_at p.index p.size t
 
 -- ---- the code
 
 -- an answer that may be made into a plan without passing a number's width
 abbrev pub Fair : ℕ → ℕ → ℕ → Written → Type 0
-Fair room used f (Done n) = (used + n ≤ room) × (4 ≤ n) × (n ≤ 4 + binary_most) × (1 ≤ f)
-Fair room used f (Refused number place) = Unit {0}
+Fair room used f (Ok n) = (used + n ≤ room) × (4 ≤ n) × (n ≤ 4 + binary_most) × (1 ≤ f)
+Fair room used f (Err e) = Unit {0}

@@ -1,16 +1,17 @@
 -- Room back in the bundle (02, item 11): "marking by entry number, counted from 0, and a sweep in the caller's buffer". "Order: 16, the appender's 13 at 0 for
 -- a used length past the buffer, the bundle's own, 18": the first three are `on_bundle` (Calls). Each call's answer, flat, and the buffer afterwards.
-use Rattle.std.specs.Prelude.{ℕ, ◌+◌, ◌-◌, ◌≤◌, ◌≡◌, true, false, cond, List, [], ltb, length, take, drop, get_or, set}
-use Rattle.octets.specs.Refusals.{no_entry}
+use Rattle.std.specs.Prelude.{ℕ, ◌+◌, ◌-◌, ◌≤◌, ◌≡◌, true, cond, List, [], ltb, length, take, drop, get_or, set, Option, Some, None, Result, Ok, Err}
+use Rattle.octets.specs.Refusals.{no_entry, refused_at}
+use Rattle.octets.specs.declared.Refused.{Refused}
 use Rattle.output.specs.Splice.{splice}
 use Rattle.bundle.specs.Bundle.{word_of, flock_of, is_flock, Entry, entries_octets}
 use Rattle.flock_table.specs.Table.{picked, is_delivered, is_undelivered, none, minus}
 use Rattle.flock_table.specs.declared.Flock.{Flock}
 use Rattle.bundle_edit.specs.Calls.{on_bundle}
-use Rattle.bundle_edit.specs.Changes.{takes_off, refused_changes, changes_by}
+use Rattle.bundle_edit.specs.Changes.{refused_changes, changes_by}
 use Rattle.bundle_edit.specs.declared.Plan.{Plan}
 use Rattle.bundle_edit.specs.declared.Changes.{Changes}
-use Rattle.bundle_edit.specs.declared.Judged.{Judged}
+use Rattle.bundle_edit.specs.declared.Kind.TheVariants.{TakesOff}
 
 -- ---- marking
 
@@ -28,11 +29,11 @@ entry_place es i = length (entries_octets (take i es))
 
 -- a plan without a record to change: a refusal, or 0 for an entry that is delivered already
 abbrev pub idle_plan : ℕ → ℕ → ℕ → Plan
-idle_plan used number place = record { go = false; index = 0; size = 0; number = number; place = place; used = used; long = 0 }
+idle_plan used number place = record { index = None; size = 0; number = number; place = place; used = used; long = 0 }
 
 -- the plan for an entry of this head: its flock's record has one undelivered entry less
 abbrev pub marking_plan : ℕ → ℕ → Plan
-marking_plan used word = record { go = true; index = flock_of word - 1; size = 0; number = 0; place = 0; used = used; long = 0 }
+marking_plan used word = record { index = Some (flock_of word - 1); size = 0; number = 0; place = 0; used = used; long = 0 }
 
 -- of these entries: "18 at 0 for an entry number that is not there; marking a delivered entry again is accepted and changes nothing"
 abbrev pub mark_plan_of : ℕ → ℕ → List Entry → Plan
@@ -58,9 +59,14 @@ marked n b used i = on_bundle (λ _ _. b) n b used (marked_of b i)
 abbrev pub one_undelivered : Flock
 one_undelivered = record { entries = 0; bytes = 0; undelivered = 1 }
 
+-- with an undelivered entry less in the record of this index, if there is one
+abbrev pub lessened_at : Option ℕ → List Flock → List Flock
+lessened_at (Some i) t = set t i (minus (get_or t i none) one_undelivered)
+lessened_at None t = t
+
 -- the table afterwards, by the plan
 abbrev pub lessened : Plan → List Flock → List Flock
-lessened p t = cond p.go (set t p.index (minus (get_or t p.index none) one_undelivered)) t
+lessened p t = lessened_at p.index t
 
 -- ---- the sweep
 
@@ -70,7 +76,7 @@ kept_octets es = entries_octets (picked is_undelivered es)
 
 -- what a sweep beside a table of n records answers: the records of the delivered entries are taken off
 unfoldable pub sweep_changes : ℕ → List ℕ → ℕ → Changes
-sweep_changes n b used = on_bundle (refused_changes used) n b used (λ es. changes_by takes_off (length (kept_octets es)) (picked is_delivered es))
+sweep_changes n b used = on_bundle (refused_changes used) n b used (λ es. changes_by TakesOff (length (kept_octets es)) (picked is_delivered es))
 
 -- and the buffer afterwards: "Behind the new end the old bytes stay"
 unfoldable pub swept : ℕ → List ℕ → ℕ → List ℕ
@@ -78,9 +84,9 @@ swept n b used = on_bundle (λ _ _. b) n b used (λ es. splice b 0 (kept_octets 
 
 -- ---- the code
 
--- what is judged before either: 0 and how many entries there are, or the refusal
-unfoldable pub judged_call : ℕ → List ℕ → ℕ → Judged
-judged_call n b used = on_bundle (λ k p. record { number = k; place = p; count = 0 }) n b used (λ es. record { number = 0; place = 0; count = length es })
+-- what is judged before either: how many entries there are, or the refusal
+unfoldable pub judged_call : ℕ → List ℕ → ℕ → Result ℕ Refused
+judged_call n b used = on_bundle (λ k p. Err (refused_at k p)) n b used (λ es. Ok (length es))
 
 -- an entry that was found in the front of the buffer b: its place, its head
 pub record Finds (b : List ℕ) (es : List Entry) (i at word : ℕ) : Type 0 where

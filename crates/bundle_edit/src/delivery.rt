@@ -8,19 +8,18 @@ ghost use Rattle.bundle_edit.specs.Delivery.{idle_plan, marking_plan, one_undeli
 ghost use Rattle.bundle_edit.specs.Delivery.{judged_call, Finds, Marks, Sweeps, entry_place};
 
 use crate::tables::{count_entries, is_delivered, refuse_changes};
-use crate::{Changes, Found, Judged, Kinds, Plan, front_bundle};
+use crate::{Changes, Found, Kind, Plan, front_bundle};
 use bundle::Head;
 use bundle::entry::word_at;
 use flock_table::{Flock, is_table, minus};
-use octets::Refusals;
+use octets::{Refusal, Refused};
 
 // A plan without a record to change.
 fn idle_plan(used: usize, number: u32, place: usize) -> Plan
     ensures { result ≡ idle_plan used number place }
 {
     Plan {
-        go: false,
-        index: 0,
+        index: None,
         size: 0,
         number,
         place,
@@ -29,37 +28,24 @@ fn idle_plan(used: usize, number: u32, place: usize) -> Plan
     }
 }
 
-// A refusal.
-fn refusal(number: u32, place: usize) -> Judged
-    ensures { result ≡ record { number = number; place = place; count = 0 } }
-{
-    Judged {
-        number,
-        place,
-        count: 0,
-    }
-}
-
-// The table, the used length and the bundle, in this order.
-fn judge(n: usize, buf: &[u8], used: usize) -> Judged
+// The table, the used length and the bundle, in this order: how many entries there are.
+fn judge(n: usize, buf: &[u8], used: usize) -> Result<usize, Refused>
     ensures { result ≡ judged_call n buf.now used }
 {
     if is_table(n) {
         if used <= buf.len() {
             let b = front_bundle(buf, used);
             if b.number == 0 {
-                return Judged {
-                    number: 0,
-                    place: 0,
-                    count: b.count,
-                };
+                return Ok(b.count);
             }
-            return refusal(b.number, b.end);
+            return Err(Refused {
+                number: b.number,
+                place: b.end,
+            });
         }
-        return refusal(Refusals::NO_ROOM, 0);
-    } else {
-        return refusal(Refusals::BAD_TABLE, 0);
+        return Err(Refusal::NoRoom.at(0));
     }
+    Err(Refusal::BadTable.at(0))
 }
 
 // Where the i-th entry begins, of a bundle that has so many.
@@ -67,12 +53,10 @@ fn entry_place(s: &[u8], count: usize, i: usize) -> usize
     requires { (count ≡ length (walk s.now).entries) × (i < count) }
     ensures { result ≡ entry_place (walk s.now).entries i }
 {
-    let mut k = 0;
     let mut at = 0;
-    while k < i {
+    for _k in 0..i {
         let word = word_at(s, at);
         at += 4 + (word % Head::KIND) as usize;
-        k += 1;
     }
     at
 }
@@ -110,8 +94,7 @@ fn marking_plan(used: usize, word: u32) -> Plan
     ensures { result ≡ marking_plan used word }
 {
     Plan {
-        go: true,
-        index: (word / Head::FLOCK) as usize - 1,
+        index: Some((word / Head::FLOCK) as usize - 1),
         size: 0,
         number: 0,
         place: 0,
@@ -138,18 +121,17 @@ fn mark_entry(buf: &mut [u8], used: usize, count: usize, i: usize) -> Plan
             return marking_plan(used, word);
         }
     }
-    idle_plan(used, Refusals::NO_ENTRY, 0)
+    idle_plan(used, Refusal::NoEntry as u32, 0)
 }
 
 // The entry of this number, counted from 0, is delivered from now on; beside a table of n records.
 pub fn mark(n: usize, buf: &mut [u8], used: usize, entry: usize) -> Plan
     ensures { Marks n buf.old used entry buf.new result }
 {
-    let j = judge(n, buf, used);
-    if j.number == 0 {
-        return mark_entry(buf, used, j.count, entry);
+    match judge(n, buf, used) {
+        Ok(count) => mark_entry(buf, used, count, entry),
+        Err(e) => idle_plan(used, e.number, e.place),
     }
-    idle_plan(used, j.number, j.place)
 }
 
 // A record with one undelivered entry less.
@@ -179,11 +161,7 @@ fn move_forward(buf: &mut [u8], to: usize, from: usize, n: usize)
     requires { (to ≤ from) × (from + n ≤ length buf.old) }
     ensures { buf.new ≡ splice buf.old to (part buf.old from n) }
 {
-    let mut i = 0;
-    while i < n {
-        buf[to + i] = buf[from + i];
-        i += 1;
-    }
+    buf.copy_within(from..from + n, to);
 }
 
 // An entry of n octets is moved forward to the end of those that are kept, if it is not delivered.
@@ -209,15 +187,13 @@ fn keep_entries(buf: &mut [u8], used: usize, count: usize) -> usize
     ensures { (result ≡ length (kept_octets (walk (take used buf.old)).entries))
         × (buf.new ≡ splice buf.old 0 (kept_octets (walk (take used buf.old)).entries)) }
 {
-    let mut i = 0;
     let mut at = 0;
     let mut end = 0;
-    while i < count {
+    for _i in 0..count {
         let word = word_at(buf, at);
         let n = 4 + (word % Head::KIND) as usize;
         end = keep_if(buf, end, at, n, is_delivered(word));
         at += n;
-        i += 1;
     }
     end
 }
@@ -226,18 +202,19 @@ fn keep_entries(buf: &mut [u8], used: usize, count: usize) -> usize
 pub fn sweep(n: usize, buf: &mut [u8], used: usize) -> Changes
     ensures { Sweeps n buf.old used buf.new result }
 {
-    let j = judge(n, buf, used);
-    if j.number == 0 {
-        let mut counts = [0u32; 381];
-        count_delivered(buf, used, j.count, &mut counts);
-        let end = keep_entries(buf, used, j.count);
-        return Changes {
-            kind: Kinds::TAKES_OFF,
-            number: 0,
-            place: 0,
-            used: end,
-            counts,
-        };
+    match judge(n, buf, used) {
+        Ok(count) => {
+            let mut counts = [0u32; 381];
+            count_delivered(buf, used, count, &mut counts);
+            let end = keep_entries(buf, used, count);
+            Changes {
+                kind: Kind::TakesOff,
+                number: 0,
+                place: 0,
+                used: end,
+                counts,
+            }
+        }
+        Err(e) => refuse_changes(used, e.number, e.place),
     }
-    refuse_changes(used, j.number, j.place)
 }

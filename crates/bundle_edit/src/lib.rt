@@ -21,18 +21,16 @@ use bundle::entry::is_flock;
 use bundle::reader::read_bundle;
 use bundle::{Bundle, Head};
 use flock_table::{Flock, is_table, plus};
-use messages::Outcome;
 use messages::call::plain;
-use octets::{Limits, Refusals};
+use octets::{Limits, Refusal, Refused};
 use output::Written;
 use turning::from_binary::binary_to_binary;
 
-// What a call that changes a bundle answers, flat: whether a table's record is to be changed, which one, by how many octets of message; number, place, the used
+// What a call that changes a bundle answers, flat: which record of a table is to be changed, if any, by how many octets of message; number, place, the used
 // length afterwards; integers that were not in their shortest form.
 #[derive(Clone, Copy)]
 pub struct Plan {
-    pub go: bool,
-    pub index: usize,
+    pub index: Option<usize>,
     pub size: u32,
     pub number: u32,
     pub place: usize,
@@ -40,11 +38,11 @@ pub struct Plan {
     pub long: usize,
 }
 
-// What a call that changes all records of a table answers, flat: what is done to each (one of Kinds), number, place, the used length afterwards; and the
+// What a call that changes all records of a table answers, flat: what is done to each, number, place, the used length afterwards; and the
 // records it is done with, three numbers each.
 #[derive(Clone, Copy)]
 pub struct Changes {
-    pub kind: u32,
+    pub kind: Kind,
     pub number: u32,
     pub place: usize,
     pub used: usize,
@@ -53,22 +51,10 @@ pub struct Changes {
 
 // What is done to each record: it is left, put, or taken off.
 #[derive(Clone, Copy)]
-pub struct Kinds;
-
-impl Kinds {
-    pub const LEAVES: u32 = 0;
-
-    pub const PUTS: u32 = 1;
-
-    pub const TAKES_OFF: u32 = 2;
-}
-
-// What is judged before a mark and before a sweep: 0 and how many entries there are, or a refusal.
-#[derive(Clone, Copy)]
-struct Judged {
-    number: u32,
-    place: usize,
-    count: usize,
+pub enum Kind {
+    Leaves,
+    Puts,
+    TakesOff,
 }
 
 // An entry: where it begins, its head.
@@ -84,18 +70,16 @@ fn plan_of(room: usize, used: usize, flock: u32, w: Written, long: usize) -> Pla
     ensures { result ≡ plan_of used flock long w }
 {
     match w {
-        Written::Refused { number, place } => return Plan {
-            go: false,
-            index: 0,
+        Err(e) => Plan {
+            index: None,
             size: 0,
-            number,
-            place,
+            number: e.number,
+            place: e.place,
             used,
             long: 0,
         },
-        Written::Done(n) => return Plan {
-            go: true,
-            index: flock as usize - 1,
+        Ok(n) => Plan {
+            index: Some(flock as usize - 1),
             size: (n - 4) as u32,
             number: 0,
             place: 0,
@@ -150,16 +134,11 @@ fn put_entry(buf: &mut [u8], used: usize, flock: u32, message: &[u8]) -> Written
     ensures { ServedAt (message_entry flock message.now) used buf.old buf.new result }
 {
     let from = behind_head(buf.len(), used);
-    let w = lend_behind(message, buf, from);
-    match w {
-        Written::Refused { number, place } => return Written::Refused { number, place },
-        Written::Done(n) => {
-            let kind = buf[from];
-            let word = head_word(flock, kind, n);
-            put_head(buf, used, word);
-            return Written::Done(n + 4);
-        }
-    }
+    let n = lend_behind(message, buf, from)?;
+    let kind = buf[from];
+    let word = head_word(flock, kind, n);
+    put_head(buf, used, word);
+    Ok(n + 4)
 }
 
 // The bundle that the first octets of a buffer are.
@@ -180,22 +159,15 @@ fn append_entry(buf: &mut [u8], used: usize, flock: u32, message: &[u8]) -> Writ
         if b.count < Limits::ENTRIES {
             if is_flock(flock) {
                 return put_entry(buf, used, flock, message);
-            } else {
-                return Written::Refused {
-                    number: Refusals::BAD_ENTRY,
-                    place: 0,
-                };
             }
+            return Err(Refusal::BadEntry.at(0));
         }
-        return Written::Refused {
-            number: Refusals::TOO_LARGE,
-            place: 0,
-        };
+        return Err(Refusal::TooLarge.at(0));
     }
-    Written::Refused {
+    Err(Refused {
         number: b.number,
         place: b.end,
-    }
+    })
 }
 
 // The same with a used length that may be past the buffer.
@@ -205,10 +177,7 @@ fn append_within(buf: &mut [u8], used: usize, flock: u32, message: &[u8]) -> Wri
     if used <= buf.len() {
         return append_entry(buf, used, flock, message);
     }
-    Written::Refused {
-        number: Refusals::NO_ROOM,
-        place: 0,
-    }
+    Err(Refusal::NoRoom.at(0))
 }
 
 // The same beside a table of n records.
@@ -217,12 +186,8 @@ fn append_beside(n: usize, buf: &mut [u8], used: usize, flock: u32, message: &[u
 {
     if is_table(n) {
         return append_within(buf, used, flock, message);
-    } else {
-        return Written::Refused {
-            number: Refusals::BAD_TABLE,
-            place: 0,
-        };
     }
+    Err(Refusal::BadTable.at(0))
 }
 
 // How many integers of the message are not in their shortest form.
@@ -233,12 +198,8 @@ fn long_forms(message: &[u8]) -> usize
     let m = read_binary(message, told);
     let o = m.outcome;
     match o {
-        Outcome::Message(r) => return r.long,
-        Outcome::Refusal {
-            number: _,
-            place: _,
-        } => return 0,
-        Outcome::More => return 0,
+        Ok(r) => return r.long,
+        Err(_) => return 0,
     }
 }
 

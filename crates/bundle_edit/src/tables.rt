@@ -5,12 +5,12 @@ ghost use Rattle.bundle.specs.Bundle.{flock_of, delivered_of, is_flock, walk};
 ghost use Rattle.flock_table.specs.Table.{picked, table_of, plus as plus_of};
 ghost use Rattle.bundle_edit.specs.Changes.{record_numbers, table_numbers, record_at, head_record, is_counted, changed, refused_changes, rebuild_changes};
 
-use crate::{Changes, Kinds};
+use crate::{Changes, Kind};
 use bundle::Head;
 use bundle::entry::word_at;
 use bundle::reader::read_bundle;
 use flock_table::{Flock, is_table, minus, plus};
-use octets::Refusals;
+use octets::Refusal;
 
 // The k-th record.
 fn record_at(counts: &[u32], k: usize) -> Flock
@@ -92,13 +92,11 @@ pub(crate) fn count_entries(s: &[u8], count: usize, all: bool, counts: &mut [u32
     requires counts_value { counts.old ≡ replicate 381 0 }
     ensures { counts.new ≡ table_numbers (table_of (picked (is_counted all) (walk s.now).entries)) }
 {
-    let mut i = 0;
     let mut at = 0;
-    while i < count {
+    for _i in 0..count {
         let word = word_at(s, at);
         count_if(counts, word, is_counted(all, word));
         at += 4 + (word % Head::KIND) as usize;
-        i += 1;
     }
 }
 
@@ -107,7 +105,7 @@ pub(crate) fn refuse_changes(used: usize, number: u32, place: usize) -> Changes
     ensures { result ≡ refused_changes used number place }
 {
     Changes {
-        kind: Kinds::LEAVES,
+        kind: Kind::Leaves,
         number,
         place,
         used,
@@ -125,7 +123,7 @@ pub fn rebuild(n: usize, s: &[u8]) -> Changes
             let mut counts = [0u32; 381];
             count_entries(s, b.count, true, &mut counts);
             return Changes {
-                kind: Kinds::PUTS,
+                kind: Kind::Puts,
                 number: 0,
                 place: 0,
                 used: s.len(),
@@ -134,7 +132,7 @@ pub fn rebuild(n: usize, s: &[u8]) -> Changes
         }
         return refuse_changes(s.len(), b.number, b.end);
     } else {
-        return refuse_changes(s.len(), Refusals::BAD_TABLE, 0);
+        return refuse_changes(s.len(), Refusal::BadTable as u32, 0);
     }
 }
 
@@ -148,13 +146,11 @@ pub fn change(old: Flock, c: Changes, k: usize) -> Flock
             bytes: c.counts[k * 3 + 1],
             undelivered: c.counts[k * 3 + 2],
         };
-        if c.kind == Kinds::PUTS {
-            return s;
-        }
-        if c.kind == Kinds::TAKES_OFF {
-            return minus(old, s);
-        }
-        return old;
+        return match c.kind {
+            Kind::Leaves => old,
+            Kind::Puts => s,
+            Kind::TakesOff => minus(old, s),
+        };
     }
     old
 }

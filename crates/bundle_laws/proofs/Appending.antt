@@ -1,6 +1,6 @@
 -- The claims on the appender: what it writes is the octets of one good entry, so `back` reads the whole.
-use Prim.Native.Nat.{ℕ, suc, ◌+◌, ◌-◌, ◌≤◌, ◌<◌}
-use mathlib.Core.Path.{◌≡◌, refl, sym, ap, subst, ◌∙◌}
+use Prim.Native.Nat.{ℕ, ◌+◌, ◌-◌, ◌≤◌, ◌<◌}
+use mathlib.Core.Path.{◌≡◌, refl, sym, ap, ◌∙◌}
 use mathlib.Core.Bool.{Bool, true, false, cond}
 use mathlib.Core.Logic.{⊎_elim}
 use mathlib.Core.List.{List, [], ◌∷◌, ◌++◌, append_assoc, append-nil}
@@ -9,11 +9,10 @@ use borrow.Author.Tests.{le-leb, lt-leb, leb-true, leb-false, ltb-true, eqb-true
 use lib.Dec.{leb, ltb, eqb}
 use lib.ListN.{length, take, drop, length-append}
 use lib.Seq.{length-take-le, take_at, drop_at}
-use Rattle.octets.specs.Limits.{binary_most}
-use Rattle.octets.specs.Refusals.{too_large, no_room, bad_entry, bad_table}
+use Rattle.octets.specs.Refusals.{too_large, no_room, bad_table, refused_at}
 use Rattle.octets.proofs.Kit.{into, split, either}
 use Rattle.script.specs.Script.{Answer, accepted, refused, more}
-use Rattle.messages.specs.Message.{is_response, Message}
+use Rattle.messages.specs.Message.{Message}
 use Rattle.messages.specs.Meaning.{Meaning, meaning}
 use Rattle.messages.specs.Valid.{of_response, valid, suits}
 use Rattle.sound.specs.Placed.{Each}
@@ -25,26 +24,25 @@ use Rattle.binary_round_trip.specs.RoundTrip.{placed_binary}
 use Rattle.binary_round_trip.proofs.Back.{round_trip}
 use Rattle.output.specs.Splice.{splice}
 use Rattle.output.specs.Reply.{Reply, writes, refuses, written_of, lent_after_at}
-use Rattle.output.specs.declared.Written.{Written}
-use Rattle.output.specs.declared.Written.TheVariants.{Done, Refused}
 use Rattle.output.proofs.Laws.{splice-is}
 use Rattle.turn.specs.Turn.{reply_from}
-use Rattle.bundle.specs.Bundle.{word_of, flock_of, delivered_of, kind_of, length_of, head_of, head_octets, is_flock, Entry, entry_octets, entries_octets, read_message, kind_number, Walk, walk}
+use Rattle.bundle.specs.Bundle.{word_of, flock_of, delivered_of, kind_of, head_of, head_octets, is_flock, Entry, entry_octets, entries_octets, read_message, kind_number, walk}
 use Rattle.bundle_edit.specs.Append.{with_head, entry_for, message_entry, behind_bundle, buffer_reply, append_reply, appended}
 use Rattle.bundle_edit.proofs.Appends.{kind-small, head-long}
 use Rattle.flock_table.proofs.Counted.{flock-least}
-use Rattle.bundle_laws.specs.Reading.{InForm, IsBundle}
+use Rattle.bundle_laws.specs.Reading.{InForm}
 use Rattle.bundle_laws.specs.Appending.{append_answer, Added, Appending}
 use Rattle.bundle_laws.proofs.Reading.{front, octets-of, back, is-bundle}
 use Rattle.bundle_laws.proofs.Heads.{word_back, head_small, head-flock, head-delivered, head-kind, head-length}
 use Rattle.bundle_laws.proofs.Demands.{response-is}
+use Rattle.std.proofs.Common.{Ok, Err}
 
 -- ---- replies taken apart
 
 no-reply : {k p : ℕ} {l : List ℕ} → refuses k p ≡ writes l → ⊥
 no-reply e = let z : ◌≡◌ {A = ℕ} 0 1 = cc in omega arith
 
-no-done : {A : Type 0} {n k p : ℕ} → Refused k p ≡ Done n → A
+no-done : {A : Type 0} {n k p : ℕ} → Err (refused_at k p) ≡ Ok n → A
 no-done e = let z : ◌≡◌ {A = ℕ} 0 1 = cc in absurd (omega arith)
 
 -- what is answered by Done n was octets for which there is room
@@ -54,11 +52,11 @@ pub record Wrote (y : Reply) (room n : ℕ) : Type 0 where
   pub size : n ≡ length octets
   pub fits : length octets ≤ room
 
-wrote : (y : Reply) (room n : ℕ) → written_of y room ≡ Done n → Wrote y room n
+wrote : (y : Reply) (room n : ℕ) → written_of y room ≡ Ok n → Wrote y room n
 unfolding written_of
 wrote (writes l) room n e = go (leb (length l) room) refl e
   where
-    go : (b : Bool) → leb (length l) room ≡ b → cond b (Done (length l)) (Refused no_room 0) ≡ Done n → Wrote (writes l) room n
+    go : (b : Bool) → leb (length l) room ≡ b → cond b (Ok (length l)) (Err (refused_at no_room 0)) ≡ Ok n → Wrote (writes l) room n
     go true h q = let z : length l ≡ n = cc in record { octets = l; reply = refl; size = sym z; fits = leb-true (length l) room h }
     go false h q = no-done q
 wrote (refuses k p) room n e = no-done e
@@ -205,7 +203,7 @@ module _ (records : ℕ) (b : List ℕ) (used f : ℕ) (m l : List ℕ) (u : use
 length-and : (es : List Entry) (e : Entry) → length (es ++ e ∷ []) ≡ length es + 1
 length-and es e = length-append es (e ∷ [])
 
-adds : (records : ℕ) (b : List ℕ) (used f : ℕ) (m : List ℕ) (n : ℕ) → append_answer records b used f m ≡ Done n → Added records b used f m n
+adds : (records : ℕ) (b : List ℕ) (used f : ℕ) (m : List ℕ) (n : ℕ) → append_answer records b used f m ≡ Ok n → Added records b used f m n
 adds records b used f m n q =
     let w = wrote (append_reply records b used f m) (length b - used) n q in
     let l = w.octets in
@@ -242,11 +240,11 @@ adds records b used f m n q =
       size = ap (λ (y : List ℕ). length y) o ∙ length-append d.head d.text ∙ rw (head-long _);
     })
 
-refused_none : (y : Reply) (used : ℕ) (b : List ℕ) (k p : ℕ) → written_of y (length b - used) ≡ Refused k p → used ≤ length b → lent_after_at y used b ≡ b
+refused_none : (y : Reply) (used : ℕ) (b : List ℕ) (k p : ℕ) → written_of y (length b - used) ≡ Err (refused_at k p) → used ≤ length b → lent_after_at y used b ≡ b
 unfolding written_of lent_after_at
 refused_none (writes l) used b k p e u = go (leb (length l) (length b - used)) refl e
   where
-    go : (t : Bool) → leb (length l) (length b - used) ≡ t → cond t (Done (length l)) (Refused no_room 0) ≡ Refused k p
+    go : (t : Bool) → leb (length l) (length b - used) ≡ t → cond t (Ok (length l)) (Err (refused_at no_room 0)) ≡ Err (refused_at k p)
         → cond (leb (used + length l) (length b)) (splice b used l) b ≡ b
     go true h q = no-done (sym q)
     go false h q = let z = leb-false (length l) (length b - used) h in rw (lt-leb (used + length l) (length b) (omega (arith, z)))
@@ -257,7 +255,7 @@ unfolding appended append_reply buffer_reply lent_after_at
 refused-past records b used f m h =
     rw (lt-leb used (length b) h) (either (λ (y : Reply). lent_after_at y used b ≡ b) (eqb records 127) (refuses no_room 0) (refuses bad_table 0) (λ _. refl) (λ _. refl))
 
-refused-append : (records : ℕ) (b : List ℕ) (used f : ℕ) (m : List ℕ) (k p : ℕ) → append_answer records b used f m ≡ Refused k p → appended records b used f m ≡ b
+refused-append : (records : ℕ) (b : List ℕ) (used f : ℕ) (m : List ℕ) (k p : ℕ) → append_answer records b used f m ≡ Err (refused_at k p) → appended records b used f m ≡ b
 unfolding appended
 refused-append records b used f m k p e =
     ⊎_elim (λ (h : length b < used). refused-past records b used f m h) (λ (h : used ≤ length b). refused_none (append_reply records b used f m) used b k p e h)

@@ -1,21 +1,22 @@
 -- What a mark and a sweep do to the octets of good entries, and to their table.
-use Prim.Native.Nat.{ℕ, zero, suc, ◌+◌, ◌*◌, ◌-◌, ◌/◌, ◌%◌, ◌≤◌, ◌<◌}
+use Prim.Native.Nat.{ℕ, zero, suc, ◌+◌, ◌-◌, ◌/◌, ◌%◌, ◌≤◌, ◌<◌}
 use mathlib.Core.Path.{◌≡◌, refl, sym, ap, subst, ◌∙◌}
-use mathlib.Core.Bool.{Bool, true, false, not, cond}
-use mathlib.Core.List.{List, [], ◌∷◌, ◌++◌, append_assoc, append-nil}
+use mathlib.Core.Bool.{Bool, true, false, not}
+use mathlib.Core.List.{List, [], ◌∷◌, ◌++◌, append_assoc}
 use native.Mathlib.Omega.{arith}
-use borrow.Author.Tests.{eq-eqb, ne_eqb, eqb-true, eqb-false, lt-ltb}
-use lib.Dec.{ltb, eqb}
+use borrow.Author.Tests.{eq-eqb, ne_eqb, eqb-false, lt-ltb}
+use lib.Dec.{eqb}
 use lib.ListN.{length, take, drop, get_or, set, length-append, length-set}
-use lib.Seq.{split_at, get_or-append_seam, set-append_seam, set_split, length-take-le}
+use lib.Seq.{split_at, get_or-append_seam, set-append_seam, set_split}
 use Rattle.sound.specs.Placed.{Each}
 use Rattle.bundle.specs.Bundle.{word_of, flock_of, delivered_of, kind_of, length_of, is_flock, Entry, entry_octets, entries_octets, pick_if, is_of, of_flock}
 use Rattle.flock_table.specs.Table.{picked, is_delivered, is_undelivered, message_octets, record_of, totals, table_of, none, minus}
 use Rattle.flock_table.specs.Tabulate.{tabulate}
 use Rattle.flock_table.specs.declared.Flock.{Flock}
 use Rattle.flock_table.proofs.Tabulated.{tabulate-at, tabulate-set}
-use Rattle.flock_table.proofs.Counted.{flock-least, Short, Small, both, picked-few, picked-each, of-append, record-append, record-small, minus-exact, table_at, totals-small}
-use Rattle.bundle_edit.specs.Changes.{table_numbers, record_at, takes_off, changed, changed_from, changes_by}
+use Rattle.flock_table.proofs.Counted.{flock-least, Short, Small, both, of-append, record-append, minus-exact, table_at, totals-small}
+use Rattle.bundle_edit.specs.Changes.{table_numbers, record_at, changed, changed_from, changes_by}
+use Rattle.bundle_edit.specs.declared.Kind.TheVariants.{TakesOff}
 use Rattle.bundle_edit.specs.Delivery.{one_undelivered}
 use Rattle.bundle_edit.specs.declared.Changes.{Changes}
 use Rattle.bundle_edit.proofs.Counting.{numbers-at}
@@ -300,7 +301,7 @@ totals-parted f es =
 -- ---- the table of a sweep
 
 off-record : (used : ℕ) (es : List Entry) (j : ℕ) → Each Short es → length es ≤ 256 → j < 127
-    → changed (changes_by takes_off used (picked is_delivered es)) j (totals (1 + j) es) ≡ totals (1 + j) (picked is_undelivered es)
+    → changed (changes_by TakesOff used (picked is_delivered es)) j (totals (1 + j) es) ≡ totals (1 + j) (picked is_undelivered es)
 unfolding changed table_of
 off-record used es j s few l =
     let d = picked is_delivered es in
@@ -322,8 +323,8 @@ changed-table c g h (suc n) k e l =
     (ap (λ (i : ℕ). changed_from c (k + 1) (tabulate n i g)) q ∙ changed-table c g h n (k + 1) e (omega (arith, l)) ∙ ap (λ (i : ℕ). tabulate n i h) (sym q))
 
 pub table-swept : (used : ℕ) (es : List Entry) → Each Short es → length es ≤ 256
-    → changed_from (changes_by takes_off used (picked is_delivered es)) 0 (table_of es) ≡ table_of (picked is_undelivered es)
+    → changed_from (changes_by TakesOff used (picked is_delivered es)) 0 (table_of es) ≡ table_of (picked is_undelivered es)
 unfolding table_of
 table-swept used es s few =
-    changed-table (changes_by takes_off used (picked is_delivered es)) (λ (f : ℕ). totals f es) (λ (f : ℕ). totals f (picked is_undelivered es)) 127 0
+    changed-table (changes_by TakesOff used (picked is_delivered es)) (λ (f : ℕ). totals f es) (λ (f : ℕ). totals f (picked is_undelivered es)) 127 0
     (λ j l. off-record used es j s few l) (omega arith)

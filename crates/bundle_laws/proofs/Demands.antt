@@ -1,7 +1,7 @@
 -- Demand 2 for each message of a bundle, demand 3 for lists of a bundle's requests: from demands 2 and 3 as they stand.
 use Prim.Native.Nat.{ℕ, ◌≤◌}
-use mathlib.Core.Path.{◌≡◌, refl, sym, ap, subst, ◌∙◌}
-use mathlib.Core.Bool.{Bool, true, false, cond}
+use mathlib.Core.Path.{◌≡◌, refl, sym, ap, ◌∙◌}
+use mathlib.Core.Bool.{Bool, true, false}
 use mathlib.Core.List.{List, [], ◌∷◌, ◌++◌}
 use native.Mathlib.Omega.{arith}
 use borrow.Author.Tests.{le-leb, eqb-true}
@@ -18,17 +18,16 @@ use Rattle.messages.specs.Told.{plain}
 use Rattle.binary.specs.Read.{read_binary}
 use Rattle.binary_round_trip.proofs.Back.{round-trip-of-meanings}
 use Rattle.binary_writer.specs.Write.{binary_of, binary_fits, to_binary}
-use Rattle.output.specs.Reply.{writes}
-use Rattle.output.specs.declared.Written.{Written}
-use Rattle.output.specs.declared.Written.TheVariants.{Done, Refused}
+use Rattle.output.specs.Reply.{writes, Written}
 use Rattle.turn.specs.Turn.{reply_from, binary_to_binary}
 use Rattle.demands.specs.Demand3.{Call, told_of, Space, fresh, answer_in, call, entry_of, entry_in, entries_in, NotResponse, NoResponse}
 use Rattle.demands.proofs.Demand2.{binary-valid, demand2}
 use Rattle.demands.proofs.Demand3.{demand3}
-use Rattle.bundle.specs.Bundle.{word_of, kind_of, Entry, read_message, kind_number, walk}
+use Rattle.bundle.specs.Bundle.{word_of, kind_of, Entry, kind_number, walk}
 use Rattle.bundle_laws.specs.Reading.{InForm}
 use Rattle.bundle_laws.specs.Demands.{MessageKept, call_if, call_on, requests_of, Requests, Demands}
 use Rattle.bundle_laws.proofs.Reading.{front}
+use Rattle.std.proofs.Common.{Ok, Err}
 
 -- ---- demand 2
 
@@ -103,10 +102,10 @@ each_both (x ∷ a) b h g = (h.0, each_both a b h.1 g)
 
 module _ (t : Told) where
   of_entry : (r : Written) (x : Answer Message) → ((n : ℕ) (m : Message) → x ≡ accepted n m → of_response (meaning m).control ≡ false) → Each NotResponse (entry_of r x)
-  of_entry (Done n) (accepted k m) h = (h k m refl, tt)
-  of_entry (Done n) (refused k p) h = tt
-  of_entry (Done n) more h = tt
-  of_entry (Refused k p) x h = tt
+  of_entry (Ok n) (accepted k m) h = (h k m refl, tt)
+  of_entry (Ok n) (refused k p) h = tt
+  of_entry (Ok n) more h = tt
+  of_entry (Err e) x h = tt
 
   none_in : (cs : List Call) → Each OfRequest cs → (z : Space) → Each NotResponse (entries_in t z cs)
   unfolding entries_in entry_in

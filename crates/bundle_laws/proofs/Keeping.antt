@@ -1,20 +1,18 @@
 -- The claims on the table: what each call does to a true table, one record at a time or all at once.
-use Prim.Native.Nat.{ℕ, zero, suc, ◌+◌, ◌*◌, ◌-◌, ◌≤◌, ◌<◌}
+use Prim.Native.Nat.{ℕ, ◌+◌, ◌-◌, ◌≤◌, ◌<◌}
 use mathlib.Core.Path.{◌≡◌, refl, sym, ap, subst, ◌∙◌}
-use mathlib.Core.Bool.{Bool, true, false, not, cond}
+use mathlib.Core.Bool.{Bool, true, false, cond}
 use mathlib.Core.List.{List, [], ◌∷◌, ◌++◌}
 use native.Mathlib.Omega.{arith}
-use borrow.Author.Tests.{eq-eqb, ne_eqb, le-leb, lt-ltb, ltb-true, eqb-true}
+use borrow.Author.Tests.{eq-eqb, ne_eqb, le-leb, lt-ltb, ltb-true}
 use lib.Dec.{leb, ltb, eqb}
 use lib.ListN.{length, take, drop, get_or, set, length-append, length-set}
 use lib.Seq.{get_or-set_same, get_or-take, take-set-lt, take_at, length-take-le}
 use Rattle.octets.proofs.Kit.{no_true, either}
 use Rattle.sound.specs.Placed.{Each}
 use Rattle.output.specs.Splice.{splice}
-use Rattle.output.specs.Reply.{Reply, writes, refuses, written_of, lent_after_at}
+use Rattle.output.specs.Reply.{Reply, writes, refuses, lent_after_at, Written}
 use Rattle.output.proofs.Laws.{splice-length, splice-is}
-use Rattle.output.specs.declared.Written.{Written}
-use Rattle.output.specs.declared.Written.TheVariants.{Done, Refused}
 use Rattle.bundle.specs.Bundle.{word_of, flock_of, delivered_of, is_flock, Entry, entries_octets, Walk, walk}
 use Rattle.bundle.proofs.Walks.{few-entries}
 use Rattle.flock_table.specs.Table.{picked, is_delivered, is_undelivered, message_octets, record_of, totals, table_of, none, plus, minus, slot_of, totals_of, totals_answer}
@@ -24,19 +22,20 @@ use Rattle.flock_table.proofs.Tabulated.{tabulate-at}
 use Rattle.flock_table.proofs.Counted.{flock-least, Short, both, picked-few, picked-each, table-length, table_at, totals-more, totals-plus, table-plus}
 use Rattle.bundle_edit.specs.Append.{append_reply, append_plan, appended, plan_of, long_in, new_record, entered}
 use Rattle.bundle.specs.Bundle.{read_message}
-use Rattle.bundle_edit.specs.Changes.{table_numbers, record_at, puts, takes_off, changed, changed_from, refused_changes, changes_by, rebuild_changes}
+use Rattle.bundle_edit.specs.Changes.{changed, changed_from, refused_changes, changes_by, rebuild_changes}
+use Rattle.bundle_edit.specs.declared.Kind.TheVariants.{Leaves, Puts, TakesOff}
 use Rattle.bundle_edit.specs.Delivery.{none_there, entry_number, entry_place, idle_plan, mark_plan_of, marked_of, mark_plan, marked, one_undelivered, lessened, kept_octets, sweep_changes, swept}
-use Rattle.bundle_edit.specs.declared.Plan.{Plan}
 use Rattle.bundle_edit.specs.declared.Changes.{Changes}
 use Rattle.bundle_edit.proofs.Counting.{numbers-at}
 use Rattle.bundle_edit.proofs.Sweeping.{Accepts, on-good}
 use Rattle.bundle_laws.specs.Reading.{InForm, IsBundle}
 use Rattle.bundle_laws.specs.Appending.{append_answer, Added}
 use Rattle.bundle_laws.specs.Keeping.{Night, entries_in, IsTrue, Call, appends, marks, sweeps, plan_in, after, after_all, Keeping}
-use Rattle.bundle_laws.proofs.Reading.{front, octets-of, back, is-bundle}
+use Rattle.bundle_laws.proofs.Reading.{front, octets-of, back}
 use Rattle.bundle_laws.proofs.Appending.{appending}
 use Rattle.bundle_laws.proofs.Delivering.{mark-good, mark-octets, mark-within, mark-table, octets-parted, table-swept}
 use Rattle.bundle_laws.specs.Sweeping.{delivered_entry}
+use Rattle.std.proofs.Common.{Ok, Err, is_some}
 
 -- ---- all records at once
 
@@ -51,22 +50,22 @@ changed-all c h k (r ∷ t) e l =
     ∙ ap (λ (x : List Flock). h (1 + k) ∷ x) (changed-all c h (k + 1) t e (omega (arith, l)) ∙ ap (λ (i : ℕ). tabulate (length t) i h) n)
 
 -- no record, where nothing is done
-pub changed-none : (c : Changes) (k : ℕ) (t : List Flock) → c.kind ≡ 0 → changed_from c k t ≡ t
+pub changed-none : (c : Changes) (k : ℕ) (t : List Flock) → c.kind ≡ Leaves → changed_from c k t ≡ t
 unfolding changed_from changed
 changed-none c k [] e = refl
 changed-none c k (r ∷ t) e =
     ap (λ (x : Flock). x ∷ changed_from c (k + 1) t) (rw e (either (λ (x : Flock). x ≡ r) (ltb k 127) r r (λ _. refl) (λ _. refl)))
     ∙ ap (λ (x : List Flock). r ∷ x) (changed-none c (k + 1) t e)
 
-put_record : (used : ℕ) (es : List Entry) (j : ℕ) (r : Flock) → j < 127 → changed (changes_by puts used es) j r ≡ totals (1 + j) es
+put_record : (used : ℕ) (es : List Entry) (j : ℕ) (r : Flock) → j < 127 → changed (changes_by Puts used es) j r ≡ totals (1 + j) es
 unfolding changed table_of
 put_record used es j r l =
     rw (lt-ltb j 127 l) (numbers-at (table_of es) j ∙ tabulate-at 127 1 j (λ (f : ℕ). totals f es) none l)
 
-pub table-put : (used : ℕ) (es : List Entry) (t : List Flock) → length t ≡ 127 → changed_from (changes_by puts used es) 0 t ≡ table_of es
+pub table-put : (used : ℕ) (es : List Entry) (t : List Flock) → length t ≡ 127 → changed_from (changes_by Puts used es) 0 t ≡ table_of es
 unfolding table_of
 table-put used es t l =
-    changed-all (changes_by puts used es) (λ (f : ℕ). totals f es) 0 t (put_record used es) (omega (arith, l))
+    changed-all (changes_by Puts used es) (λ (f : ℕ). totals f es) 0 t (put_record used es) (omega (arith, l))
     ∙ ap (λ (n : ℕ). tabulate n 1 (λ (f : ℕ). totals f es)) l
 
 -- ---- an empty bundle, and a rebuild
@@ -91,7 +90,7 @@ unbuilt n s t =
     let Q : Changes → Type 0 = λ (c : Changes). (c.number ≡ 0 → ⊥) → changed_from c 0 t ≡ t in
     either Q (eqb n 127) _ _
     (λ _.
-    either Q (eqb (walk s).stop 0) (changes_by puts (length s) (walk s).entries) (refused_changes (length s) (walk s).stop (walk s).end) (λ _ h. absurd (h refl))
+    either Q (eqb (walk s).stop 0) (changes_by Puts (length s) (walk s).entries) (refused_changes (length s) (walk s).stop (walk s).end) (λ _ h. absurd (h refl))
     (λ _ _. changed-none (refused_changes (length s) (walk s).stop (walk s).end) 0 t refl))
     (λ _ _. changed-none (refused_changes (length s) 16 0) 0 t refl)
 
@@ -158,7 +157,7 @@ left_by x f m w =
     record { buffer = appended (length x.table) x.buffer x.used f m; used = (plan_of x.used f (long_in (read_message m)) w).used; table = entered (plan_of x.used f (long_in (read_message m)) w) x.table }
 
 kept_by : (x : Night) (f : ℕ) (m : List ℕ) (w : Written) → IsTrue x → append_answer (length x.table) x.buffer x.used f m ≡ w → IsTrue (left_by x f m w)
-kept_by x f m (Done k) t e =
+kept_by x f m (Ok k) t e =
     let a = appending.adds (length x.table) x.buffer x.used f m k e in
     let l : length (appended (length x.table) x.buffer x.used f m) ≡ length x.buffer = after-length (length x.table) x.buffer x.used f m in
     record {
@@ -166,8 +165,8 @@ kept_by x f m (Done k) t e =
       bundle = ap (λ (w : Walk). w.stop) a.is;
       table = table-new x f m t k a ∙ ap (λ (w : Walk). table_of w.entries) (sym a.is);
     }
-kept_by x f m (Refused k p) t e =
-    let b = appending.refused (length x.table) x.buffer x.used f m k p e in
+kept_by x f m (Err r) t e =
+    let b = appending.refused (length x.table) x.buffer x.used f m r.number r.place e in
     rw b t
 
 -- ---- a mark and a sweep
@@ -201,7 +200,7 @@ swept_by x es =
     record {
       buffer = splice x.buffer 0 (kept_octets es);
       used = length (kept_octets es);
-      table = changed_from (changes_by takes_off (length (kept_octets es)) (picked is_delivered es)) 0 x.table;
+      table = changed_from (changes_by TakesOff (length (kept_octets es)) (picked is_delivered es)) 0 x.table;
     }
 
 pub after-sweep-is : (x : Night) (count : ℕ) → Accepts (length x.table) x.buffer x.used count → after sweeps x ≡ swept_by x (entries_in x)
@@ -209,7 +208,7 @@ unfolding sweep_changes swept
 after-sweep-is x count a =
     let n = length x.table in
     rw (
-      ← (on-good n x.buffer x.used count a (refused_changes x.used) (λ es. changes_by takes_off (length (kept_octets es)) (picked is_delivered es))),
+      ← (on-good n x.buffer x.used count a (refused_changes x.used) (λ es. changes_by TakesOff (length (kept_octets es)) (picked is_delivered es))),
       ← (on-good n x.buffer x.used count a (λ _ _. x.buffer) (λ es. splice x.buffer 0 (kept_octets es))),
     )
 
@@ -334,25 +333,25 @@ answers : (x : Night) (f : ℕ) → IsTrue x → is_flock f ≡ true → totals_
 unfolding slot_of
 answers x f t h = rw (t.table, eq-eqb (length (table_of (entries_in x))) 127 (table-length (entries_in x)), h, table_at (entries_in x) f h)
 
-plainly-by : (x : Night) (f : ℕ) (m : List ℕ) (w : Written) → IsTrue x → append_answer (length x.table) x.buffer x.used f m ≡ w → (plan_of x.used f (long_in (read_message m)) w).go ≡ true
+plainly-by : (x : Night) (f : ℕ) (m : List ℕ) (w : Written) → IsTrue x → append_answer (length x.table) x.buffer x.used f m ≡ w → is_some (plan_of x.used f (long_in (read_message m)) w).index ≡ true
     → get_or (left_by x f m w).table (f - 1) none ≡ both (get_or x.table (f - 1) none) (new_record (plan_of x.used f (long_in (read_message m)) w).size)
-plainly-by x f m (Done k) t e g =
+plainly-by x f m (Ok k) t e g =
     let a = appending.adds (length x.table) x.buffer x.used f m k e in
     let b = flock-least f (hf x f m t k a) in
     let n : f - 1 < length x.table = omega (arith, a.table, b.0, b.1) in
     get_or-set_same x.table (f - 1) (plus (get_or x.table (f - 1) none) (new_record (k - 4))) none n ∙ record-new x f m t k a
-plainly-by x f m (Refused k p) t e g = absurd (no_true g)
+plainly-by x f m (Err r) t e g = absurd (no_true g)
 
-plainly : (x : Night) (f : ℕ) (m : List ℕ) → IsTrue x → (plan_in x f m).go ≡ true
+plainly : (x : Night) (f : ℕ) (m : List ℕ) → IsTrue x → is_some (plan_in x f m).index ≡ true
     → get_or (after (appends f m) x).table (f - 1) none ≡ both (get_or x.table (f - 1) none) (new_record (plan_in x f m).size)
 unfolding append_plan
 plainly x f m t g = plainly-by x f m (append_answer (length x.table) x.buffer x.used f m) t refl g
 
-unchanged-by : (x : Night) (f : ℕ) (m : List ℕ) (w : Written) → append_answer (length x.table) x.buffer x.used f m ≡ w → (plan_of x.used f (long_in (read_message m)) w).go ≡ false → left_by x f m w ≡ x
-unchanged-by x f m (Done k) e g = absurd (no_true (sym g))
-unchanged-by x f m (Refused k p) e g = rw (appending.refused (length x.table) x.buffer x.used f m k p e)
+unchanged-by : (x : Night) (f : ℕ) (m : List ℕ) (w : Written) → append_answer (length x.table) x.buffer x.used f m ≡ w → is_some (plan_of x.used f (long_in (read_message m)) w).index ≡ false → left_by x f m w ≡ x
+unchanged-by x f m (Ok k) e g = absurd (no_true (sym g))
+unchanged-by x f m (Err r) e g = rw (appending.refused (length x.table) x.buffer x.used f m r.number r.place e)
 
-unchanged : (x : Night) (f : ℕ) (m : List ℕ) → (plan_in x f m).go ≡ false → after (appends f m) x ≡ x
+unchanged : (x : Night) (f : ℕ) (m : List ℕ) → is_some (plan_in x f m).index ≡ false → after (appends f m) x ≡ x
 unfolding append_plan
 unchanged x f m g = unchanged-by x f m (append_answer (length x.table) x.buffer x.used f m) refl g
 

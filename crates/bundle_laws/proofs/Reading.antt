@@ -1,15 +1,13 @@
 -- The reader's claims, by `walk-front` and `walk-back`.
 use Prim.Native.Nat.{ℕ, ◌+◌, ◌-◌, ◌≤◌}
 use mathlib.Core.Path.{◌≡◌, refl, sym, ap, ◌∙◌}
-use mathlib.Core.List.{List, [], ◌∷◌, ◌++◌, append-nil}
+use mathlib.Core.List.{List, [], ◌∷◌, append-nil}
 use native.Mathlib.Omega.{arith}
 use lib.ListN.{length}
-use Rattle.octets.specs.Text.{is_empty}
 use Rattle.sound.specs.Placed.{Each}
-use Rattle.bundle.specs.Bundle.{Entry, entries_octets, next_at, Walk, ends_at, follows, walk_from, walk}
-use Rattle.bundle.specs.declared.Next.TheVariants as next
+use Rattle.bundle.specs.Bundle.{Entry, entries_octets, ends_at, follows, walk_from, walk}
 use Rattle.bundle.proofs.Heads.{next-end}
-use Rattle.bundle.proofs.Walks.{walk-stop, few-entries}
+use Rattle.bundle.proofs.Walks.{walk-end, few-entries}
 use Rattle.bundle_laws.specs.Reading.{InForm, IsBundle, Fronted, Reading}
 use Rattle.bundle_laws.proofs.Walks.{prepend, walk-back, walk-front}
 
@@ -29,7 +27,7 @@ unfolding walk
 back es g h =
     let s = entries_octets es in
     let q = walk-back es g 256 0 [] h in
-    let z = walk-stop (256 - length es) (0 + length s) [] 0 (next-end [] 0 (256 - length es) (omega arith)) in
+    let z = walk-end (256 - length es) (0 + length s) [] (next-end [] 0 (256 - length es) (omega arith)) in
     let b : 0 + length s ≡ length s = omega arith in
     ap (walk_from 256 0) (sym (append-nil s)) ∙ q ∙ ap (prepend es) z ∙ prepended es (0 + length s) 0 ∙ rw b
 

@@ -19,7 +19,7 @@ use Rattle.bundle.specs.Bundle.{word_of, kind_of, Entry, entry_octets, entries_o
 use Rattle.bundle.specs.Salvage.{salvage_of}
 use Rattle.bundle.specs.declared.Next.TheVariants as next
 use Rattle.bundle.proofs.Heads.{next-end, next-cut, next-headed, head-cut}
-use Rattle.bundle.proofs.Walks.{word-taken, walk-stop, few-entries}
+use Rattle.bundle.proofs.Walks.{word-taken, walk-stop, walk-end, few-entries}
 use Rattle.salvaging.specs.Line.{input_most, salvage_line}
 use Rattle.bundle_laws.specs.Reading.{InForm, IsBundle}
 use Rattle.bundle_laws.specs.Salvaging.{LongestFront, ended_by, ended_in, KeptBefore, Salvaging}
@@ -142,7 +142,7 @@ cut-here e g left at c some h = go (leb c 0) refl
     go : (b : Bool) → leb c 0 ≡ b → CutTo (walk_from left at (take c (entry_octets e))) []
     go true q =
         let s = take c (entry_octets e) in
-        let z = walk-stop left at s 0 (next-end s 0 left (omega (arith, cut-length e g c left h some, leb-true c 0 q))) in
+        let z = walk-end left at s (next-end s 0 left (omega (arith, cut-length e g c left h some, leb-true c 0 q))) in
         rw z (record { entries = refl; stop = λ n. absurd (n refl) })
     go false q =
         let s = take c (entry_octets e) in
@@ -154,7 +154,7 @@ pub cut-walk : (es : List Entry) → Each InForm es → (left at c : ℕ) → le
 unfolding entries_octets ended_by
 cut-walk [] g left at c h =
     let t : take {A = ℕ} c [] ≡ [] = take_all c [] (omega arith) in
-    rw (t, walk-stop left at [] 0 (next-end [] 0 left (omega arith))) (record { entries = refl; stop = λ n. absurd (n refl) })
+    rw (t, walk-end left at [] (next-end [] 0 left (omega arith))) (record { entries = refl; stop = λ n. absurd (n refl) })
 cut-walk (e ∷ es) g left at c h =
     go (leb (length (entry_octets e)) c) refl (cut-walk es g.1 (left - 1) (at + length (entry_octets e)) (c - length (entry_octets e)) (omega (arith, h)))
   where

@@ -1,40 +1,38 @@
 -- The claims on marks and sweeps, by what they leave of the entries (Keeping) and of a table (Delivering).
-use Prim.Native.Nat.{ℕ, suc, ◌+◌, ◌-◌, ◌≤◌, ◌<◌}
-use mathlib.Core.Path.{◌≡◌, refl, sym, ap, subst, ◌∙◌}
-use mathlib.Core.Bool.{Bool, true, false, not, cond}
-use mathlib.Core.Logic.{⊎_elim}
-use mathlib.Core.List.{List, [], ◌∷◌, ◌++◌}
+use Prim.Native.Nat.{ℕ, ◌+◌, ◌-◌, ◌≤◌, ◌<◌}
+use mathlib.Core.Path.{◌≡◌, refl, sym, ap, ◌∙◌}
+use mathlib.Core.Bool.{Bool, true, false}
+use mathlib.Core.List.{List}
 use native.Mathlib.Omega.{arith}
-use borrow.Author.Tests.{eq-eqb, ne_eqb, le-leb, lt-ltb, leb-true, ltb-true, eqb-true, eqb-false}
-use lib.Dec.{leb, ltb, eqb}
-use lib.ListN.{length, take, drop, get_or, set, length-set}
+use borrow.Author.Tests.{le-leb, lt-ltb}
+use lib.Dec.{ltb}
+use lib.ListN.{length, take, drop, get_or, set}
 use lib.Seq.{drop_at}
-use Rattle.octets.proofs.Kit.{either, no_true}
 use Rattle.sound.specs.Placed.{Each}
 use Rattle.output.specs.Splice.{splice}
-use Rattle.output.specs.Reply.{Reply, writes, refuses, written_of}
-use Rattle.output.specs.declared.Written.{Written}
-use Rattle.output.specs.declared.Written.TheVariants.{Done, Refused}
+use Rattle.output.specs.Reply.{Reply, writes, written_of}
 use Rattle.output.proofs.Laws.{splice-length}
 use Rattle.bundle.specs.Bundle.{word_of, flock_of, is_flock, Entry, entries_octets, Walk, walk}
-use Rattle.bundle.proofs.Walks.{few-entries}
-use Rattle.flock_table.specs.Table.{picked, is_delivered, is_undelivered, totals, table_of, none}
+use Rattle.flock_table.specs.Table.{picked, is_delivered, is_undelivered, totals, none}
 use Rattle.flock_table.specs.declared.Flock.{Flock}
-use Rattle.flock_table.proofs.Counted.{both, picked-few, table-length, table_at}
+use Rattle.flock_table.proofs.Counted.{both, picked-few, table_at}
 use Rattle.bundle_edit.specs.Append.{message_entry, behind_bundle, buffer_reply, append_reply}
-use Rattle.bundle_edit.specs.Changes.{changed_from, takes_off, changes_by, refused_changes}
-use Rattle.bundle_edit.specs.Delivery.{none_there, entry_number, entry_place, idle_plan, mark_plan_of, marked_of, mark_plan, marked, lessened, kept_octets, judged_call, sweep_changes, swept}
+use Rattle.bundle_edit.specs.Changes.{changes_by, refused_changes}
+use Rattle.bundle_edit.specs.declared.Kind.TheVariants.{TakesOff}
+use Rattle.bundle_edit.specs.Delivery.{none_there, entry_number, idle_plan, mark_plan_of, marked_of, mark_plan, marked, kept_octets, judged_call, sweep_changes, swept}
 use Rattle.bundle_edit.specs.declared.Plan.{Plan}
 use Rattle.bundle_edit.specs.declared.Changes.{Changes}
 use Rattle.bundle_edit.proofs.Sweeping.{Accepts, judged-good, on-good, on-bad}
-use Rattle.bundle_laws.specs.Reading.{InForm, IsBundle}
+use Rattle.bundle_laws.specs.Reading.{InForm}
 use Rattle.bundle_laws.specs.Appending.{append_answer}
-use Rattle.bundle_laws.specs.Keeping.{Night, entries_in, IsTrue, Call, marks, sweeps, after}
-use Rattle.bundle_laws.specs.Sweeping.{delivered_entry, Delivered, Marked, Swept, Sweeping}
+use Rattle.bundle_laws.specs.Keeping.{Night, entries_in, IsTrue, marks, sweeps, after}
+use Rattle.bundle_laws.specs.Sweeping.{delivered_entry, Marked, Swept, Sweeping}
 use Rattle.bundle_laws.proofs.Reading.{front}
 use Rattle.bundle_laws.proofs.Appending.{passed}
 use Rattle.bundle_laws.proofs.Delivering.{marked-flock, marked-delivered, marked-kind, mark-own, octets-parted, totals-parted, good-at}
-use Rattle.bundle_laws.proofs.Keeping.{accepts, changed-none, marked_by, after-mark-is, swept_by, after-sweep-is, used-is, mark-is, mark-front, mark-bundle, mark-kept, mark-same, sweep-fits, sweep-spliced, sweep-front, sweep-bundle, sweep-kept}
+use Rattle.bundle_laws.proofs.Keeping.{accepts, changed-none, marked_by, after-mark-is, swept_by, after-sweep-is, used-is, mark-is, mark-front, mark-bundle, mark-kept, mark-same, sweep-spliced, sweep-front, sweep-bundle, sweep-kept}
+use Rattle.octets.specs.declared.Refused.{Refused}
+use Rattle.std.proofs.Common.{Result, Ok, Err}
 
 -- ---- a mark
 
@@ -94,7 +92,7 @@ reply-is : (y : Night) (f : ℕ) (m : List ℕ) → Accepts (length y.table) y.b
 unfolding append_reply buffer_reply behind_bundle
 reply-is y f m a few h = rw (a.table, a.within, a.bundle, lt-ltb (length (entries_in y)) 256 few, h)
 
-written_in : (l : List ℕ) (room : ℕ) → length l ≤ room → written_of (writes l) room ≡ Done (length l)
+written_in : (l : List ℕ) (room : ℕ) → length l ≤ room → written_of (writes l) room ≡ Ok (length l)
 unfolding written_of
 written_in l room h = rw (le-leb (length l) room h)
 
@@ -128,7 +126,7 @@ module _ (x : Night) (t : IsTrue x) where
 
   -- an append behind it
   freed : (f : ℕ) (m l : List ℕ) → append_reply (length x.table) x.buffer x.used f m ≡ writes l → (after sweeps x).used + length l ≤ length x.buffer
-      → append_answer (length (after sweeps x).table) (after sweeps x).buffer (after sweeps x).used f m ≡ Done (length l)
+      → append_answer (length (after sweeps x).table) (after sweeps x).buffer (after sweeps x).used f m ≡ Ok (length l)
   freed f m l e r =
       let y = after sweeps x in
       let k = sweep-kept x t in
@@ -149,42 +147,40 @@ unmarked-good x i es true false ea eb n = absurd (n (rw (ea, eb)))
 unmarked-good x i es false b ea eb n = mark-same x i es false b ea eb refl
 
 module _ (x : Night) where
-  unmarked-by : (i : ℕ) (b : Bool) → eqb (judged_call (length x.table) x.buffer x.used).number 0 ≡ b → ((mark_plan (length x.table) x.buffer x.used i).number ≡ 0 → ⊥) → after (marks i) x ≡ x
+  unmarked-by : (i : ℕ) (j : Result ℕ Refused) → judged_call (length x.table) x.buffer x.used ≡ j → ((mark_plan (length x.table) x.buffer x.used i).number ≡ 0 → ⊥) → after (marks i) x ≡ x
   unfolding mark_plan marked
-  unmarked-by i true z n =
-      let a = judged-good (length x.table) x.buffer x.used {j = judged_call (length x.table) x.buffer x.used} refl (eqb-true (judged_call (length x.table) x.buffer x.used).number 0 z) in
-      let p = on-good (length x.table) x.buffer x.used (judged_call (length x.table) x.buffer x.used).count a (idle_plan x.used) (mark_plan_of x.used i) in
-      after-mark-is x i (judged_call (length x.table) x.buffer x.used).count a
+  unmarked-by i (Ok count) z n =
+      let a = judged-good (length x.table) x.buffer x.used z in
+      let p = on-good (length x.table) x.buffer x.used count a (idle_plan x.used) (mark_plan_of x.used i) in
+      after-mark-is x i count a
       ∙ unmarked-good x i (entries_in x) (ltb i (length (entries_in x))) (is_delivered (entry_number (entries_in x) i)) refl refl
       (λ q. n (ap (λ (r : Plan). r.number) (sym p) ∙ q))
-  unmarked-by i false z n =
-      let k = eqb-false (judged_call (length x.table) x.buffer x.used).number 0 z in
+  unmarked-by i (Err e) z n =
       rw (
-        ← (on-bad (length x.table) x.buffer x.used {j = judged_call (length x.table) x.buffer x.used} refl k (idle_plan x.used) (mark_plan_of x.used i)),
-        ← (on-bad (length x.table) x.buffer x.used {j = judged_call (length x.table) x.buffer x.used} refl k (λ _ _. x.buffer) (marked_of x.buffer i)),
+        ← (on-bad (length x.table) x.buffer x.used z (idle_plan x.used) (mark_plan_of x.used i)),
+        ← (on-bad (length x.table) x.buffer x.used z (λ _ _. x.buffer) (marked_of x.buffer i)),
       )
 
-  unswept-by : (b : Bool) → eqb (judged_call (length x.table) x.buffer x.used).number 0 ≡ b → ((sweep_changes (length x.table) x.buffer x.used).number ≡ 0 → ⊥) → after sweeps x ≡ x
+  unswept-by : (j : Result ℕ Refused) → judged_call (length x.table) x.buffer x.used ≡ j → ((sweep_changes (length x.table) x.buffer x.used).number ≡ 0 → ⊥) → after sweeps x ≡ x
   unfolding sweep_changes swept
-  unswept-by true z n =
-      let a = judged-good (length x.table) x.buffer x.used {j = judged_call (length x.table) x.buffer x.used} refl (eqb-true (judged_call (length x.table) x.buffer x.used).number 0 z) in
-      let off : List Entry → Changes = λ (es : List Entry). changes_by takes_off (length (kept_octets es)) (picked is_delivered es) in
-      let p = on-good (length x.table) x.buffer x.used (judged_call (length x.table) x.buffer x.used).count a (refused_changes x.used) off in
+  unswept-by (Ok count) z n =
+      let a = judged-good (length x.table) x.buffer x.used z in
+      let off : List Entry → Changes = λ (es : List Entry). changes_by TakesOff (length (kept_octets es)) (picked is_delivered es) in
+      let p = on-good (length x.table) x.buffer x.used count a (refused_changes x.used) off in
       absurd (n (ap (λ (r : Changes). r.number) (sym p)))
-  unswept-by false z n =
-      let k = eqb-false (judged_call (length x.table) x.buffer x.used).number 0 z in
-      let off : List Entry → Changes = λ (es : List Entry). changes_by takes_off (length (kept_octets es)) (picked is_delivered es) in
+  unswept-by (Err e) z n =
+      let off : List Entry → Changes = λ (es : List Entry). changes_by TakesOff (length (kept_octets es)) (picked is_delivered es) in
       rw (
-        ← (on-bad (length x.table) x.buffer x.used {j = judged_call (length x.table) x.buffer x.used} refl k (refused_changes x.used) off),
-        ← (on-bad (length x.table) x.buffer x.used {j = judged_call (length x.table) x.buffer x.used} refl k (λ _ _. x.buffer) (λ es. splice x.buffer 0 (kept_octets es))),
-        changed-none (refused_changes x.used (judged_call (length x.table) x.buffer x.used).number (judged_call (length x.table) x.buffer x.used).place) 0 x.table refl,
+        ← (on-bad (length x.table) x.buffer x.used z (refused_changes x.used) off),
+        ← (on-bad (length x.table) x.buffer x.used z (λ _ _. x.buffer) (λ es. splice x.buffer 0 (kept_octets es))),
+        changed-none (refused_changes x.used e.number e.place) 0 x.table refl,
       )
 
 unmarked : (x : Night) (i : ℕ) → ((mark_plan (length x.table) x.buffer x.used i).number ≡ 0 → ⊥) → after (marks i) x ≡ x
-unmarked x i n = let j = judged_call (length x.table) x.buffer x.used in unmarked-by x i (eqb j.number 0) refl n
+unmarked x i n = unmarked-by x i (judged_call (length x.table) x.buffer x.used) refl n
 
 unswept : (x : Night) → ((sweep_changes (length x.table) x.buffer x.used).number ≡ 0 → ⊥) → after sweeps x ≡ x
-unswept x n = let j = judged_call (length x.table) x.buffer x.used in unswept-by x (eqb j.number 0) refl n
+unswept x n = unswept-by x (judged_call (length x.table) x.buffer x.used) refl n
 
 pub sweeping : Sweeping
 sweeping =

@@ -1,15 +1,15 @@
 -- An entry that stands at a place is a good one, and a good one at the front stands there: `walk-front` and `walk-back` carry the theorems.
-use Prim.Native.Nat.{ℕ, zero, suc, ◌+◌, ◌*◌, ◌-◌, ◌≤◌, ◌<◌}
-use mathlib.Core.Path.{◌≡◌, refl, sym, ap, subst, ◌∙◌}
+use Prim.Native.Nat.{ℕ, zero, suc, ◌+◌, ◌-◌, ◌≤◌, ◌<◌}
+use mathlib.Core.Path.{◌≡◌, refl, sym, ap, ◌∙◌}
 use mathlib.Core.Bool.{Bool, true, false, cond}
-use mathlib.Core.List.{List, [], ◌∷◌, ◌++◌, append_assoc, append-nil}
+use mathlib.Core.List.{List, [], ◌∷◌, ◌++◌, append_assoc}
 use native.Mathlib.Omega.{arith}
-use borrow.Author.Tests.{le-leb, lt-ltb, eq-eqb, eqb-true, eqb-false}
+use borrow.Author.Tests.{le-leb, eq-eqb, eqb-true, eqb-false}
 use lib.Dec.{leb, ltb, eqb}
-use lib.ListN.{length, get_or, take, drop, length-append, length-drop, take-append-drop, get_or-append}
-use lib.Seq.{length-take-le, take-append-le, drop-append-le, take_at, drop_at, drop-drop, take-add}
+use lib.ListN.{length, take, drop, length-append, take-append-drop, get_or-append}
+use lib.Seq.{length-take-le, take_at, drop_at, take-add}
 use Rattle.octets.specs.Limits.{binary_most}
-use Rattle.octets.specs.Refusals.{more_needed, too_large, cut_off, bad_entry}
+use Rattle.octets.specs.Refusals.{too_large, bad_entry}
 use Rattle.octets.specs.Text.{is_empty, same_text}
 use Rattle.octets.proofs.Kit.{no_true, either, into}
 use Rattle.octets.proofs.Texts.{same-eq, same_refl}
@@ -23,13 +23,13 @@ use Rattle.binary_sound.proofs.Sound.{binary-sound}
 use Rattle.binary_sound.proofs.Refusals.{binary-refused}
 use Rattle.demands.proofs.Demand1.{binary-above}
 use Rattle.binary_writer.specs.Write.{binary_of, binary_fits, to_binary}
-use Rattle.output.specs.Reply.{Reply, writes, refuses}
-use Rattle.bundle.specs.Bundle.{word_of, flock_of, kind_of, length_of, is_flock, Entry, entry_octets, entries_octets, read_message, kind_number, is_written, verdict_on, message_verdict, judged, text_of, headed, next_at, Walk, ends_at, follows, entry_at, onward, walk_from, walk}
+use Rattle.output.specs.Reply.{writes, refuses}
+use Rattle.bundle.specs.Bundle.{word_of, flock_of, kind_of, length_of, is_flock, Entry, entry_octets, entries_octets, read_message, kind_number, is_written, verdict_on, message_verdict, text_of, headed, next_at, Walk, ends_at, follows, entry_at, onward, walk_from}
 use Rattle.bundle.specs.declared.Next.{Next}
 use Rattle.bundle.specs.declared.Next.TheVariants as next
 use Rattle.bundle.proofs.Heads.{next-headed, head-good}
-use Rattle.bundle.proofs.Walks.{Stands, stands, word-taken, text-length, walk-entry, walk-stop}
-use Rattle.bundle_laws.specs.Reading.{InForm, IsBundle, Fronted}
+use Rattle.bundle.proofs.Walks.{Stands, stands, word-taken, text-length, walk-entry}
+use Rattle.bundle_laws.specs.Reading.{InForm, Fronted}
 
 -- ---- a message of verdict 0
 
@@ -185,13 +185,20 @@ off {k = k} h e = let z : 0 ≡ k = cc in absurd (omega arith)
 no-entry : {A : Type 0} {w k : ℕ} → next.Stop k ≡ next.Entry w → A
 no-entry e = let z : ◌≡◌ {A = ℕ} 0 1 = cc in absurd (omega arith)
 
-stop-end : (left : ℕ) (s : List ℕ) → next.Stop 0 ≡ next_at left s → is_empty s ≡ true
+no-end : {A : Type 0} {k : ℕ} → next.Stop k ≡ next.End → A
+no-end e = let z : ◌≡◌ {A = ℕ} 0 1 = cc in absurd (omega arith)
+
+end-entry : {A : Type 0} {w : ℕ} → next.End ≡ next.Entry w → A
+end-entry e = let z : ◌≡◌ {A = ℕ} 0 1 = cc in absurd (omega arith)
+
+-- what stops a walk has a number
+stop-some : {A : Type 0} (left : ℕ) (s : List ℕ) → next.Stop 0 ≡ next_at left s → A
 unfolding next_at headed
-stop-end left s e =
-    let P : Next → Type 0 = λ (x : Next). next.Stop 0 ≡ x → is_empty s ≡ true in
+stop-some {A} left s e =
+    let P : Next → Type 0 = λ (x : Next). next.Stop 0 ≡ x → A in
     let w = word_of s in
     let v = message_verdict (kind_of w) (text_of s w) in
-    either P (is_empty s) _ _ (λ h _. h)
+    either P (is_empty s) _ _ (λ _. no-end)
     (λ _.
     either P (ltb (length s) 4) _ _ (λ _. off (omega arith))
     (λ _.
@@ -213,6 +220,33 @@ stop-end left s e =
     (λ _. off (omega arith)))))
     e
 
+-- where the octets end there are none
+end-empty : (left : ℕ) (s : List ℕ) → next.End ≡ next_at left s → is_empty s ≡ true
+unfolding next_at headed
+end-empty left s e =
+    let P : Next → Type 0 = λ (x : Next). next.End ≡ x → is_empty s ≡ true in
+    let w = word_of s in
+    let v = message_verdict (kind_of w) (text_of s w) in
+    either P (is_empty s) _ _ (λ h _. h)
+    (λ _.
+    either P (ltb (length s) 4) _ _ (λ _ q. no-end (sym q))
+    (λ _.
+    either P (eqb left 0) _ _ (λ _ q. no-end (sym q))
+    (λ _.
+    either P (is_flock (flock_of w)) _ _
+    (λ _.
+    either P (ltb (kind_of w) 2) _ _
+    (λ _.
+    either P (leb (length_of w) binary_most) _ _
+    (λ _.
+    either P (leb (4 + length_of w) (length s)) _ _
+    (λ _. either P (eqb v 0) (next.Entry w) (next.Stop v) (λ _. end-entry) (λ _ q. no-end (sym q)))
+    (λ _ q. no-end (sym q)))
+    (λ _ q. no-end (sym q)))
+    (λ _ q. no-end (sym q)))
+    (λ _ q. no-end (sym q)))))
+    e
+
 empty-is : (s : List ℕ) → is_empty s ≡ true → s ≡ []
 unfolding is_empty
 empty-is [] e = refl
@@ -226,7 +260,18 @@ front-stop left at s k e =
       split = refl;
       place = omega arith;
       good = tt;
-      ended = λ z. empty-is s (stop-end left s (ap (λ (x : ℕ). next.Stop x) (sym z) ∙ e));
+      ended = λ z. stop-some left s (ap (λ (x : ℕ). next.Stop x) (sym z) ∙ e);
+    }
+
+front-end : (left at : ℕ) (s : List ℕ) → next.End ≡ next_at left s → Fronted (ends_at at 0) at s
+unfolding entries_octets
+front-end left at s e =
+    record {
+      rest = s;
+      split = refl;
+      place = omega arith;
+      good = tt;
+      ended = λ z. empty-is s (end-empty left s e);
     }
 
 front-entry : (left at : ℕ) (s : List ℕ) (w : ℕ) (x : Walk) → next.Entry w ≡ next_at left s → Fronted x (at + (4 + length_of w)) (drop (4 + length_of w) s)
@@ -252,9 +297,11 @@ walk-front zero at s = go (next_at zero s) refl
   where
     go : (x : Next) → x ≡ next_at zero s → Fronted (onward x at s (λ a r. ends_at a too_large)) at s
     go (next.Entry w) e = let h = (stands zero s w e).some in absurd (omega arith)
+    go next.End e = front-end zero at s e
     go (next.Stop k) e = front-stop zero at s k e
 walk-front (suc left) at s = go (next_at (suc left) s) refl (walk-front left)
   where
     go : (x : Next) → x ≡ next_at (suc left) s → ((a : ℕ) (r : List ℕ) → Fronted (walk_from left a r) a r) → Fronted (onward x at s (walk_from left)) at s
     go (next.Entry w) e f = front-entry (suc left) at s w (walk_from left (at + (4 + length_of w)) (drop (4 + length_of w) s)) e (f (at + (4 + length_of w)) (drop (4 + length_of w) s))
+    go next.End e f = front-end (suc left) at s e
     go (next.Stop k) e f = front-stop (suc left) at s k e

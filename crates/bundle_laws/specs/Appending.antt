@@ -1,17 +1,16 @@
 -- An append (02, item 1): "The appender makes undelivered entries"; what it accepts is read back as the entries before it and the new one; what it refuses
 -- alters nothing.
-use Rattle.std.specs.Prelude.{ℕ, ◌+◌, ◌-◌, ◌≤◌, ◌≡◌, List, [], ◌∷◌, ◌++◌, length, take, drop}
+use Rattle.std.specs.Prelude.{ℕ, ◌+◌, ◌-◌, ◌≤◌, ◌≡◌, List, [], ◌∷◌, ◌++◌, length, take, drop, Ok, Err}
 use Rattle.octets.specs.Limits.{flocks_most}
 use Rattle.script.specs.Script.{accepted}
 use Rattle.messages.specs.Message.{is_response, Message}
 use Rattle.messages.specs.Meaning.{meaning}
 use Rattle.binary_writer.specs.Write.{binary_of}
-use Rattle.output.specs.Reply.{written_of}
-use Rattle.output.specs.declared.Written.{Written}
-use Rattle.output.specs.declared.Written.TheVariants.{Done, Refused}
-use Rattle.bundle.specs.Bundle.{word_of, flock_of, delivered_of, kind_of, Entry, read_message, kind_number, walk}
+use Rattle.output.specs.Reply.{written_of, Written}
+use Rattle.bundle.specs.Bundle.{word_of, flock_of, delivered_of, kind_of, Entry, read_message, kind_number}
 use Rattle.bundle_edit.specs.Append.{append_reply, appended}
 use Rattle.bundle_laws.specs.Reading.{InForm, IsBundle}
+use Rattle.octets.specs.Refusals.{refused_at}
 
 -- what an append to the first `used` octets of the buffer b, beside a table of so many records, answers
 abbrev pub append_answer : ℕ → List ℕ → ℕ → ℕ → List ℕ → Written
@@ -44,7 +43,7 @@ pub record Added (records : ℕ) (b : List ℕ) (used f : ℕ) (m : List ℕ) (n
 
 -- the claims on the appender
 pub record Appending : Type 0 where
-  pub adds : (records : ℕ) (b : List ℕ) (used f : ℕ) (m : List ℕ) (n : ℕ) → append_answer records b used f m ≡ Done n → Added records b used f m n
+  pub adds : (records : ℕ) (b : List ℕ) (used f : ℕ) (m : List ℕ) (n : ℕ) → append_answer records b used f m ≡ Ok n → Added records b used f m n
   -- a refused append alters no octet of the buffer, head included
-  pub refused : (records : ℕ) (b : List ℕ) (used f : ℕ) (m : List ℕ) (k p : ℕ) → append_answer records b used f m ≡ Refused k p
+  pub refused : (records : ℕ) (b : List ℕ) (used f : ℕ) (m : List ℕ) (k p : ℕ) → append_answer records b used f m ≡ Err (refused_at k p)
       → appended records b used f m ≡ b

@@ -1,6 +1,6 @@
 -- The table kept beside a bundle (02, items 6 and 11): "A flock's answer reads its one record and equals the whole bundle's, given a table built from the
 -- bundle and kept by these calls"; from an empty bundle or from a rebuild, through every sequence of calls, refused ones among them.
-use Rattle.std.specs.Prelude.{ℕ, ◌+◌, ◌-◌, ◌≤◌, ◌≡◌, true, false, List, [], ◌∷◌, length, take, get_or}
+use Rattle.std.specs.Prelude.{ℕ, ◌+◌, ◌-◌, ◌≤◌, ◌≡◌, true, false, List, [], ◌∷◌, length, take, get_or, is_some}
 use Rattle.octets.specs.Limits.{flocks_most}
 use Rattle.bundle.specs.Bundle.{is_flock, Entry, walk}
 use Rattle.flock_table.specs.Table.{totals, table_of, none, totals_of, totals_answer}
@@ -70,7 +70,7 @@ pub record Keeping : Type 0 where
   -- a flock's answer is the whole bundle's
   pub answers : (x : Night) (f : ℕ) → IsTrue x → is_flock f ≡ true → totals_answer x.table f ≡ totals_of (totals f (entries_in x))
   -- no sum wraps: an accepted append adds to its flock's record plainly
-  pub plainly : (x : Night) (f : ℕ) (m : List ℕ) → IsTrue x → (plan_in x f m).go ≡ true
+  pub plainly : (x : Night) (f : ℕ) (m : List ℕ) → IsTrue x → is_some (plan_in x f m).index ≡ true
       → get_or (after (appends f m) x).table (f - 1) none
       ≡ record {
         entries = (get_or x.table (f - 1) none).entries + 1;
@@ -78,4 +78,4 @@ pub record Keeping : Type 0 where
         undelivered = (get_or x.table (f - 1) none).undelivered + 1;
       }
   -- a refused append changes neither bundle nor table, whatever the table holds
-  pub unchanged : (x : Night) (f : ℕ) (m : List ℕ) → (plan_in x f m).go ≡ false → after (appends f m) x ≡ x
+  pub unchanged : (x : Night) (f : ℕ) (m : List ℕ) → is_some (plan_in x f m).index ≡ false → after (appends f m) x ≡ x

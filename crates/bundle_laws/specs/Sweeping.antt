@@ -1,13 +1,12 @@
 -- Room back in the bundle (02, item 11): a mark, and a sweep in the caller's buffer. That both leave a true table true is `kept` of Keeping.
-use Rattle.std.specs.Prelude.{ℕ, ◌+◌, ◌-◌, ◌≤◌, ◌<◌, ◌≡◌, true, false, List, length, drop, get_or, set}
+use Rattle.std.specs.Prelude.{ℕ, ◌+◌, ◌-◌, ◌≤◌, ◌<◌, ◌≡◌, true, false, List, length, drop, get_or, set, Ok}
 use Rattle.output.specs.Reply.{writes}
-use Rattle.output.specs.declared.Written.TheVariants.{Done}
 use Rattle.bundle.specs.Bundle.{word_of, flock_of, kind_of, is_flock, Entry, entries_octets}
 use Rattle.flock_table.specs.Table.{picked, is_delivered, is_undelivered, totals, none}
 use Rattle.bundle_edit.specs.Append.{append_reply}
 use Rattle.bundle_edit.specs.Delivery.{entry_number, mark_plan, sweep_changes}
 use Rattle.bundle_laws.specs.Appending.{append_answer}
-use Rattle.bundle_laws.specs.Keeping.{Night, entries_in, IsTrue, Call, marks, sweeps, after}
+use Rattle.bundle_laws.specs.Keeping.{Night, entries_in, IsTrue, marks, sweeps, after}
 
 -- ---- a mark
 
@@ -67,7 +66,7 @@ pub record Sweeping : Type 0 where
   -- "Freed room is used by the next append": one that had no room before a sweep is accepted behind it wherever the room then suffices
   pub freed : (x : Night) (f : ℕ) (m l : List ℕ) → IsTrue x → append_reply (length x.table) x.buffer x.used f m ≡ writes l
       → (after sweeps x).used + length l ≤ length x.buffer
-      → append_answer (length (after sweeps x).table) (after sweeps x).buffer (after sweeps x).used f m ≡ Done (length l)
+      → append_answer (length (after sweeps x).table) (after sweeps x).buffer (after sweeps x).used f m ≡ Ok (length l)
   -- "a refused call changes neither bundle nor table", whatever the table holds
   pub unmarked : (x : Night) (i : ℕ) → ((mark_plan (length x.table) x.buffer x.used i).number ≡ 0 → ⊥) → after (marks i) x ≡ x
   pub unswept : (x : Night) → ((sweep_changes (length x.table) x.buffer x.used).number ≡ 0 → ⊥) → after sweeps x ≡ x

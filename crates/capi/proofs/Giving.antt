@@ -1,26 +1,31 @@
 -- The numbers of a message, given or not.
-use Prim.Native.Nat.{ℕ, ◌+◌, ◌*◌, ◌<◌, ◌≤◌}
-use mathlib.Core.Path.{◌≡◌, refl, sym, ap, ◌∙◌}
-use mathlib.Core.Bool.{cond}
-use mathlib.Core.List.{List, [], ◌∷◌, ◌++◌}
+use Prim.Native.Nat.{ℕ, ◌+◌, ◌<◌, ◌≤◌}
+use mathlib.Core.Path.{◌≡◌, refl}
+use mathlib.Core.Bool.{Bool, true, false, cond}
+use mathlib.Core.List.{List, ◌++◌}
 use native.Mathlib.Omega.{arith}
 use borrow.Author.Tests.{le-leb, lt-leb}
+use mir.Val.{bool_byte}
 use lib.ListN.{length, length-append}
+use Rattle.std.proofs.Common.{Option, Some, None}
 use Rattle.octets.specs.Refusals.{no_room}
-use Rattle.output.specs.Splice.{splice, part, Put}
+use Rattle.output.specs.Splice.{part, Put}
 use Rattle.output.proofs.Laws.{elements-length, put_then}
 use Rattle.messages.specs.declared.Record.{Record}
-use Rattle.messages.specs.declared.StatedLength.{StatedLength}
-use Rattle.messages.specs.declared.StatedLength.TheVariants.{Missing, Of}
 use Rattle.capi.specs.Entries.{control_numbers, count_numbers, prefix_number, stated_numbers, record_numbers, Numbered}
+
+-- 1 for yes, 0 for no
+pub bit-is : (b : Bool) → bool_byte b ≡ cond b 1 0
+bit-is true = refl
+bit-is false = refl
 
 pub record-size : (r : Record) → length (record_numbers r) ≡ 20
 unfolding record_numbers
 record-size r = go r.stated
   where
-    go : (t : StatedLength) → length (control_numbers r ++ count_numbers r ++ stated_numbers (prefix_number r.prefix) t r.long (cond r.closes 1 0)) ≡ 20
-    go Missing = refl
-    go (Of n) = refl
+    go : (t : Option ℕ) → length (control_numbers r ++ count_numbers r ++ stated_numbers (prefix_number r.prefix) t r.long (cond r.closes 1 0)) ≡ 20
+    go None = refl
+    go (Some n) = refl
 
 pub lists-size : (a b c : List ℕ) (h k l : ℕ) → length (part a 0 h ++ part b 0 k ++ part c 0 l) ≡ h + k + l
 lists-size a b c h k l =

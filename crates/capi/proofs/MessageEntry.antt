@@ -1,20 +1,19 @@
 -- What the entries of responses and of Binary know of an accepted message.
-use Prim.Native.Nat.{ℕ, zero, suc, ◌+◌, ◌*◌, ◌≤◌}
+use Prim.Native.Nat.{ℕ, suc, ◌+◌, ◌*◌, ◌≤◌}
 use mathlib.Core.Path.{◌≡◌, refl, sym, ap, ◌∙◌, subst}
 use mathlib.Core.List.{List, [], ◌∷◌, ◌++◌}
-use mathlib.Core.Bool.{Bool, true, false}
+use mathlib.Core.Bool.{true, false}
 use native.Mathlib.Omega.{arith}
-use lib.ListN.{length, replicate, get_or, length-append}
-use Rattle.octets.specs.Limits.{lines_most, chunks_most, informational_most}
+use lib.ListN.{length, length-append}
+use Rattle.octets.specs.Limits.{informational_most}
 use Rattle.script.specs.Script.{Answer, accepted, refused, more}
 use Rattle.output.specs.Splice.{splice, part}
-use Rattle.messages.specs.Message.{FieldRead, InformationalRead, Start, request_start, response_start, is_response, Message}
+use Rattle.messages.specs.Message.{InformationalRead, Start, request_start, response_start, is_response, Message}
 use Rattle.messages.specs.Names.{kept}
 use Rattle.messages.specs.Answers.{informational_numbers, informational_lines, informational_in, padded, record_from, record_of}
 use Rattle.messages.specs.declared.Record.{Record}
 use Rattle.messages.specs.declared.Told.{Told}
-use Rattle.messages.specs.declared.Outcome.{Outcome}
-use Rattle.messages.specs.declared.Outcome.TheVariants as outcome
+use Rattle.messages.specs.Answers.{Outcome}
 use Rattle.messages.proofs.Noting.{kept-few}
 use Rattle.http1_lines.specs.Read.{read_response}
 use Rattle.http1_sound.proofs.Sound.{response-sound}

@@ -1,14 +1,11 @@
 -- What the request entry knows of an accepted request.
-use Prim.Native.Nat.{ℕ, ◌+◌, ◌*◌, ◌≤◌}
+use Prim.Native.Nat.{ℕ, ◌*◌, ◌≤◌}
 use mathlib.Core.Path.{◌≡◌, refl, sym, ap, ◌∙◌, subst}
-use mathlib.Core.List.{List, [], ◌∷◌, ◌++◌}
-use mathlib.Core.Bool.{Bool, true, false}
+use mathlib.Core.List.{List, ◌++◌}
 use native.Mathlib.Omega.{arith}
 use lib.ListN.{length, replicate}
-use Rattle.octets.specs.Limits.{lines_most, chunks_most}
-use Rattle.script.specs.Script.{Answer, accepted}
 use Rattle.output.specs.Splice.{part}
-use Rattle.messages.specs.Message.{FieldRead, Start, request_start, response_start, is_response, Message}
+use Rattle.messages.specs.Message.{Start, request_start, response_start, is_response}
 use Rattle.messages.specs.Names.{kept}
 use Rattle.messages.specs.declared.Told.{Told}
 use Rattle.messages.specs.Answers.{informational_numbers, informational_lines, informational_in, padded, record_from, record_of}

@@ -2,13 +2,12 @@
 use Prim.Native.Nat.{ℕ}
 use mathlib.Core.Path.{◌≡◌, ap, subst, ◌∙◌}
 use mathlib.Core.List.{List}
-use Rattle.output.specs.Reply.{Reply, Served, written_number, written_place}
-use Rattle.output.specs.declared.Written.{Written}
+use Rattle.output.specs.Reply.{Reply, Served, written_number, written_place, Written}
 use Rattle.script.specs.Script.{Answer}
 use Rattle.messages.specs.Message.{Message}
 use Rattle.turn.specs.Turn.{taken_from, TakenServed}
 use Rattle.capi.specs.Entries.{EntryServed, EntryTaken, FieldEntered}
-use Rattle.question.specs.declared.Asked.{Asked}
+use Rattle.question.specs.Asking.{Asked}
 
 -- what give_written ensures is taken as it stands
 pub entry-served : {y : Reply} {o o' : List ℕ} {w : Written} {place number : ℕ} → Served y o o' w → (number ≡ written_number w) × (place ≡ written_place w)

@@ -1,6 +1,6 @@
 -- What the entries for C leave and answer (01, "The two forms and the meaning between them": readers and writers are called with numbers and byte slices;
 -- "Numbers a call answers with"; 02, item 5). include/ospirnar.h has the layout.
-use Rattle.std.specs.Prelude.{ℕ, ◌+◌, ◌*◌, ◌/◌, ◌%◌, ◌≤◌, ◌≡◌, Bool, true, false, cond, List, [], ◌∷◌, ◌++◌, leb, length, get_or, replicate}
+use Rattle.std.specs.Prelude.{ℕ, ◌+◌, ◌*◌, ◌/◌, ◌%◌, ◌≡◌, Bool, true, cond, List, [], ◌∷◌, ◌++◌, leb, length, get_or, replicate, Option, Some, None}
 use Rattle.octets.specs.Limits.{lines_most, informational_most}
 use Rattle.octets.specs.Refusals.{no_room}
 use Rattle.script.specs.Script.{Answer, accepted, refused, more}
@@ -13,13 +13,11 @@ use Rattle.messages.specs.declared.Part.{Part}
 use Rattle.messages.specs.declared.Record.{Record}
 use Rattle.messages.specs.declared.PathPrefix.{PathPrefix}
 use Rattle.messages.specs.declared.PathPrefix.TheVariants as prefix
-use Rattle.messages.specs.declared.StatedLength.{StatedLength}
-use Rattle.messages.specs.declared.StatedLength.TheVariants.{Missing, Of}
 use Rattle.ranges.specs.Ranges.{head_numbers, trailer_numbers}
 use Rattle.turn.specs.Turn.{taken_from}
-use Rattle.question.specs.declared.Found.{Found}
-use Rattle.question.specs.declared.Found.TheVariants as found
-use Rattle.question.specs.declared.Asked.{Asked}
+use Rattle.messages.specs.declared.Span.{Span}
+use Rattle.turn.specs.Question.{found_part, lent_number, lent_place}
+use Rattle.question.specs.Asking.{Asked}
 
 -- place and length of a part
 abbrev pub part_numbers : Part → List ℕ
@@ -45,9 +43,9 @@ prefix_number prefix.Asterisk = 2
 
 -- what is put before the path; a stated length: whether there is one, then its low and its high 32 bits; then how many integers are long, and whether the sender
 -- means to close
-abbrev pub stated_numbers : ℕ → StatedLength → ℕ → ℕ → List ℕ
-stated_numbers before Missing long closes = (before ∷ 0 ∷ []) ++ (0 ∷ 0 ∷ []) ++ (long ∷ closes ∷ [])
-stated_numbers before (Of n) long closes = (before ∷ 1 ∷ []) ++ (n % word_end ∷ n / word_end ∷ []) ++ (long ∷ closes ∷ [])
+abbrev pub stated_numbers : ℕ → Option ℕ → ℕ → ℕ → List ℕ
+stated_numbers before None long closes = (before ∷ 0 ∷ []) ++ (0 ∷ 0 ∷ []) ++ (long ∷ closes ∷ [])
+stated_numbers before (Some n) long closes = (before ∷ 1 ∷ []) ++ (n % word_end ∷ n / word_end ∷ []) ++ (long ∷ closes ∷ [])
 
 -- the numbers of a record, but for the message's length
 unfoldable pub record_numbers : Record → List ℕ
@@ -148,24 +146,24 @@ pub record EntryTaken (x : Answer Message) (y : Reply) (o o' : List ℕ) (taken 
 -- ---- the answer of a field entry; C can't be handed a slice back, so start and length stand for the part of the message
 
 -- whether a part was found (1) or the default is meant (0)
-abbrev pub field_answer : Found → ℕ
-field_answer (found.Part a n) = 1
-field_answer found.Nothing = 0
+abbrev pub field_answer : Option Span → ℕ
+field_answer (Some w) = 1
+field_answer None = 0
 
 -- where the part starts, 0 for the default
-abbrev pub field_start : Found → ℕ
-field_start (found.Part a n) = a
-field_start found.Nothing = 0
+abbrev pub field_start : Option Span → ℕ
+field_start (Some w) = w.start
+field_start None = 0
 
 -- how long it is, 0 for the default
-abbrev pub field_length : Found → ℕ
-field_length (found.Part a n) = n
-field_length found.Nothing = 0
+abbrev pub field_length : Option Span → ℕ
+field_length (Some w) = w.len
+field_length None = 0
 
 -- the five together, where the inner call answers a
 pub record FieldEntered (a : Asked) (number place start len answer : ℕ) : Type 0 where
-  pub answers : answer ≡ field_answer a.found
-  pub starts : start ≡ field_start a.found
-  pub lengths : len ≡ field_length a.found
-  pub numbers : number ≡ a.number
-  pub places : place ≡ a.place
+  pub answers : answer ≡ field_answer (found_part a)
+  pub starts : start ≡ field_start (found_part a)
+  pub lengths : len ≡ field_length (found_part a)
+  pub numbers : number ≡ lent_number a
+  pub places : place ≡ lent_place a

@@ -1,6 +1,5 @@
 // The entries.
 ghost use Rattle.std.specs.Prelude.{◌≡◌, ◌+◌, ◌*◌, ◌≤◌, ◌<◌, length};
-ghost use Rattle.octets.specs.Table.{classes};
 ghost use Rattle.octets.specs.Limits.{lines_most, informational_most};
 ghost use Rattle.ranges.specs.Ranges.{places_end};
 ghost use Rattle.binary.specs.Read.{read_binary};
@@ -17,12 +16,12 @@ use binary_reader::whole::binary_in;
 use http1_reader::request::request_in;
 use http1_reader::response::response_in;
 use listing::listing;
-use messages::{Outcome, Told};
-use octets::{Refusals, class_table};
+use messages::{Stop, Told};
+use octets::{ClassTable, Refusal};
 
 // The request reader's answer, through working space for its ranges.
 fn enter_request(
-    t: &[u8; 256],
+    t: &ClassTable,
     input: &[u8],
     told: Told,
     ranges: &mut [u32],
@@ -31,22 +30,22 @@ fn enter_request(
     chunks: &mut [u32],
     trailers: &mut [u32],
 ) -> u32
-    requires { (t.now ≡ classes) × (section_room ≤ length headers.old)
+    requires { (section_room ≤ length headers.old)
         × (chunks_room ≤ length chunks.old) × (section_room ≤ length trailers.old) }
     ensures { Entered (read_request told input.now) (length input.now)
         ranges.old ranges.new place.new result }
 {
     let o = request_in(t, input, told, headers, chunks, trailers);
     match o {
-        Outcome::More => {
+        Err(Stop::More) => {
             *place = input.len();
-            return Refusals::MORE_NEEDED;
+            return Refusal::MoreNeeded as u32;
         }
-        Outcome::Refusal { number, place: p } => {
-            *place = p;
-            return number;
+        Err(Stop::Refused(e)) => {
+            *place = e.place;
+            return e.number;
         }
-        Outcome::Message(r) => {
+        Ok(r) => {
             let none = [0u32; 8];
             let fields = r.headers;
             return give_message(ranges, place, r, fields, &none, headers, chunks, trailers);
@@ -65,7 +64,7 @@ pub extern "C" fn ospirnar_read_request(
     ensures { Entered (read_request (plain scheme) input.now) (length input.now)
         ranges.old ranges.new place.new result }
 {
-    let t = class_table();
+    let t = ClassTable::new();
     let mut headers = [0u32; 256];
     let mut chunks = [0u32; 512];
     let mut trailers = [0u32; 256];
@@ -107,7 +106,7 @@ fn heads_fields(heads: &[u32]) -> usize
 
 // The response reader's answer, through working space for its ranges.
 fn enter_response(
-    t: &[u8; 256],
+    t: &ClassTable,
     input: &[u8],
     told: Told,
     ranges: &mut [u32],
@@ -117,7 +116,7 @@ fn enter_response(
     chunks: &mut [u32],
     trailers: &mut [u32],
 ) -> u32
-    requires { (t.now ≡ classes) × (heads_room ≤ length headers.old)
+    requires { (heads_room ≤ length headers.old)
         × (informational_room ≤ length heads.old) × (chunks_room ≤ length chunks.old) × (section_room ≤ length trailers.old)
         × (heads.old ≡ no_heads) }
     ensures { Entered (read_response told input.now) (length input.now)
@@ -125,15 +124,15 @@ fn enter_response(
 {
     let o = response_in(t, input, told, headers, heads, chunks, trailers);
     match o {
-        Outcome::More => {
+        Err(Stop::More) => {
             *place = input.len();
-            return Refusals::MORE_NEEDED;
+            return Refusal::MoreNeeded as u32;
         }
-        Outcome::Refusal { number, place: p } => {
-            *place = p;
-            return number;
+        Err(Stop::Refused(e)) => {
+            *place = e.place;
+            return e.number;
         }
-        Outcome::Message(r) => {
+        Ok(r) => {
             let fields = all_fields(heads, r.headers);
             return give_message(ranges, place, r, fields, heads, headers, chunks, trailers);
         }
@@ -160,7 +159,7 @@ pub extern "C" fn ospirnar_read_response(
     ensures { Entered (read_response (closing closed (answering head (plain 0))) input.now) (length input.now)
         ranges.old ranges.new place.new result }
 {
-    let t = class_table();
+    let t = ClassTable::new();
     let mut headers = [0u32; 1280];
     let mut heads = [0u32; 8];
     let mut chunks = [0u32; 512];
@@ -186,7 +185,7 @@ pub extern "C" fn ospirnar_read_response(
 
 // The Binary reader's answer, through working space for its ranges.
 fn enter_binary(
-    t: &[u8; 256],
+    t: &ClassTable,
     input: &[u8],
     told: Told,
     ranges: &mut [u32],
@@ -196,7 +195,7 @@ fn enter_binary(
     chunks: &mut [u32],
     trailers: &mut [u32],
 ) -> u32
-    requires { (t.now ≡ classes) × (heads_room ≤ length headers.old)
+    requires { (heads_room ≤ length headers.old)
         × (informational_room ≤ length heads.old) × (chunks_room ≤ length chunks.old) × (section_room ≤ length trailers.old)
         × (heads.old ≡ no_heads) }
     ensures { Entered (read_binary told input.now) (length input.now)
@@ -204,15 +203,15 @@ fn enter_binary(
 {
     let o = binary_in(t, input, told, headers, heads, chunks, trailers);
     match o {
-        Outcome::More => {
+        Err(Stop::More) => {
             *place = input.len();
-            return Refusals::MORE_NEEDED;
+            return Refusal::MoreNeeded as u32;
         }
-        Outcome::Refusal { number, place: p } => {
-            *place = p;
-            return number;
+        Err(Stop::Refused(e)) => {
+            *place = e.place;
+            return e.number;
         }
-        Outcome::Message(r) => {
+        Ok(r) => {
             let fields = all_fields(heads, r.headers);
             return give_message(ranges, place, r, fields, heads, headers, chunks, trailers);
         }
@@ -231,7 +230,7 @@ pub extern "C" fn ospirnar_read_binary(
     ensures { Entered (read_binary (in_edition edition (answering head (plain 0))) input.now) (length input.now)
         ranges.old ranges.new place.new result }
 {
-    let t = class_table();
+    let t = ClassTable::new();
     let mut headers = [0u32; 1280];
     let mut heads = [0u32; 8];
     let mut chunks = [0u32; 512];

@@ -1,12 +1,11 @@
 // The field question's entries. C can't be handed a slice back, so start and length stand for the part of the message that the inner call's slice would be.
-ghost use Rattle.std.specs.Prelude.{◌≡◌};
 ghost use Rattle.messages.specs.Told.{plain, answering, closing, in_edition};
 ghost use Rattle.turn.specs.Question.{request_question, response_question, binary_question};
 ghost use Rattle.question.specs.Asking.{asked_of};
 ghost use Rattle.capi.specs.Entries.{FieldEntered};
 
 use messages::Told;
-use question::{Asked, Found, binary_found, request_found, response_found};
+use question::{Asked, binary_found, request_found, response_found};
 
 // 1 with start and length of the part that was found, or 0 with 0 and 0; number and place as they were answered.
 fn give_field(
@@ -18,19 +17,27 @@ fn give_field(
 ) -> u32
     ensures { FieldEntered a number.new place.new start.new len.new result }
 {
-    *number = a.number;
-    *place = a.place;
-    let found = a.found;
-    match found {
-        Found::Part { start: i, len: n } => {
-            *start = i;
-            *len = n;
-            return 1;
+    match a {
+        Ok(Some(part)) => {
+            *number = 0;
+            *place = 0;
+            *start = part.start;
+            *len = part.len;
+            1
         }
-        Found::Nothing => {
+        Ok(None) => {
+            *number = 0;
+            *place = 0;
             *start = 0;
             *len = 0;
-            return 0;
+            0
+        }
+        Err(e) => {
+            *number = e.number;
+            *place = e.place;
+            *start = 0;
+            *len = 0;
+            0
         }
     }
 }

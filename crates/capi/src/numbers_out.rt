@@ -1,13 +1,23 @@
 // Numbers put into lent ranges.
-ghost use Rattle.std.specs.Prelude.{◌≡◌, [], ◌∷◌, ◌++◌, cond, ◌+◌, ◌*◌, ◌≤◌, length};
+ghost use Rattle.std.specs.Prelude.{◌≡◌, ◌++◌, ◌+◌, ◌*◌, ◌≤◌, length};
 ghost use Rattle.output.specs.Splice.{part, Put};
 ghost use Rattle.messages.specs.Room.{informational_room};
 ghost use Rattle.ranges.specs.Ranges.{SmallRecord};
 ghost use Rattle.capi.specs.Entries.{part_numbers, control_numbers, prefix_number, stated_numbers, record_numbers, start_numbers, list_numbers, Numbered};
 ghost use Rattle.capi.specs.Entries.{control_count, stated_count, record_count, start_count, fields_most};
 
-use messages::{Part, PathPrefix, Record, StatedLength};
-use octets::Refusals;
+use messages::{Part, PathPrefix, Record};
+use octets::Refusal;
+
+// All numbers given, from `at` on in out.
+fn put_all(out: &mut [u32], at: usize, numbers: &[u32]) -> usize
+    requires { at + length numbers.now ≤ length out.old }
+    ensures { Put out.old at numbers.now (length numbers.now) out.new result }
+{
+    let end = at + numbers.len();
+    out[at..end].copy_from_slice(numbers);
+    end
+}
 
 // The first `len` numbers of src, from `at` on in out.
 fn put_numbers(out: &mut [u32], at: usize, src: &[u32], len: usize) -> usize
@@ -15,28 +25,14 @@ fn put_numbers(out: &mut [u32], at: usize, src: &[u32], len: usize) -> usize
     requires len_in_bounds_2 { len ≤ length src.now }
     ensures { Put out.old at (part src.now 0 len) len out.new result }
 {
-    let mut i = 0;
-    while i < len {
-        out[at + i] = src[i];
-        i += 1;
-    }
-    at + len
-}
-
-fn put_two(out: &mut [u32], at: usize, a: u32, b: u32) -> usize
-    requires { at + 2 ≤ length out.old }
-    ensures { Put out.old at (a ∷ b ∷ []) 2 out.new result }
-{
-    out[at] = a;
-    out[at + 1] = b;
-    at + 2
+    put_all(out, at, &src[..len])
 }
 
 fn put_part_numbers(out: &mut [u32], at: usize, p: Part) -> usize
     requires { at + 2 ≤ length out.old }
     ensures { Put out.old at (part_numbers p) 2 out.new result }
 {
-    put_two(out, at, p.start, p.len)
+    put_all(out, at, &[p.start, p.len])
 }
 
 // Kind, scheme and the three parts of control data.
@@ -44,35 +40,13 @@ fn put_control(out: &mut [u32], r: Record) -> usize
     requires { control_count ≤ length out.old }
     ensures { Put out.old 0 (control_numbers r) control_count out.new result }
 {
-    let kind = bit(r.response);
-    let a = put_two(out, 0, kind, r.scheme);
-    let method = r.method;
-    let b = put_part_numbers(out, a, method);
-    let authority = r.authority;
-    let c = put_part_numbers(out, b, authority);
-    let path = r.path;
-    put_part_numbers(out, c, path)
+    let a = put_all(out, 0, &[u32::from(r.response), r.scheme]);
+    let b = put_part_numbers(out, a, r.method);
+    let c = put_part_numbers(out, b, r.authority);
+    put_part_numbers(out, c, r.path)
 }
 
-// 1 for yes, 0 for no.
-fn bit(b: bool) -> u32
-    ensures { result ≡ cond b 1 0 }
-{
-    if b {
-        return 1;
-    }
-    0
-}
-
-fn put_six(out: &mut [u32], at: usize, a: u32, b: u32, c: u32, d: u32, e: u32, f: u32) -> usize
-    requires { at + 6 ≤ length out.old }
-    ensures { Put out.old at ((a ∷ b ∷ []) ++ (c ∷ d ∷ []) ++ (e ∷ f ∷ [])) 6 out.new result }
-{
-    let i = put_two(out, at, a, b);
-    let j = put_two(out, i, c, d);
-    put_two(out, j, e, f)
-}
-
+// 0, 1 or 2.
 fn prefix_number(prefix: PathPrefix) -> u32
     ensures { result ≡ prefix_number prefix }
 {
@@ -88,7 +62,7 @@ fn put_stated(
     out: &mut [u32],
     at: usize,
     prefix: PathPrefix,
-    stated: StatedLength,
+    stated: Option<usize>,
     long: u32,
     closes: u32,
 ) -> usize
@@ -97,11 +71,11 @@ fn put_stated(
 {
     let before = prefix_number(prefix);
     match stated {
-        StatedLength::Missing => return put_six(out, at, before, 0, 0, 0, long, closes),
-        StatedLength::Of(n) => {
+        None => put_all(out, at, &[before, 0, 0, 0, long, closes]),
+        Some(n) => {
             let low = (n % 4294967296) as u32;
             let high = (n / 4294967296) as u32;
-            return put_six(out, at, before, 1, low, high, long, closes);
+            put_all(out, at, &[before, 1, low, high, long, closes])
         }
     }
 }
@@ -112,20 +86,23 @@ fn put_record(out: &mut [u32], r: Record) -> usize
     ensures { Put out.old 0 (record_numbers r) record_count out.new result }
 {
     let a = put_control(out, r);
-    let b = put_six(
-        out,
-        a,
+    let counts = [
         r.status,
         r.informational as u32,
         r.headers as u32,
         r.chunks as u32,
         r.content as u32,
         r.trailers as u32,
-    );
-    let prefix = r.prefix;
-    let stated = r.stated;
-    let closes = bit(r.closes);
-    put_stated(out, b, prefix, stated, r.long as u32, closes)
+    ];
+    let b = put_all(out, a, &counts);
+    put_stated(
+        out,
+        b,
+        r.prefix,
+        r.stated,
+        r.long as u32,
+        u32::from(r.closes),
+    )
 }
 
 // The numbers of a record, and of its informational heads.
@@ -182,7 +159,7 @@ pub(crate) fn give_message(
     let n = 28 + h + c + k;
     if ranges.len() < n {
         *place = 0;
-        return Refusals::NO_ROOM;
+        return Refusal::NoRoom as u32;
     }
     let a = put_start(ranges, r, heads);
     put_lists(ranges, a, headers, h, chunks, c, trailers, k);

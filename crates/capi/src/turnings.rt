@@ -1,5 +1,4 @@
 // The turning entries: what is read of the one form is written in the other.
-ghost use Rattle.std.specs.Prelude.{◌≡◌};
 ghost use Rattle.messages.specs.Told.{plain, answering, closing, keeping, in_edition};
 ghost use Rattle.http1_lines.specs.Read.{read_request, read_response};
 ghost use Rattle.turn.specs.Turn.{request_to_binary, response_to_binary, binary_to_binary, binary_to_http1};

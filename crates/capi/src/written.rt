@@ -9,13 +9,13 @@ pub(crate) fn give_written(w: Written, place: &mut usize) -> u32
     ensures { (result ≡ written_number w) × (place.new ≡ written_place w) }
 {
     match w {
-        Written::Done(n) => {
+        Ok(n) => {
             *place = n;
-            return 0;
+            0
         }
-        Written::Refused { number, place: p } => {
-            *place = p;
-            return number;
+        Err(e) => {
+            *place = e.place;
+            e.number
         }
     }
 }

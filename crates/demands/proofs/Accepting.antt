@@ -3,8 +3,8 @@ use Prim.Native.Nat.{ℕ, zero, suc}
 use mathlib.Core.Path.{◌≡◌, refl}
 use native.Mathlib.Omega.{arith}
 use borrow.Author.Tests.{ltb-true}
-use mathlib.Core.Bool.{Bool, true, false}
-use mathlib.Core.List.{List, append-nil}
+use mathlib.Core.Bool.{true}
+use mathlib.Core.List.{append-nil}
 use Rattle.octets.specs.Class.{is_token, is_value, is_path, is_authority, class_of, has_class, is_blank}
 use Rattle.octets.specs.Text.{span_len, all, lower_of, is_lower, same_text, trim_back, is_empty}
 use Rattle.numbers.specs.Places.{push}

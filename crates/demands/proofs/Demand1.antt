@@ -1,16 +1,15 @@
 -- Demand 1: from what each reader refuses with. Assumes nothing.
 use Prim.Native.Nat.{ℕ, ◌≤◌}
-use mathlib.Core.Path.{◌≡◌, refl}
-use mathlib.Core.Bool.{true, false, cond}
+use mathlib.Core.Path.{◌≡◌, refl, ap}
+use mathlib.Core.Bool.{true, cond}
 use mathlib.Core.Logic.{◌↔◌}
-use mathlib.Core.Option.{none}
 use mathlib.Core.List.{List, ◌∷◌}
 use native.Mathlib.Omega.{arith}
 use lib.Dec.{leb, eqb, lit≤}
 use lib.ListN.{length}
-use Rattle.octets.specs.Refusals.{more_needed, not_supported, too_large, no_room, other_scheme, bad_edition}
+use Rattle.octets.specs.Refusals.{more_needed, not_supported, too_large, no_room, other_scheme, bad_edition, refused_at}
 use Rattle.octets.proofs.Kit.{either}
-use Rattle.script.specs.Script.{Answer, accepted, refused, more, Settled}
+use Rattle.script.specs.Script.{Answer, accepted, refused, more}
 use Rattle.messages.specs.declared.Told.{Told}
 use Rattle.messages.specs.Told.{is_edition}
 use Rattle.messages.specs.Message.{Message}
@@ -21,21 +20,20 @@ use Rattle.http1_lines.specs.Read.{read_request, read_response}
 use Rattle.binary.specs.Read.{read_binary}
 use Rattle.binary_writer.specs.Write.{binary_of, binary_fits, to_binary}
 use Rattle.http1_writer.specs.Write.{http1_of, http1_fits, on_connection, to_http1}
-use Rattle.output.specs.Reply.{Reply, writes, refuses, written_of, lent_after, written_number}
-use Rattle.output.specs.declared.Written.{Written}
-use Rattle.output.specs.declared.Written.TheVariants.{Done, Refused}
+use Rattle.output.specs.Reply.{Reply, writes, refuses, written_of, lent_after, written_number, written_place, Written}
 use Rattle.turn.specs.Turn.{reply_from, request_to_binary, response_to_binary, binary_to_binary, binary_to_http1}
-use Rattle.turn.specs.Question.{question_of, request_question, response_question, binary_question}
+use Rattle.turn.specs.Question.{question_of, found_part, lent_number, lent_place, request_question, response_question, binary_question}
 use Rattle.sound.specs.Placed.{Each}
 use Rattle.sound.specs.Refusal.{is_one_of, Refusal}
 use Rattle.sound.proofs.Each.{each_map}
-use Rattle.sound.proofs.Refusals.{one_of, Among, among}
+use Rattle.sound.proofs.Refusals.{one_of, Among}
 use Rattle.http1_sound.specs.Read.{request_numbers, response_numbers}
 use Rattle.http1_sound.proofs.Refusals.{request-refused, response-refused}
-use Rattle.binary_sound.specs.Sound.{edition_numbers, binary_numbers}
+use Rattle.binary_sound.specs.Sound.{binary_numbers}
 use Rattle.binary_sound.proofs.Refusals.{edition-refused, other-edition, binary-refused, binary-settled}
 use Rattle.demands.specs.Demand1.{RefusalOf, read_number, IsAccepted, ReadNumbers, TurnNumbers, AskNumbers, Demand1}
 use Rattle.demands.proofs.Demand2.{no, lent}
+use Rattle.std.proofs.Common.{Ok, Err, None}
 
 -- ---- sets
 
@@ -136,23 +134,23 @@ module _ (ns s : List ℕ) where
 wider : (ks ns : List ℕ) → Among ks ns → (s : List ℕ) (k p : ℕ) → Refusal ks s k p → RefusalOf ns s k p
 wider ks ns w s k p r = (w.has k r.of_form, r.inside)
 
-in-room : (ns s : List ℕ) (y : Reply) → Wrongs ns s y → (room k p : ℕ) → written_of y room ≡ Refused k p → RefusalOf (13 ∷ ns) s k p
+in-room : (ns s : List ℕ) (y : Reply) → Wrongs ns s y → (room k p : ℕ) → written_of y room ≡ Err (refused_at k p) → RefusalOf (13 ∷ ns) s k p
 unfolding written_of
 in-room ns s (writes b) h room =
-    either (λ (r : Written). (k p : ℕ) → r ≡ Refused k p → RefusalOf (13 ∷ ns) s k p) (leb (length b) room) (Done (length b)) (Refused no_room 0) (λ a k p e. no cc)
+    either (λ (r : Written). (k p : ℕ) → r ≡ Err (refused_at k p) → RefusalOf (13 ∷ ns) s k p) (leb (length b) room) (Ok (length b)) (Err (refused_at no_room 0)) (λ a k p e. no cc)
     (λ a k p e.
-    let x : no_room ≡ k = cc in
-    let z : 0 ≡ p = cc in
+    let x : no_room ≡ k = ap written_number e in
+    let z : 0 ≡ p = ap written_place e in
     (rw (← x) refl, omega arith))
-in-room ns s (refuses j q) h room = λ k p e. let a : j ≡ k = cc in let b : q ≡ p = cc in let r = h k p (rw (a, b) refl) in ((later 13 ns).has k r.0, r.1)
+in-room ns s (refuses j q) h room = λ k p e. let a : j ≡ k = ap written_number e in let b : q ≡ p = ap written_place e in let r = h k p (rw (a, b) refl) in ((later 13 ns).has k r.0, r.1)
 
-done-is : (r : Written) → ((k p : ℕ) → r ≡ Refused k p → 1 ≤ k) → (written_number r ≡ 0) ↔ ((n : ℕ) × (r ≡ Done n))
-done-is (Done n) h = ((λ e. (n, refl)), (λ g. refl))
-done-is (Refused k p) h = ((λ e. absurd (omega (arith, e, h k p refl))), (λ g. let z = g.1 in no cc))
+done-is : (r : Written) → ((k p : ℕ) → r ≡ Err (refused_at k p) → 1 ≤ k) → (written_number r ≡ 0) ↔ ((n : ℕ) × (r ≡ Ok n))
+done-is (Ok n) h = ((λ e. (n, refl)), (λ g. refl))
+done-is (Err r) h = ((λ e. absurd (omega (arith, e, h r.number r.place refl))), (λ g. let z = g.1 in no cc))
 
 not_done : (y : Reply) (o : List ℕ) (r : Written) → written_of y (length o) ≡ r → (written_number r ≡ 0 → ⊥) → lent_after y o ≡ o
-not_done y o (Done n) e h = absurd (h refl)
-not_done y o (Refused k p) e h = (lent y).unaltered o k p e
+not_done y o (Ok n) e h = absurd (h refl)
+not_done y o (Err r) e h = (lent y).unaltered o r.number r.place e
 
 pub turn-numbers : (ns : List ℕ) → From 1 ns → (turn : List ℕ → Reply) → ((s : List ℕ) → Wrongs ns s (turn s)) → TurnNumbers ns turn
 turn-numbers ns w turn h = record {
@@ -198,12 +196,12 @@ binary_turned t s =
 -- ---- the field question
 
 asked-number : (ns s name : List ℕ) (x : Answer Message) → ((k p : ℕ) → x ≡ refused k p → RefusalOf ns s k p) → (x ≡ more → is_one_of ns more_needed ≡ true)
-    → RefusalOf (0 ∷ ns) s (question_of name (length s) x).number (question_of name (length s) x).place
+    → RefusalOf (0 ∷ ns) s (lent_number (question_of name (length s) x)) (lent_place (question_of name (length s) x))
 asked-number ns s name (accepted n m) h g = (refl, omega arith)
 asked-number ns s name (refused k p) h g = let r = h k p refl in ((later 0 ns).has k r.0, r.1)
 asked-number ns s name more h g = ((later 0 ns).has more_needed (g refl), omega arith)
 
-asked-nothing : (name : List ℕ) (n : ℕ) (x : Answer Message) → ((question_of name n x).number ≡ 0 → ⊥) → (question_of name n x).found ≡ none
+asked-nothing : (name : List ℕ) (n : ℕ) (x : Answer Message) → (lent_number (question_of name n x) ≡ 0 → ⊥) → found_part (question_of name n x) ≡ None
 asked-nothing name n (accepted k m) h = absurd (h refl)
 asked-nothing name n (refused k p) h = refl
 asked-nothing name n more h = refl

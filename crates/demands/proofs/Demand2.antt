@@ -7,7 +7,7 @@ use native.Mathlib.Omega.{arith}
 use borrow.Author.Tests.{le-leb, lt-leb, leb-false, eq-eqb}
 use lib.Dec.{leb}
 use lib.ListN.{length, drop}
-use Rattle.octets.specs.Refusals.{not_supported, too_large, no_room, other_scheme, bad_edition}
+use Rattle.octets.specs.Refusals.{not_supported, too_large, no_room, other_scheme, bad_edition, refused_at}
 use Rattle.script.specs.Script.{Answer, accepted, refused, more, means, run}
 use Rattle.messages.specs.declared.Told.{Told}
 use Rattle.messages.specs.Told.{is_edition, in_edition}
@@ -21,7 +21,6 @@ use Rattle.binary_writer.specs.Write.{binary_of, binary_fits, to_binary}
 use Rattle.http1_writer.specs.Write.{http1_of, http1_fits, on_connection, to_http1}
 use Rattle.output.specs.Splice.{splice}
 use Rattle.output.specs.Reply.{Reply, writes, refuses, written_of, lent_after}
-use Rattle.output.specs.declared.Written.TheVariants.{Done, Refused}
 use Rattle.output.proofs.Laws.{splice-is}
 use Rattle.turn.specs.Turn as turn
 use Rattle.turn.specs.Turn.{request_to_binary, response_to_binary, binary_to_binary, binary_to_http1}
@@ -33,6 +32,7 @@ use Rattle.http1_round_trip.specs.RoundTrip.{is_request_of}
 use Rattle.http1_round_trip.proofs.Back.{request-meanings, response-meanings}
 use Rattle.demands.proofs.Accepting.{accepting}
 use Rattle.demands.specs.Demand2.{Turning, http1_reader, into_binary, requests_as_binary, responses_as_binary, binary_anew, binary_as_http1, reply_for, reply_to, behind, Kept, Lent, Turns, Demand2}
+use Rattle.std.proofs.Common.{Ok, Err}
 
 pub no : {A : Type 0} → ◌≡◌ {A = ℕ} 0 1 → A
 no z = absurd (omega arith)
@@ -54,14 +54,14 @@ octets-lent bs = record {
 }
   where
     fit : (o b : List ℕ) → length b ≤ length o
-        → (cond (leb (length b) (length o)) (Done (length b)) (Refused no_room 0) ≡ Done (length b)) × (cond (leb (length b) (length o)) (splice o 0 b) o ≡ b ++ drop (length b) o)
+        → (cond (leb (length b) (length o)) (Ok (length b)) (Err (refused_at no_room 0)) ≡ Ok (length b)) × (cond (leb (length b) (length o)) (splice o 0 b) o ≡ b ++ drop (length b) o)
     fit o b h = rw (le-leb (length b) (length o) h) (refl, splice_front o b h)
 
-    by-test : (o b : List ℕ) (x : Bool) → leb (length b) (length o) ≡ x → cond x (Done (length b)) (Refused no_room 0) ≡ Refused no_room 0 → length o < length b
+    by-test : (o b : List ℕ) (x : Bool) → leb (length b) (length o) ≡ x → cond x (Ok (length b)) (Err (refused_at no_room 0)) ≡ Err (refused_at no_room 0) → length o < length b
     by-test o b true e g = no cc
     by-test o b false e g = leb-false (length b) (length o) e
 
-    kept : (o : List ℕ) (k p : ℕ) (x : Bool) → cond x (Done (length bs)) (Refused no_room 0) ≡ Refused k p → cond x (splice o 0 bs) o ≡ o
+    kept : (o : List ℕ) (k p : ℕ) (x : Bool) → cond x (Ok (length bs)) (Err (refused_at no_room 0)) ≡ Err (refused_at k p) → cond x (splice o 0 bs) o ≡ o
     kept o k p true g = no cc
     kept o k p false g = refl
 

@@ -9,7 +9,7 @@ use borrow.Author.Tests.{leb-true}
 use lib.Dec.{leb}
 use lib.ListN.{length, take, drop, length-append, length-drop, take-append-drop}
 use lib.Seq.{take-append_seam, drop-append_seam, drop-drop}
-use Rattle.octets.specs.Refusals.{no_room}
+use Rattle.octets.specs.Refusals.{no_room, refused_at}
 use Rattle.octets.proofs.Kit.{and_split}
 use Rattle.script.specs.Script.{Answer, accepted, refused, more, Settled, means}
 use Rattle.stream.specs.Taking.{message, waits, take_f, take_off, onto, add_octets, add_entry, add_call, stream, entries, sent}
@@ -25,15 +25,14 @@ use Rattle.http1_lines.specs.Read.{read_request}
 use Rattle.http1_sound.proofs.Front.{request-within, request-stays, request-front}
 use Rattle.binary.specs.Read.{read_binary}
 use Rattle.http1_writer.specs.Write.{http1_of, http1_fits, on_connection}
-use Rattle.output.specs.Reply.{Reply, writes, refuses, written_of, lent_after, Served, ServedAt}
-use Rattle.output.specs.declared.Written.{Written}
-use Rattle.output.specs.declared.Written.TheVariants.{Done, Refused}
+use Rattle.output.specs.Reply.{Reply, writes, refuses, written_of, lent_after, Served, ServedAt, Written}
 use Rattle.output.proofs.Serve.{after_tail}
 use Rattle.http1_round_trip.specs.RoundTrip.{is_request_of, RequestOf}
 use Rattle.http1_round_trip.proofs.Back.{request-meanings, text-unused, fits-unused, edition-text, edition-fits}
 use Rattle.demands.specs.Demand2.{binary_as_http1, Kept}
 use Rattle.demands.specs.Demand3.{Call, told_of, reply_of, Space, fresh, lent_in, answer_in, long_of, call, entry_in, calls, entries_in, space_of, stream_of, entries_of, meanings_of, NotResponse, NoResponse, read_meaning, Demand3}
 use Rattle.demands.proofs.Demand2.{no, binary-valid, lent, demand2}
+use Rattle.std.proofs.Common.{Ok, Err}
 
 -- ---- the request reader of meanings
 
@@ -143,11 +142,11 @@ record Fitted (y : Reply) (o : List ℕ) (n : ℕ) : Type 0 where
   long : n ≡ length text
   room : length text ≤ length o
 
-fitted : (y : Reply) (o : List ℕ) (n : ℕ) → written_of y (length o) ≡ Done n → Fitted y o n
+fitted : (y : Reply) (o : List ℕ) (n : ℕ) → written_of y (length o) ≡ Ok n → Fitted y o n
 unfolding written_of
 fitted (writes b) o n e = go (leb (length b) (length o)) refl e
   where
-    go : (x : Bool) → leb (length b) (length o) ≡ x → cond x (Done (length b)) (Refused no_room 0) ≡ Done n → Fitted (writes b) o n
+    go : (x : Bool) → leb (length b) (length o) ≡ x → cond x (Ok (length b)) (Err (refused_at no_room 0)) ≡ Ok n → Fitted (writes b) o n
     go true q h = let z : length b ≡ n = cc in record { text = b; reply = refl; long = sym z; room = leb-true (length b) (length o) q }
     go false q h = no cc
 fitted (refuses k p) o n e = no cc
@@ -168,11 +167,11 @@ module _ (t : Told) where
       let a : take z.written z.whole ++ lent_after y (lent_in z) ≡ o' = after_tail y z.written z.whole k ∙ sym h.after in
       (e, ap₂ (λ (o : List ℕ) (w : Written). space o (z.written + long_of w)) a e)
 
-  unaltered : (z : Space) (c : Call) (k p : ℕ) → answer_in t z c ≡ Refused k p → lent_after (reply_of t c) (lent_in z) ≡ lent_in z
+  unaltered : (z : Space) (c : Call) (k p : ℕ) → answer_in t z c ≡ Err (refused_at k p) → lent_after (reply_of t c) (lent_in z) ≡ lent_in z
   unfolding answer_in
   unaltered z c k p e = (lent (reply_of t c)).unaltered (lent_in z) k p e
 
-  refused-call : (z : Space) (c : Call) (k p : ℕ) → answer_in t z c ≡ Refused k p → (call t z c ≡ z) × (entry_in t z c ≡ [])
+  refused-call : (z : Space) (c : Call) (k p : ℕ) → answer_in t z c ≡ Err (refused_at k p) → (call t z c ≡ z) × (entry_in t z c ≡ [])
   unfolding call entry_in
   refused-call z c k p e = (rw (e, unaltered z c k p e) (ap₂ space (take-append-drop z.written z.whole) (omega arith)), rw e)
 
@@ -180,17 +179,17 @@ module _ (t : Told) where
     kept : Fitted (reply_of t c) (lent_in z) n
     holds : Kept (binary_as_http1 (told_of t c)) c.input kept.text
 
-  accepted-call : (z : Space) (c : Call) (n : ℕ) → answer_in t z c ≡ Done n → Accepted z c n
+  accepted-call : (z : Space) (c : Call) (n : ℕ) → answer_in t z c ≡ Ok n → Accepted z c n
   unfolding answer_in
   accepted-call z c n e =
       let f = fitted (reply_of t c) (lent_in z) n e in
       record { kept = f; holds = (demand2.http1 (told_of t c)).kept c.input f.text f.reply }
 
-  accepted-entry : (z : Space) (c : Call) (n : ℕ) (m : Message) (k : ℕ) → answer_in t z c ≡ Done n → read_binary (told_of t c) c.input ≡ accepted k m → entry_in t z c ≡ (n, meaning m) ∷ []
+  accepted-entry : (z : Space) (c : Call) (n : ℕ) (m : Message) (k : ℕ) → answer_in t z c ≡ Ok n → read_binary (told_of t c) c.input ≡ accepted k m → entry_in t z c ≡ (n, meaning m) ∷ []
   unfolding entry_in
   accepted-entry z c n m k e r = rw (e, r)
 
-  written-call : (front lent : List ℕ) (c : Call) (n : ℕ) (b : List ℕ) → answer_in t (at front lent) c ≡ Done n → n ≡ length b
+  written-call : (front lent : List ℕ) (c : Call) (n : ℕ) (b : List ℕ) → answer_in t (at front lent) c ≡ Ok n → n ≡ length b
       → lent_after (reply_of t c) lent ≡ b ++ drop (length b) lent
       → call t (at front lent) c ≡ at (front ++ b) (drop (length b) lent)
   unfolding call
@@ -214,8 +213,8 @@ module _ (t : Told) where
   step c front rest = go (answer_in t (at front rest) c) refl
     where
       go : (x : Written) → answer_in t (at front rest) c ≡ x → Step t c front rest
-      go (Refused k p) e = let r = refused-call (at front rest) c k p e in skips r.0 r.1
-      go (Done n) e =
+      go (Err z) e = let r = refused-call (at front rest) c z.number z.place e in skips r.0 r.1
+      go (Ok n) e =
           let a = accepted-call (at front rest) c n e in
           let k = a.holds in
           let m : Meaning = meaning k.message in

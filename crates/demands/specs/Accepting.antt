@@ -1,10 +1,9 @@
 -- Demand 2 (00): "What is accepted, and what it means". That something is accepted, so that no build is meant that refuses everything (01, "What the written
 -- promises must decide"): accepted messages have valid meanings, every valid meaning that fits is written and read back as itself, and there are such
 -- meanings of each kind.
-use Rattle.std.specs.Prelude.{ℕ, ◌≡◌, Bool, true, false, List, [], ◌∷◌, ◌++◌, length}
+use Rattle.std.specs.Prelude.{ℕ, ◌≡◌, Bool, true, false, List, [], ◌∷◌, ◌++◌, length, None}
 use Rattle.octets.specs.Ascii.{ascii}
 use Rattle.script.specs.Script.{Answer, accepted, means}
-use Rattle.messages.specs.declared.StatedLength.TheVariants.{Missing}
 use Rattle.messages.specs.declared.Told.{Told}
 use Rattle.messages.specs.Told.{answering, in_edition}
 use Rattle.messages.specs.Message.{Message}
@@ -42,7 +41,7 @@ nothing rest = []
 
 -- a request: P5 of 01, of a scheme
 abbrev pub post : ℕ → Meaning
-post scheme = record { control = request (ascii "POST") scheme (ascii "a") (ascii "/s"); headers = []; content = ascii "abc"; trailers = []; stated = Missing }
+post scheme = record { control = request (ascii "POST") scheme (ascii "a") (ascii "/s"); headers = []; content = ascii "abc"; trailers = []; stated = None }
 
 -- a response: Figure 13 of document 001
 abbrev pub figure13 : Meaning
@@ -52,12 +51,12 @@ figure13 =
       headers = [];
       content = ascii "This content contains CRLF.\r\n";
       trailers = record { name = ascii "trailer"; value = ascii "text" } ∷ [];
-      stated = Missing;
+      stated = None;
     }
 
 -- one that ends at its head, whatever is told
 abbrev pub no_content : Meaning
-no_content = record { control = response [] 204; headers = []; content = []; trailers = []; stated = Missing }
+no_content = record { control = response [] 204; headers = []; content = []; trailers = []; stated = None }
 
 -- ---- the claim
 

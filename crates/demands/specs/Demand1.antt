@@ -2,9 +2,8 @@
 -- answers with", the number is one of those that the call can refuse with, each call's given here once as a set; the place is one of the input; and a refusal
 -- gives no ranges and writes nothing. One statement of the three readers, the four turnings and the field question: `Demand1`. The C entries are in
 -- `boundary`.
-use Rattle.std.specs.Prelude.{ℕ, ◌≤◌, ◌≡◌, true, false, ◌↔◌, List, ◌∷◌, length}
-use Rattle.std.proofs.Math.Option.{none}
-use Rattle.octets.specs.Refusals.{more_needed, bad_edition}
+use Rattle.std.specs.Prelude.{ℕ, ◌≤◌, ◌≡◌, true, false, ◌↔◌, List, ◌∷◌, length, Ok, Err, None}
+use Rattle.octets.specs.Refusals.{more_needed, bad_edition, refused_at}
 use Rattle.script.specs.Script.{Answer, accepted, refused, more, Settled}
 use Rattle.messages.specs.declared.Told.{Told}
 use Rattle.messages.specs.Told.{is_edition}
@@ -16,9 +15,8 @@ use Rattle.http1_sound.specs.Read.{request_numbers, response_numbers}
 use Rattle.binary.specs.Read.{read_binary}
 use Rattle.binary_sound.specs.Sound.{edition_numbers, binary_numbers}
 use Rattle.output.specs.Reply.{Reply, refuses, written_of, lent_after, written_number}
-use Rattle.output.specs.declared.Written.TheVariants.{Done, Refused}
 use Rattle.turn.specs.Turn.{request_to_binary, response_to_binary, binary_to_binary, binary_to_http1}
-use Rattle.turn.specs.Question.{Question, request_question, response_question, binary_question}
+use Rattle.turn.specs.Question.{Question, found_part, lent_number, lent_place, request_question, response_question, binary_question}
 
 -- one of these numbers, at an octet of the input s or right behind its last, where something is missing
 abbrev pub RefusalOf : List ℕ → List ℕ → ℕ → ℕ → Type 0
@@ -52,9 +50,9 @@ pub record TurnNumbers (numbers : List ℕ) (turn : List ℕ → Reply) : Type 0
   -- every refusal, whatever the room: the reader's, or that the message can't be written
   pub refusals : (s : List ℕ) (k p : ℕ) → turn s ≡ refuses k p → RefusalOf numbers s k p
   -- every refusal in a room: these, or that the room is too small
-  pub in_room : (s : List ℕ) (room k p : ℕ) → written_of (turn s) room ≡ Refused k p → RefusalOf (13 ∷ numbers) s k p
+  pub in_room : (s : List ℕ) (room k p : ℕ) → written_of (turn s) room ≡ Err (refused_at k p) → RefusalOf (13 ∷ numbers) s k p
   -- a call answers 0 exactly where it wrote octets
-  pub writes : (s : List ℕ) (room : ℕ) → (written_number (written_of (turn s) room) ≡ 0) ↔ ((n : ℕ) × (written_of (turn s) room ≡ Done n))
+  pub writes : (s : List ℕ) (room : ℕ) → (written_number (written_of (turn s) room) ≡ 0) ↔ ((n : ℕ) × (written_of (turn s) room ≡ Ok n))
   -- where it does not answer 0, not one octet of the lent space o is altered
   pub unaltered : (s o : List ℕ) → (written_number (written_of (turn s) (length o)) ≡ 0 → ⊥) → lent_after (turn s) o ≡ o
 
@@ -62,8 +60,8 @@ pub record TurnNumbers (numbers : List ℕ) (turn : List ℕ → Reply) : Type 0
 
 -- what the lent number and place receive, where the message's reader refuses with these numbers: the message's refusal, and then nothing is found; or 0
 pub record AskNumbers (numbers : List ℕ) (ask : List ℕ → List ℕ → Question) : Type 0 where
-  pub receives : (name s : List ℕ) → RefusalOf (0 ∷ numbers) s (ask name s).number (ask name s).place
-  pub default : (name s : List ℕ) → ((ask name s).number ≡ 0 → ⊥) → (ask name s).found ≡ none
+  pub receives : (name s : List ℕ) → RefusalOf (0 ∷ numbers) s (lent_number (ask name s)) (lent_place (ask name s))
+  pub default : (name s : List ℕ) → (lent_number (ask name s) ≡ 0 → ⊥) → found_part (ask name s) ≡ None
 
 -- ---- the claim
 

@@ -2,8 +2,8 @@
 -- messages that can't be turned are those that document 01 numbers." A stated length is part of the meaning (02, item 5), and Binary is
 -- read in either edition (02, item 7). One statement, `Turns`, of each of
 -- the four turnings (01, "The two forms and the meaning between them", "Numbers a call answers with").
-use Rattle.std.specs.Prelude.{ℕ, ◌<◌, ◌≤◌, ◌≡◌, Bool, true, false, cond, ◌↔◌, List, [], ◌++◌, length, drop}
-use Rattle.octets.specs.Refusals.{more_needed, not_supported, too_large, no_room, other_scheme, bad_edition}
+use Rattle.std.specs.Prelude.{ℕ, ◌<◌, ◌≤◌, ◌≡◌, Bool, true, false, cond, ◌↔◌, List, [], ◌++◌, length, drop, Ok, Err}
+use Rattle.octets.specs.Refusals.{more_needed, not_supported, too_large, no_room, other_scheme, bad_edition, refused_at}
 use Rattle.script.specs.Script.{Answer, accepted, refused, more, means}
 use Rattle.messages.specs.declared.Told.{Told}
 use Rattle.messages.specs.Told.{is_edition, in_edition}
@@ -15,7 +15,6 @@ use Rattle.binary.specs.Read.{read_binary}
 use Rattle.binary_writer.specs.Write.{binary_of, binary_fits}
 use Rattle.http1_writer.specs.Write.{http1_of, http1_fits, on_connection}
 use Rattle.output.specs.Reply.{Reply, writes, refuses, written_of, lent_after}
-use Rattle.output.specs.declared.Written.TheVariants.{Done, Refused}
 use Rattle.http1_round_trip.specs.RoundTrip.{is_request_of}
 use Rattle.turn.specs.Turn.{request_to_binary, response_to_binary, binary_to_binary, binary_to_http1}
 use Rattle.demands.specs.Accepting.{Accepting}
@@ -125,13 +124,13 @@ pub record Kept (w : Turning) (s b : List ℕ) : Type 0 where
 -- what a call that is to reply y answers, and what it leaves in the octets o that it is lent
 pub record Lent (y : Reply) : Type 0 where
   -- octets for which there is room are written from the first octet on, their number is answered, and all behind them stays
-  pub done : (o b : List ℕ) → y ≡ writes b → length b ≤ length o → (written_of y (length o) ≡ Done (length b)) × (lent_after y o ≡ b ++ drop (length b) o)
+  pub done : (o b : List ℕ) → y ≡ writes b → length b ≤ length o → (written_of y (length o) ≡ Ok (length b)) × (lent_after y o ≡ b ++ drop (length b) o)
   -- it is 13 at 0 exactly where the octets are more than the room
-  pub small : (o b : List ℕ) → y ≡ writes b → (written_of y (length o) ≡ Refused no_room 0) ↔ (length o < length b)
+  pub small : (o b : List ℕ) → y ≡ writes b → (written_of y (length o) ≡ Err (refused_at no_room 0)) ↔ (length o < length b)
   -- a refusal stands whatever the room
-  pub stands : (o : List ℕ) (k p : ℕ) → y ≡ refuses k p → written_of y (length o) ≡ Refused k p
+  pub stands : (o : List ℕ) (k p : ℕ) → y ≡ refuses k p → written_of y (length o) ≡ Err (refused_at k p)
   -- on any refusal, 13 too, nothing is altered
-  pub unaltered : (o : List ℕ) (k p : ℕ) → written_of y (length o) ≡ Refused k p → lent_after y o ≡ o
+  pub unaltered : (o : List ℕ) (k p : ℕ) → written_of y (length o) ≡ Err (refused_at k p) → lent_after y o ≡ o
 
 -- ---- the claim
 

@@ -1,6 +1,6 @@
 -- Demand 3 (00; 01, "Streams under one scheme"; 02, items 5 and 7): a list of calls of the HTTP/1.1 writer under one scheme, in one lent space, and what the request reader
 -- takes off the octets that they leave there. A single claim about the whole list: `Demand3`.
-use Rattle.std.specs.Prelude.{ℕ, ◌+◌, ◌≤◌, ◌≡◌, false, ◌↔◌, List, [], ◌∷◌, ◌++◌, map, length, take, drop}
+use Rattle.std.specs.Prelude.{ℕ, ◌+◌, ◌≤◌, ◌≡◌, false, ◌↔◌, List, [], ◌∷◌, ◌++◌, map, length, take, drop, Ok, Err}
 use Rattle.script.specs.Script.{Answer, accepted, refused, more, means}
 use Rattle.stream.specs.Taking.{waits, take_f, take_off, resume, onto}
 use Rattle.messages.specs.Told.{answering, in_edition}
@@ -9,15 +9,14 @@ use Rattle.messages.specs.Message.{Message}
 use Rattle.messages.specs.Meaning.{Meaning, meaning}
 use Rattle.messages.specs.Answers.{reading_of}
 use Rattle.messages.specs.Valid.{of_response}
-use Rattle.messages.specs.declared.Outcome.TheVariants as outcome
+use Rattle.messages.specs.declared.Stop.{Stop}
 use Rattle.sound.specs.Placed.{Each}
 use Rattle.http1_lines.specs.Read.{read_request}
 use Rattle.http1_sound.specs.Front.{answers, First}
 use Rattle.binary.specs.Read.{read_binary}
-use Rattle.output.specs.Reply.{Reply, written_of, lent_after, Served, ServedAt}
-use Rattle.output.specs.declared.Written.{Written}
-use Rattle.output.specs.declared.Written.TheVariants.{Done, Refused}
+use Rattle.output.specs.Reply.{Reply, written_of, lent_after, Served, ServedAt, Written}
 use Rattle.turn.specs.Turn.{binary_to_http1}
+use Rattle.octets.specs.Refusals.{refused_at}
 
 -- ---- one call
 
@@ -54,8 +53,8 @@ answer_in t z c = written_of (reply_of t c) (length (lent_in z))
 
 -- the octets that a call says it wrote; a refused call wrote none
 abbrev pub long_of : Written → ℕ
-long_of (Done n) = n
-long_of (Refused k p) = 0
+long_of (Ok n) = n
+long_of (Err e) = 0
 
 -- what it leaves: the octets before are as they were, those lent are as the writer leaves them
 unfoldable pub call : Told → Space → Call → Space
@@ -68,10 +67,10 @@ call t z c =
 -- "An accepted call adds .. the meaning of its Binary input to the list of meanings to be taken off; a refused call adds nothing": the length that
 -- the call said, and the meaning
 abbrev pub entry_of : Written → Answer Message → List (ℕ × Meaning)
-entry_of (Done n) (accepted k m) = (n, meaning m) ∷ []
-entry_of (Done n) (refused k p) = []
-entry_of (Done n) more = []
-entry_of (Refused k p) x = []
+entry_of (Ok n) (accepted k m) = (n, meaning m) ∷ []
+entry_of (Ok n) (refused k p) = []
+entry_of (Ok n) more = []
+entry_of (Err e) x = []
 
 -- what the call c adds
 unfoldable pub entry_in : Told → Space → Call → List (ℕ × Meaning)
@@ -131,10 +130,10 @@ pub record Demand3 (t : Told) : Type 0 where
       → (answer_in t z c ≡ r) × (call t z c ≡ record { whole = o'; written = z.written + long_of r })
   -- an accepted call: the Binary reader accepted its input, and the call adds the length that it said and that input's meaning. Which calls are accepted
   -- is demand 2's `turned` and `room`: they shut out a writer that refuses everything, of which the rest here would say nothing
-  pub accepts : (z : Space) (c : Call) (n : ℕ) → answer_in t z c ≡ Done n
+  pub accepts : (z : Space) (c : Call) (n : ℕ) → answer_in t z c ≡ Ok n
       → (k : ℕ) × (m : Message) × (read_binary (told_of t c) c.input ≡ accepted k m) × (entry_in t z c ≡ (n, meaning m) ∷ []) × (n ≤ length (lent_in z))
   -- a refused call, by whatever number: it adds nothing, and not one octet of the space is altered
-  pub refuses : (z : Space) (c : Call) (k p : ℕ) → answer_in t z c ≡ Refused k p → (call t z c ≡ z) × (entry_in t z c ≡ [])
+  pub refuses : (z : Space) (c : Call) (k p : ℕ) → answer_in t z c ≡ Err (refused_at k p) → (call t z c ≡ z) × (entry_in t z c ≡ [])
   -- whatever octets stand behind what the calls wrote: the request reader first takes off exactly the meanings of the accepted calls, in order, each as
   -- long as its call said; what it then takes off is what it takes off the octets behind
   -- (shuts out: a stream reader that truly reads only the first request; a writer that says 0 and writes nothing; invented lengths)
@@ -152,7 +151,7 @@ pub record Demand3 (t : Told) : Type 0 where
       → (length (space_of t o cs).whole ≡ length o) × ((space_of t o cs).written ≤ length o)
       × (drop (space_of t o cs).written (space_of t o cs).whole ≡ drop (space_of t o cs).written o)
   -- for every stream s of arbitrary octets, and whatever octets u are put behind it: an answer that does not ask for more stays, ranges included
-  pub reading : (s u : List ℕ) → ((reading_of (read_request t s)).outcome ≡ outcome.More → ⊥) → reading_of (read_request t (s ++ u)) ≡ reading_of (read_request t s)
+  pub reading : (s u : List ℕ) → ((reading_of (read_request t s)).outcome ≡ Err Stop.More → ⊥) → reading_of (read_request t (s ++ u)) ≡ reading_of (read_request t s)
   -- taken off message by message, the answers on s alone, save a closing 1, are the first answers with u behind, ranges included
   pub first : (s u : List ℕ) → First (answers (take_off (read_request t) s)) (answers (take_off (read_request t) (s ++ u)))
   -- in meaning, length, refusal and place: taking off s, and then what is left of it with u behind, is taking off the whole

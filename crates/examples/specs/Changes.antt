@@ -1,11 +1,10 @@
 -- The table of examples for 02: rows for each item that has landed, in the items' order, one statement. What a row says is in `Examples`.
-use Rattle.std.specs.Prelude.{ℕ, true, false, List, [], ◌∷◌, ◌++◌, take, replicate}
+use Rattle.std.specs.Prelude.{ℕ, true, false, List, [], ◌∷◌, ◌++◌, take, replicate, Some}
 use Prim.Native.String.{String}
 use Rattle.octets.specs.Ascii.{ascii}
 use Rattle.messages.specs.Told.{plain, answering, closing, keeping, in_edition}
 use Rattle.messages.specs.Answers.{part_at}
 use Rattle.messages.specs.declared.PathPrefix.TheVariants as prefix
-use Rattle.messages.specs.declared.StatedLength.TheVariants.{Missing, Of}
 use Rattle.messages.specs.declared.Told.{Told}
 use Rattle.examples.specs.Examples.{http, Example, integer, http1, http1_reply, binary_reply, states, reply_becomes, goes_as, binary, becomes, anew_as, turned_away, counted, longs, http1_as, aims, closes_after, binary_closes, figure13, hex, AllHold}
 
@@ -46,7 +45,7 @@ replies =
     http1 head_text 0 29
     -- its reply ends behind its head, whatever stands behind; told no, the content is too large at its line
     ∷ http1_reply to_head (stated_text ++ ascii "x") 0 47
-    ∷ states to_head stated_text (Of 123456789012)
+    ∷ states to_head stated_text (Some 123456789012)
     ∷ http1_reply http stated_text 8 15
     -- it becomes Binary and comes back
     ∷ reply_becomes to_head stated_text stated_binary

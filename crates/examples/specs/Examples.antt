@@ -1,27 +1,26 @@
 -- The examples P1 to P13 of 01 ("Examples"), one table under one statement.
-use Rattle.std.specs.Prelude.{ℕ, zero, suc, ◌+◌, ◌*◌, ◌≡◌, Bool, true, false, cond, List, [], ◌∷◌, ◌++◌, eqb, ltb, length, take}
+use Rattle.std.specs.Prelude.{ℕ, zero, suc, ◌+◌, ◌*◌, ◌≡◌, Bool, true, false, cond, List, [], ◌∷◌, ◌++◌, eqb, ltb, length, take, Option, Some, None}
 use Prim.Native.Char.{Char, code}
 use Prim.Native.String.{String, [] as none, ◌∷◌ as ◌then◌}
 use Rattle.octets.specs.Ascii.{ascii}
 use Rattle.numbers.specs.Digits.{digit_of}
-use Rattle.numbers.specs.Integer.{read_int}
+use Rattle.numbers.specs.Integer.{read_int, integer_of}
 use Rattle.numbers.specs.declared.Integer.{Integer}
-use Rattle.numbers.specs.declared.Integer.TheVariants.{Value, Cut}
 use Rattle.script.specs.Script.{Answer}
 use Rattle.messages.specs.Told.{plain}
 use Rattle.messages.specs.declared.Told.{Told}
 use Rattle.messages.specs.Message.{Message}
-use Rattle.messages.specs.Answers.{reading_of, number_of, place_of}
+use Rattle.messages.specs.Answers.{Outcome, reading_of, number_of, place_of}
 use Rattle.messages.specs.declared.Part.{Part}
 use Rattle.messages.specs.declared.PathPrefix.{PathPrefix}
 use Rattle.messages.specs.declared.Record.{Record}
-use Rattle.messages.specs.declared.StatedLength.{StatedLength}
-use Rattle.messages.specs.declared.Outcome.{Outcome}
-use Rattle.messages.specs.declared.Outcome.TheVariants as outcome
+use Rattle.std.specs.Prelude.{Ok, Err}
+use Rattle.messages.specs.declared.Stop.{Stop}
+use Rattle.octets.specs.Refusals.{refused_at}
 use Rattle.http1_lines.specs.Read.{read_request, read_response}
 use Rattle.binary.specs.Read.{read_binary}
 use Rattle.turn.specs.Turn.{request_to_binary, response_to_binary, binary_to_binary, binary_to_http1}
-use Rattle.output.specs.Reply.{Reply, writes, refuses}
+use Rattle.output.specs.Reply.{writes, refuses}
 
 -- ---- octets by pairs of hexadecimal digits; spaces are passed over
 
@@ -53,7 +52,7 @@ pub data Example : Type 0 where
   -- reading as Binary, as told
   binary_reply : Told → List ℕ → ℕ → ℕ → Example
   -- an accepted HTTP/1.1 response, read as told, has this stated length
-  states : Told → List ℕ → StatedLength → Example
+  states : Told → List ℕ → Option ℕ → Example
   -- an HTTP/1.1 response, read as told, becomes these octets of Binary
   reply_becomes : Told → List ℕ → List ℕ → Example
   -- a Binary message, as told, becomes these octets of HTTP/1.1
@@ -94,42 +93,37 @@ Answers s a k p = (number_of (reading_of a).outcome ≡ k) × (place_of (length 
 
 -- content and trailers of an accepted message
 abbrev pub Counts : Outcome → ℕ → ℕ → Type 0
-Counts (outcome.Message r) c t = (r.content ≡ c) × (r.trailers ≡ t)
-Counts (outcome.Refusal k p) c t = ⊥
-Counts outcome.More c t = ⊥
+Counts (Ok r) c t = (r.content ≡ c) × (r.trailers ≡ t)
+Counts (Err e) c t = ⊥
 
 -- the stated length of an accepted message
-abbrev pub States : Outcome → StatedLength → Type 0
-States (outcome.Message r) x = r.stated ≡ x
-States (outcome.Refusal k p) x = ⊥
-States outcome.More x = ⊥
+abbrev pub States : Outcome → Option ℕ → Type 0
+States (Ok r) x = r.stated ≡ x
+States (Err e) x = ⊥
 
 -- an integer, whether its form is the shortest left out
-abbrev pub uncounted : Integer → Integer
-uncounted (Value v next l) = Value v next 0
-uncounted Cut = Cut
+abbrev pub uncounted : Option Integer → Option Integer
+uncounted (Some i) = Some (integer_of i.value i.next 0)
+uncounted None = None
 
 -- so many integers of an accepted message are not in their shortest form
 abbrev pub LongIn : Outcome → ℕ → Type 0
-LongIn (outcome.Message r) n = r.long ≡ n
-LongIn (outcome.Refusal k p) n = ⊥
-LongIn outcome.More n = ⊥
+LongIn (Ok r) n = r.long ≡ n
+LongIn (Err e) n = ⊥
 
 -- authority and path of an accepted message, and what is put before the path
 abbrev pub Aims : Outcome → Part → PathPrefix → Part → Type 0
-Aims (outcome.Message r) a x p = (r.authority ≡ a) × (r.prefix ≡ x) × (r.path ≡ p)
-Aims (outcome.Refusal k q) a x p = ⊥
-Aims outcome.More a x p = ⊥
+Aims (Ok r) a x p = (r.authority ≡ a) × (r.prefix ≡ x) × (r.path ≡ p)
+Aims (Err e) a x p = ⊥
 
 -- whether the sender of an accepted message means to close
 abbrev pub Closes : Outcome → Bool → Type 0
-Closes (outcome.Message r) b = r.closes ≡ b
-Closes (outcome.Refusal k p) b = ⊥
-Closes outcome.More b = ⊥
+Closes (Ok r) b = r.closes ≡ b
+Closes (Err e) b = ⊥
 
 -- what a row says of the definitions
 abbrev pub Holds : Example → Type 0
-Holds (integer s v) = uncounted (read_int 0 s) ≡ Value v (length s) 0
+Holds (integer s v) = uncounted (read_int 0 s) ≡ Some (integer_of v (length s) 0)
 Holds (http1 s k p) = Answers s (read_request http s) k p
 Holds (http1_reply t s k p) = Answers s (read_response t s) k p
 Holds (binary_reply t s k p) = Answers s (read_binary t s) k p
@@ -143,7 +137,7 @@ Holds (anew s b) = binary_to_binary http s ≡ writes b
 Holds (long s n) = length s ≡ n
 Holds (anew_as t s b) = binary_to_binary t s ≡ writes b
 Holds (turned_away t s k p) = binary_to_http1 t s ≡ refuses k p
-Holds (counted s v l) = read_int 0 s ≡ Value v (length s) l
+Holds (counted s v l) = read_int 0 s ≡ Some (integer_of v (length s) l)
 Holds (longs s n) = LongIn (reading_of (read_binary http s)).outcome n
 Holds (http1_as t s k p) = Answers s (read_request t s) k p
 Holds (aims s a x p) = Aims (reading_of (read_request http s)).outcome a x p

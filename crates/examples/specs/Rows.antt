@@ -1,19 +1,18 @@
 -- Worked rows beside P1 to P13: what those leave open, each on the fewest octets (01, "Numbers a call answers with", "How we write", "Examples"). No row
 -- rests on what an item of 02 changes. One statement, by computation; what a row of a list says is in `Examples`.
-use Rattle.std.specs.Prelude.{ℕ, ◌≡◌, List, [], ◌∷◌, ◌++◌, replicate}
-use Rattle.std.proofs.Math.Option.{none, some}
+use Rattle.std.specs.Prelude.{ℕ, ◌≡◌, List, [], ◌∷◌, ◌++◌, replicate, Ok, Err, Some, None}
 use Rattle.octets.specs.Ascii.{ascii}
 use Rattle.script.specs.Script.{refused}
 use Rattle.script.specs.Do.{piece}
 use Rattle.messages.specs.Told.{plain}
 use Rattle.messages.specs.Answers.{reading_of}
-use Rattle.messages.specs.declared.Outcome.{Outcome}
-use Rattle.messages.specs.declared.Outcome.TheVariants as outcome
+use Rattle.messages.specs.Answers.{Outcome}
+use Rattle.messages.specs.declared.Stop.{Stop}
+use Rattle.octets.specs.Refusals.{refused_at}
 use Rattle.messages.specs.declared.Part.{Part}
 use Rattle.messages.specs.declared.Ranges.{Ranges}
 use Rattle.http1_lines.specs.Read.{read_request}
 use Rattle.output.specs.Reply.{refuses, written_of, lent_after}
-use Rattle.output.specs.declared.Written.TheVariants.{Done, Refused}
 use Rattle.turn.specs.Turn.{request_to_binary, binary_to_http1}
 use Rattle.turn.specs.Question.{request_question}
 use Rattle.listing.specs.Listing.{listing_of}
@@ -206,11 +205,10 @@ part_of p = p.start ∷ p.len ∷ []
 
 -- the numbers of a record: scheme; method, authority and path; informational heads and status; header fields, chunks, octets of content, trailer fields; length
 abbrev pub record_in : Outcome → List ℕ
-record_in (outcome.Message r) =
+record_in (Ok r) =
     (r.scheme ∷ []) ++ part_of r.method ++ part_of r.authority ++ part_of r.path
     ++ r.informational ∷ r.status ∷ r.headers ∷ r.chunks ∷ r.content ∷ r.trailers ∷ r.length ∷ []
-record_in (outcome.Refusal k p) = []
-record_in outcome.More = []
+record_in (Err e) = []
 
 -- the ranges of that message: of each field its name and its value
 unfoldable pub ranged_ranges : Ranges
@@ -234,9 +232,9 @@ pub record Statement : Type 0 where
   pub no_scheme : read_request (plain 2) [] ≡ refused 4 0
   pub no_connection : binary_to_http1 (plain 2) [] ≡ refuses 4 0
   -- 13: 22 octets in a room of 21, of which none is altered; in one of 22; and in one of 23
-  pub small : written_of (request_to_binary http post_text) 21 ≡ Refused 13 0
+  pub small : written_of (request_to_binary http post_text) 21 ≡ Err (refused_at 13 0)
   pub unaltered : lent_after (request_to_binary http post_text) (replicate 21 7) ≡ replicate 21 7
-  pub enough : written_of (request_to_binary http post_text) 22 ≡ Done 22
+  pub enough : written_of (request_to_binary http post_text) 22 ≡ Ok 22
   pub behind : lent_after (request_to_binary http post_text) (replicate 23 7) ≡ post_binary ++ 7 ∷ []
   -- 14: a request of http on a connection of https
   pub other_scheme : binary_to_http1 (plain 1) post_binary ≡ refuses 14 0
@@ -246,9 +244,9 @@ pub record Statement : Type 0 where
   pub listed : listing_of (10 ∷ replicate 65535 0) ≡ title_text ++ ascii "end 0 2\n"
   pub unlisted : listing_of (10 ∷ replicate 65536 0) ≡ title_text ++ ascii "end 65536 8\n"
   -- a question by a name that stands in upper case on the wire; by another name; of a refused message
-  pub asked : request_question http (ascii "x") upper_text ≡ record { found = some (piece 25 (ascii "y")); number = 0; place = 0 }
-  pub missing : request_question http (ascii "z") upper_text ≡ record { found = none; number = 0; place = 0 }
-  pub asked_of_none : request_question http (ascii "x") (ascii "\n") ≡ record { found = none; number = 2; place = 0 }
+  pub asked : request_question http (ascii "x") upper_text ≡ Ok (Some (piece 25 (ascii "y")))
+  pub missing : request_question http (ascii "z") upper_text ≡ Ok None
+  pub asked_of_none : request_question http (ascii "x") (ascii "\n") ≡ Err (refused_at 2 0)
   -- record and ranges of one message
   pub numbers : record_in (reading_of (read_request http ranged_text)).outcome ≡ 0 ∷ 0 ∷ 1 ∷ 21 ∷ 1 ∷ 2 ∷ 2 ∷ 0 ∷ 0 ∷ 1 ∷ 2 ∷ 3 ∷ 1 ∷ 85 ∷ []
   pub ranges : (reading_of (read_request http ranged_text)).ranges ≡ ranged_ranges

@@ -1,11 +1,11 @@
 -- The records of entries: of entries one behind the other, of those that pass a test, and of one flock; while there are at most 256 of them no sum wraps.
-use Prim.Native.Nat.{ℕ, zero, suc, ◌+◌, ◌*◌, ◌-◌, ◌%◌, ◌≤◌, ◌<◌}
-use mathlib.Core.Path.{◌≡◌, refl, sym, ap, subst, ◌∙◌}
-use mathlib.Core.Bool.{Bool, true, false, not, cond}
+use Prim.Native.Nat.{ℕ, ◌+◌, ◌*◌, ◌-◌, ◌≤◌, ◌<◌}
+use mathlib.Core.Path.{◌≡◌, refl, sym, ap, ◌∙◌}
+use mathlib.Core.Bool.{Bool, true, false, cond}
 use mathlib.Core.List.{List, [], ◌∷◌, ◌++◌, append-nil}
 use native.Mathlib.Omega.{arith}
-use borrow.Author.Tests.{eq-eqb, ne_eqb, leb-true, eqb-true}
-use lib.Dec.{leb, eqb}
+use borrow.Author.Tests.{eq-eqb, ne_eqb, leb-true}
+use lib.Dec.{leb}
 use lib.ListN.{length, get_or, set, length-append}
 use Rattle.octets.specs.Limits.{binary_most}
 use Rattle.octets.proofs.Kit.{no_true}
@@ -13,7 +13,7 @@ use Rattle.sound.specs.Placed.{Each}
 use Rattle.bundle.specs.Bundle.{word_of, flock_of, is_flock, Entry, pick_if, is_of, of_flock}
 use Rattle.flock_table.specs.declared.Flock.{Flock}
 use Rattle.flock_table.specs.Table as spec
-use Rattle.flock_table.specs.Table.{picked, is_delivered, is_undelivered, message_octets, record_of, totals, table_of, none}
+use Rattle.flock_table.specs.Table.{picked, is_undelivered, message_octets, record_of, totals, table_of, none}
 use Rattle.flock_table.proofs.Tabulated.{tabulate-length, tabulate-at, tabulate-set}
 
 pub flock-least : (f : ℕ) → is_flock f ≡ true → (1 ≤ f) × (f ≤ 127)

@@ -1,11 +1,12 @@
 -- The table of flock records (02, item 6): beside a bundle, "one per flock, in a list lent by the caller: entries, message bytes and undelivered entries".
 -- What it says of a bundle, and the arithmetic on one record.
-use Rattle.std.specs.Prelude.{ℕ, ◌+◌, ◌-◌, ◌%◌, Bool, true, false, not, cond, List, [], ◌∷◌, eqb, length, get_or}
+use Rattle.std.specs.Prelude.{ℕ, ◌+◌, ◌-◌, ◌%◌, Bool, not, cond, List, [], ◌∷◌, eqb, length, get_or, Result, Ok, Err}
 use Rattle.octets.specs.Limits.{flocks_most}
-use Rattle.octets.specs.Refusals.{bad_entry, bad_table}
+use Rattle.octets.specs.Refusals.{refusal_number}
+use Rattle.octets.specs.declared.Refusal.{Refusal}
+use Rattle.octets.specs.declared.Refusal.TheVariants.{BadEntry, BadTable}
 use Rattle.bundle.specs.Bundle.{word_of, delivered_of, is_flock, Entry, pick_if, of_flock}
 use Rattle.flock_table.specs.declared.Flock.{Flock}
-use Rattle.flock_table.specs.declared.Slot.{Slot}
 use Rattle.flock_table.specs.declared.Totals.{Totals}
 use Rattle.flock_table.specs.Tabulate.{tabulate}
 
@@ -71,11 +72,8 @@ minus r s =
 -- ---- a flock's answer
 
 -- where a flock's record stands in a table of n records: "16 at 0 for a table that has not 127 records, before all else", then 15 for no flock
-unfoldable pub slot_of : ℕ → ℕ → Slot
-slot_of n f =
-    cond (eqb n flocks_most)
-    (cond (is_flock f) (record { go = true; index = f - 1; number = 0 }) (record { go = false; index = 0; number = bad_entry }))
-    (record { go = false; index = 0; number = bad_table })
+unfoldable pub slot_of : ℕ → ℕ → Result ℕ Refusal
+slot_of n f = cond (eqb n flocks_most) (cond (is_flock f) (Ok (f - 1)) (Err BadEntry)) (Err BadTable)
 
 -- the answer of a record
 abbrev pub totals_of : Flock → Totals
@@ -86,8 +84,9 @@ abbrev pub no_totals : ℕ → Totals
 no_totals k = record { number = k; place = 0; entries = 0; bytes = 0; undelivered = 0 }
 
 -- at a place in the table
-abbrev pub totals_at : Slot → List Flock → Totals
-totals_at s t = cond s.go (totals_of (get_or t s.index none)) (no_totals s.number)
+abbrev pub totals_at : Result ℕ Refusal → List Flock → Totals
+totals_at (Ok i) t = totals_of (get_or t i none)
+totals_at (Err r) t = no_totals (refusal_number r)
 
 -- "A flock's answer reads its one record"
 abbrev pub totals_answer : List Flock → ℕ → Totals

@@ -6,7 +6,7 @@ ghost use Rattle.octets.specs.Limits.{flocks_most};
 ghost use Rattle.flock_table.specs.Table as spec;
 
 use bundle::entry::is_flock;
-use octets::{Limits, Refusals};
+use octets::{Limits, Refusal};
 
 // The record of a flock: how many entries, octets of message and undelivered entries.
 #[repr(C)]
@@ -15,14 +15,6 @@ pub struct Flock {
     pub entries: u32,
     pub bytes: u32,
     pub undelivered: u32,
-}
-
-// Where a flock's record stands in a table, or the refusal's number.
-#[derive(Clone, Copy)]
-pub struct Slot {
-    pub go: bool,
-    pub index: usize,
-    pub number: u32,
 }
 
 // What a flock's answer is: 0 and its record, or a refusal's number and place.
@@ -36,28 +28,14 @@ pub struct Totals {
     pub undelivered: u32,
 }
 
-// More by so much, wrapping.
-fn sum(a: u32, b: u32) -> u32
-    ensures { result ≡ spec.sum a b }
-{
-    ((a as u64 + b as u64) % 4294967296) as u32
-}
-
-// Less by so much, wrapping.
-fn difference(a: u32, b: u32) -> u32
-    ensures { result ≡ spec.difference a b }
-{
-    ((a as u64 + (4294967296 - b as u64)) % 4294967296) as u32
-}
-
 // A record with another one added to it.
 pub fn plus(r: Flock, s: Flock) -> Flock
     ensures { result ≡ spec.plus r s }
 {
     Flock {
-        entries: sum(r.entries, s.entries),
-        bytes: sum(r.bytes, s.bytes),
-        undelivered: sum(r.undelivered, s.undelivered),
+        entries: r.entries.wrapping_add(s.entries),
+        bytes: r.bytes.wrapping_add(s.bytes),
+        undelivered: r.undelivered.wrapping_add(s.undelivered),
     }
 }
 
@@ -66,9 +44,9 @@ pub fn minus(r: Flock, s: Flock) -> Flock
     ensures { result ≡ spec.minus r s }
 {
     Flock {
-        entries: difference(r.entries, s.entries),
-        bytes: difference(r.bytes, s.bytes),
-        undelivered: difference(r.undelivered, s.undelivered),
+        entries: r.entries.wrapping_sub(s.entries),
+        bytes: r.bytes.wrapping_sub(s.bytes),
+        undelivered: r.undelivered.wrapping_sub(s.undelivered),
     }
 }
 
@@ -80,30 +58,16 @@ pub fn is_table(n: usize) -> bool
 }
 
 // Where a flock's record stands in a table of n records.
-pub fn slot_of(n: usize, flock: u32) -> Slot
+pub fn slot_of(n: usize, flock: u32) -> Result<usize, Refusal>
     ensures { result ≡ spec.slot_of n flock }
 {
-    if is_table(n) {
-        if is_flock(flock) {
-            return Slot {
-                go: true,
-                index: flock as usize - 1,
-                number: 0,
-            };
-        } else {
-            return Slot {
-                go: false,
-                index: 0,
-                number: Refusals::BAD_ENTRY,
-            };
-        }
-    } else {
-        return Slot {
-            go: false,
-            index: 0,
-            number: Refusals::BAD_TABLE,
-        };
+    if !is_table(n) {
+        return Err(Refusal::BadTable);
     }
+    if !is_flock(flock) {
+        return Err(Refusal::BadEntry);
+    }
+    Ok(flock as usize - 1)
 }
 
 // The answer of a record.

@@ -1,4 +1,5 @@
 -- What is written is judged good: lines made of good parts.
+use Rattle.std.proofs.Common.{is_ok, Some, Err, Ok, Result}
 use Prim.Native.Nat.{ℕ, suc, ◌+◌, ◌-◌, ◌<◌, ◌≤◌, min}
 use mathlib.Core.Path.{◌≡◌, refl, ap, ◌∙◌}
 use mathlib.Core.Bool.{Bool, true, false, cond}
@@ -18,17 +19,14 @@ use Rattle.numbers.specs.Digits.{digit_of, char_of, most, num_from, num_of, more
 use Rattle.numbers.specs.Places.{push}
 use Rattle.octets.proofs.Computed.{passes-below as below}
 use Rattle.numbers.proofs.DigitLaws.{digits-pass, hexadecimal-round}
-use Rattle.messages.specs.Control.{method_verdict, is_options, path_verdict, status_verdict, is_lower_name, is_trimmed_value}
+use Rattle.messages.specs.Control.{method_verdict, is_options, path_verdict, status_verdict, is_lower_name, is_trimmed_value, passed}
 use Rattle.messages.proofs.Verdicts.{method-rule, path-rule, status-rule, name-rule, value-rule}
-use Rattle.http1_lines.specs.declared.RequestLine.TheVariants as request
-use Rattle.http1_lines.specs.declared.StatusLine.{StatusLine}
-use Rattle.http1_lines.specs.declared.StatusLine.TheVariants as status
-use Rattle.http1_lines.specs.declared.FieldLine.TheVariants as field
-use Rattle.http1_lines.specs.declared.ChunkLine.TheVariants as chunk
-use Rattle.http1_lines.specs.Lines.{version, request_parts, request_version, request_target, request_lens, status_version, is_status_shape, status_lens}
+use Rattle.http1_lines.specs.Lines.{version, request_parts, request_version, request_target, request_lens, status_version, is_status_shape, status_lens, field_parts}
 use Rattle.http1_lines.specs.Lines.{value_from, value_in, name_to, field_lens, chunk_lens}
 use Rattle.http1_lines.specs.Target.{path_alone}
 use Rattle.http1_lines.proofs.RequestTargets.{target-back}
+use Rattle.octets.specs.declared.Refusal.{Refusal}
+use Rattle.http1_lines.specs.Lines.{with_target}
 
 blank-space : is_blank 32 ≡ true
 unfolding is_blank
@@ -44,7 +42,7 @@ module _ (n v : List ℕ) (hn : is_lower_name n ≡ true) (hv : is_trimmed_value
   unfolding line
   line-length = length-append n (58 ∷ 32 ∷ v) ∙ omega arith
 
-  value-back : (w : List ℕ) (a : ℕ) → w ≡ line → a ≡ length n + 1 → value_in w (length n) a ≡ field.Of (length n) (length n + 2) (length v)
+  value-back : (w : List ℕ) (a : ℕ) → w ≡ line → a ≡ length n + 1 → value_in w (length n) a ≡ Some (field_parts (length n) (length n + 2) (length v))
   unfolding value_in value_from line span_len all
   value-back w a ew ea =
       let r = value-rule v hv in
@@ -58,7 +56,7 @@ module _ (n v : List ℕ) (hn : is_lower_name n ≡ true) (hv : is_trimmed_value
       let l3 : length w - (length n + 2) ≡ length v = omega arith in
       rw (d1, s1, s2, eq-eqb _ _ l2, b, d2, l3, r.2)
 
-  pub field_back : field_lens (n ++ 58 ∷ 32 ∷ v) ≡ field.Of (length n) (length n + 2) (length v)
+  pub field_back : field_lens (n ++ 58 ∷ 32 ∷ v) ≡ Some (field_parts (length n) (length n + 2) (length v))
   unfolding field_lens name_to line
   field_back =
       let r = name-rule n hn in
@@ -73,7 +71,7 @@ other-class : (mask : ℕ) → has_class mask 32 ≡ false → (s : List ℕ) �
 unfolding is_other
 other-class mask f s h = all-implied (has_class mask) (is_other 32) (λ b g. rw (not_at (has_class mask) 32 b f g)) s h
 
-module _ (scheme : ℕ) (m p : List ℕ) (hm : method_verdict m ≡ 0) (hp : path_verdict (is_options m) p ≡ 0) where
+module _ (scheme : ℕ) (m p : List ℕ) (hm : method_verdict m ≡ passed) (hp : path_verdict (is_options m) p ≡ passed) where
   target : List ℕ
   target = p ++ ascii " HTTP/1.1"
 
@@ -84,14 +82,14 @@ module _ (scheme : ℕ) (m p : List ℕ) (hm : method_verdict m ≡ 0) (hp : pat
   unfolding target
   request-length = length-append m (32 ∷ (p ++ ascii " HTTP/1.1")) ∙ omega (arith, length-append p (ascii " HTTP/1.1"))
 
-  parts-back : (w : List ℕ) (k : ℕ) → w ≡ m ++ 32 ∷ target → k ≡ length p → request_parts scheme w (length m) k ≡ request.Of (length m) (path_alone (length p))
+  parts-back : (w : List ℕ) (k : ℕ) → w ≡ m ++ 32 ∷ target → k ≡ length p → request_parts scheme w (length m) k ≡ Ok (with_target (length m) (path_alone (length p)))
   unfolding request_parts target
   parts-back w k ew ek =
       let f1 : take (length m) w ≡ m = rw ew (take-append_seam m (32 ∷ target)) in
       let f2 : take (length p) (drop (length m + 1) w) ≡ p = rw (ew, behind-space) (take-append_seam p (ascii " HTTP/1.1")) in
       rw (f1, hm, ek, f2, target-back scheme (is_options m) p hp)
 
-  version-back : (w : List ℕ) (e : ℕ) → w ≡ m ++ 32 ∷ target → e ≡ length m + 1 + length p → request_version scheme w (length m) e ≡ request.Of (length m) (path_alone (length p))
+  version-back : (w : List ℕ) (e : ℕ) → w ≡ m ++ 32 ∷ target → e ≡ length m + 1 + length p → request_version scheme w (length m) e ≡ Ok (with_target (length m) (path_alone (length p)))
   unfolding request_version target is_other span_len
   version-back w e ew ee =
       let l : length w ≡ length m + 1 + length p + 9 = rw ew request-length in
@@ -101,7 +99,7 @@ module _ (scheme : ℕ) (m p : List ℕ) (hm : method_verdict m ≡ 0) (hp : pat
       let q : e + 1 + 8 ≡ length w = omega arith in
       rw (d, eq-eqb _ _ q, same_refl version) (parts-back w (e - (length m + 1)) ew (omega arith))
 
-  pub request-back : request_lens scheme (m ++ 32 ∷ (p ++ ascii " HTTP/1.1")) ≡ request.Of (length m) (path_alone (length p))
+  pub request-back : request_lens scheme (m ++ 32 ∷ (p ++ ascii " HTTP/1.1")) ≡ Ok (with_target (length m) (path_alone (length p)))
   unfolding request_lens request_target target
   request-back =
       let rm = method-rule m hm in
@@ -115,20 +113,20 @@ module _ (scheme : ℕ) (m p : List ℕ) (hm : method_verdict m ≡ 0) (hp : pat
 
 -- ---- status lines
 
-is_status : StatusLine → ℕ → Bool
-is_status (status.Of m) n = eqb m n
-is_status (status.Bad m) n = false
+is_status : Result ℕ Refusal → ℕ → Bool
+is_status (Ok m) n = eqb m n
+is_status (Err m) n = false
 
-is-status : (r : StatusLine) (n : ℕ) → is_status r n ≡ true → r ≡ status.Of n
+is-status : (r : Result ℕ Refusal) (n : ℕ) → is_status r n ≡ true → r ≡ Ok n
 unfolding is_status
-is-status (status.Of m) n e = ap status.Of (eqb-true m n e)
-is-status (status.Bad m) n e = let z : ◌≡◌ {A = ℕ} 0 1 = cc in absurd (omega arith)
+is-status (Ok m) n e = ap Ok (eqb-true m n e)
+is-status (Err m) n e = let z : ◌≡◌ {A = ℕ} 0 1 = cc in absurd (omega arith)
 
 -- at each status, by computation
 read_back : ℕ → Bool
-read_back n = cond (eqb (status_verdict n) 0) (is_status (status_lens (ascii "HTTP/1.1 " ++ digits 10 n ++ 32 ∷ [])) n) true
+read_back n = cond (is_ok (status_verdict n)) (is_status (status_lens (ascii "HTTP/1.1 " ++ digits 10 n ++ 32 ∷ [])) n) true
 
-pub status-back : (n : ℕ) → status_verdict n ≡ 0 → status_lens (ascii "HTTP/1.1 " ++ digits 10 n ++ 32 ∷ []) ≡ status.Of n
+pub status-back : (n : ℕ) → status_verdict n ≡ passed → status_lens (ascii "HTTP/1.1 " ++ digits 10 n ++ 32 ∷ []) ≡ Ok n
 unfolding read_back is_status status_lens is_status_shape status_version is_other span_len same_text all status_verdict digits push count_of more_of char_of digit_of
 status-back n h =
     let r = status-rule n h in
@@ -141,7 +139,7 @@ digits-other : (n : ℕ) → all (is_other 59) (digits 16 n) ≡ true
 unfolding is_other char_of
 digits-other n = digits-pass 16 (lit≤ tt) (lit≤ tt) (is_other 59) tt n
 
-pub chunk_back : (n : ℕ) → n ≤ content_most → chunk_lens (digits 16 n) ≡ chunk.Of n
+pub chunk_back : (n : ℕ) → n ≤ content_most → chunk_lens (digits 16 n) ≡ Some n
 unfolding chunk_lens all
 chunk_back n h =
     let w : List ℕ = digits 16 n in
@@ -150,6 +148,6 @@ chunk_back n h =
     let m : min n most ≡ n = omega arith in
     rw (s, take-length w, drop_of_length-le w l, hexadecimal-round n (omega arith), m)
 
-pub chunk_end : chunk_lens (ascii "0") ≡ chunk.Of 0
+pub chunk_end : chunk_lens (ascii "0") ≡ Some 0
 unfolding chunk_lens is_other span_len all num_of num_from digit_of
 chunk_end = refl

@@ -1,11 +1,11 @@
 -- The next line of a section, by what the code finds.
-use Prim.Native.Nat.{ℕ, zero, suc, ◌+◌, ◌-◌, ◌<◌, ◌≤◌}
-use mathlib.Core.Path.{◌≡◌, refl, sym, ap, ◌∙◌, subst}
-use mathlib.Core.Bool.{Bool, true, false, cond, not, ◌&&◌}
+use Prim.Native.Nat.{ℕ, suc, ◌+◌, ◌-◌, ◌≤◌, ◌<◌}
+use Rattle.std.proofs.Common.{Option}
+use mathlib.Core.Path.{◌≡◌, refl, sym, ap, ◌∙◌}
+use mathlib.Core.Bool.{Bool, true, false, cond, ◌&&◌}
 use mathlib.Core.List.{List, [], ◌∷◌, ◌++◌}
 use native.Mathlib.Omega.{arith}
 use borrow.Author.Tests.{eq-eqb, ne_eqb}
-use lib.Dec.{eqb}
 use lib.ListN.{length, get_or, take, drop, length-drop, length-append}
 use lib.Seq.{length-take-le, drop-drop, drop-cons}
 use lib.ListN.{take-append-drop}
@@ -21,7 +21,6 @@ use Rattle.script.proofs.Places.{line-within}
 use Rattle.http1_lines.specs.Lines.{field_lens}
 use Rattle.http1_lines.specs.Next.{of_field, line_judged, on_line, next_line}
 use Rattle.http1_lines.specs.declared.FieldLine.{FieldLine}
-use Rattle.http1_lines.specs.declared.FieldLine.TheVariants as field
 use Rattle.http1_lines.specs.declared.NextLine.{NextLine}
 use Rattle.http1_lines.specs.declared.NextLine.TheVariants as line
 
@@ -31,7 +30,7 @@ pub judged-empty : (w : List ℕ) (next : ℕ) → length w ≡ 0 → line.Empty
 unfolding line_judged is_empty
 judged-empty w next e = rw (eq-eqb _ _ e)
 
-pub judged-some : (w : List ℕ) (next : ℕ) {f : FieldLine} {r : NextLine} → (length w ≡ 0 → ⊥) → f ≡ field_lens w → r ≡ of_field next f → r ≡ line_judged w next
+pub judged-some : (w : List ℕ) (next : ℕ) {f : Option FieldLine} {r : NextLine} → (length w ≡ 0 → ⊥) → f ≡ field_lens w → r ≡ of_field next f → r ≡ line_judged w next
 unfolding line_judged is_empty
 judged-some w next e h q = rw (ne_eqb _ _ e, ← h) q
 

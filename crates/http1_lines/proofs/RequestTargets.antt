@@ -1,30 +1,30 @@
 -- The target of a request line: its judges by what the code finds, and what a good one is.
+use Rattle.std.proofs.Common.{Err, Ok, Result}
 use Prim.Native.Nat.{ℕ, ◌+◌, ◌-◌, ◌<◌, ◌≤◌, min}
 use mathlib.Core.Path.{◌≡◌, refl, sym, ap, ◌∙◌}
 use mathlib.Core.Bool.{Bool, true, false, cond}
 use mathlib.Core.Logic.{◌⊎◌, inl, inr}
 use mathlib.Core.List.{List, [], ◌∷◌, ◌++◌, map}
 use native.Mathlib.Omega.{arith}
-use borrow.Author.Tests.{eq-eqb, ne_eqb, le-leb, lt-leb, eqb-true, eqb-false, leb-true}
-use lib.Dec.{leb, eqb, lit≤}
+use borrow.Author.Tests.{eq-eqb, ne_eqb, le-leb, lt-leb, eqb-true, leb-true}
+use lib.Dec.{leb, eqb}
 use lib.ListN.{length, get_or, take, drop, length-drop, length-take, length-map}
 use lib.Seq.{get_or-drop, take-length}
 use Rattle.octets.specs.Ascii.{ascii}
 use Rattle.octets.specs.Class.{is_token, is_value, is_path, is_authority, class_of, has_class, path}
 use Rattle.octets.specs.Text.{span_len, all, lower_of, same_text, is_empty}
 use Rattle.octets.specs.Limits.{path_most}
-use Rattle.octets.specs.Refusals.{bad_syntax, bad_host, too_large, other_scheme}
 use Rattle.octets.proofs.Kit.{past, into, no_true}
-use Rattle.octets.proofs.Texts.{some, not-empty, same_length, same-eq, span-within, all_drop, all_both, part-all}
-use Rattle.messages.specs.Control.{is_options, asterisk_verdict, path_verdict, is_host}
+use Rattle.octets.proofs.Texts.{some, not-empty, same_length, same-eq, span-within, all_drop, part-all, span-step, span-end}
+use Rattle.messages.specs.Control.{asterisk_verdict, path_verdict, is_host, Verdict, passed}
 use Rattle.messages.specs.Message.{prefix_octets}
 use Rattle.messages.specs.declared.PathPrefix.{PathPrefix}
 use Rattle.messages.specs.declared.PathPrefix.TheVariants as prefix
-use Rattle.messages.proofs.Verdicts.{path-rule}
+use Rattle.messages.proofs.Verdicts.{path-rule, behind_good}
 use Rattle.http1_lines.specs.Target.{path_alone, plain_target, starts_with, scheme_len, scheme_number, is_before_path, prefix_of, absolute_path, absolute_target, target_of}
 use Rattle.http1_lines.specs.declared.Target.{Target}
-use Rattle.http1_lines.specs.declared.TargetRead.{TargetRead}
-use Rattle.http1_lines.specs.declared.TargetRead.TheVariants as target
+use Rattle.octets.specs.declared.Refusal.{Refusal}
+use Rattle.octets.specs.declared.Refusal.TheVariants as refusal
 
 -- ---- what the code finds
 
@@ -57,18 +57,16 @@ module _ (w : List ℕ) where
     unfolding scheme_len
     scheme-none t = let p : starts_with (ascii "http://") w ≡ false = sym e ∙ f in let q : starts_with (ascii "https://") w ≡ false = sym d ∙ t in rw (p, q)
 
-module _ (b : ℕ) where
-  pub slash-ends : b ≡ 47 → is_before_path b ≡ false
-  unfolding is_before_path
-  slash-ends e = rw (eq-eqb b 47 e)
+-- turns of the loop that looks for the end of an authority, from the place `from` on
+module _ (w : List ℕ) (from i : ℕ) (inv : from + span_len is_before_path (drop from w) ≡ i + span_len is_before_path (drop i w)) where
+  pub authority-here : i < length w → is_before_path (get_or w i 0) ≡ false → i ≡ from + span_len is_before_path (drop from w)
+  authority-here h e = sym (inv ∙ span-step is_before_path w i h ∙ rw e)
 
-  pub query-ends : (b ≡ 47 → ⊥) → b ≡ 63 → is_before_path b ≡ false
-  unfolding is_before_path
-  query-ends n e = rw (ne_eqb b 47 n, eq-eqb b 63 e)
+  pub authority-on : i < length w → is_before_path (get_or w i 0) ≡ true → from + span_len is_before_path (drop from w) ≡ i + 1 + span_len is_before_path (drop (i + 1) w)
+  authority-on h e = inv ∙ span-step is_before_path w i h ∙ rw e
 
-  pub before-path : (b ≡ 47 → ⊥) → (b ≡ 63 → ⊥) → is_before_path b ≡ true
-  unfolding is_before_path
-  before-path n e = rw (ne_eqb b 47 n, ne_eqb b 63 e)
+  pub authority-all : length w ≤ i → i ≡ from + span_len is_before_path (drop from w)
+  authority-all h = sym (inv ∙ span-end is_before_path w i h)
 
 module _ (options : Bool) (w : List ℕ) (e : ℕ) where
   module _ (h : e < length w) where
@@ -107,29 +105,29 @@ module _ (scheme : ℕ) (options : Bool) (w : List ℕ) (k e : ℕ) {p : PathPre
     fits : n + (length w - e) ≤ path_most
     fits = omega arith
 
-    pub absolute-good : k - 7 ≡ scheme → target.Of (record { prefix = p; start = e; len = length w - e; host = k; hostlen = e - k }) ≡ absolute_path scheme options w k e
+    pub absolute-good : k - 7 ≡ scheme → Ok (record { prefix = p; start = e; len = length w - e; host = k; hostlen = e - k }) ≡ absolute_path scheme options w k e
     unfolding absolute_path
     absolute-good s = rw (← q, ← l, le-leb _ _ fits, eq-eqb _ _ s)
 
-    pub absolute-scheme : (k - 7 ≡ scheme → ⊥) → target.Bad other_scheme ≡ absolute_path scheme options w k e
+    pub absolute-scheme : (k - 7 ≡ scheme → ⊥) → Err refusal.OtherScheme ≡ absolute_path scheme options w k e
     unfolding absolute_path
     absolute-scheme s = rw (← q, ← l, le-leb _ _ fits, ne_eqb _ _ s)
 
-  pub absolute-large : path_most - n < length w - e → n ≤ 1 → target.Bad too_large ≡ absolute_path scheme options w k e
+  pub absolute-large : path_most - n < length w - e → n ≤ 1 → Err refusal.TooLarge ≡ absolute_path scheme options w k e
   unfolding absolute_path
   absolute-large h f = let g : path_most < n + (length w - e) = omega arith in rw (← q, ← l, lt-leb _ _ g)
 
-module _ (options : Bool) (w : List ℕ) {x : ℕ} (e : x ≡ path_verdict options w) where
-  pub plain-good : {n : ℕ} → x ≡ 0 → n ≡ length w → target.Of (path_alone n) ≡ plain_target options w
+module _ (options : Bool) (w : List ℕ) {x : Verdict} (e : x ≡ path_verdict options w) where
+  pub plain-good : {u : Unit {0}} {n : ℕ} → x ≡ Ok u → n ≡ length w → Ok (path_alone n) ≡ plain_target options w
   unfolding plain_target
-  plain-good h l = rw (← e, eq-eqb _ _ h) (ap (λ (k : ℕ). target.Of (path_alone k)) l)
+  plain-good h l = rw (← e, h) (ap (λ (k : ℕ). Ok (path_alone k)) l)
 
-  pub plain-bad : (x ≡ 0 → ⊥) → target.Bad x ≡ plain_target options w
+  pub plain-bad : {r : Refusal} → x ≡ Err r → Err r ≡ plain_target options w
   unfolding plain_target
-  plain-bad h = rw (← e, ne_eqb _ _ h)
+  plain-bad h = rw (← e, h)
 
 module _ (scheme : ℕ) (options : Bool) (w : List ℕ) (k : ℕ) {a : Bool} (c : a ≡ all (has_class path) w) where
-  pub absolute-octets : a ≡ false → target.Bad bad_syntax ≡ absolute_target scheme options w k
+  pub absolute-octets : a ≡ false → Err refusal.BadSyntax ≡ absolute_target scheme options w k
   unfolding absolute_target
   absolute-octets h = rw (← c, h)
 
@@ -137,20 +135,20 @@ module _ (scheme : ℕ) (options : Bool) (w : List ℕ) (k : ℕ) {a : Bool} (c 
     authority-is : is_host (take (span_len is_before_path (drop k w)) (drop k w)) ≡ r
     authority-is = let f : e - k ≡ span_len is_before_path (drop k w) = omega arith in rw (← f) (sym i)
 
-    pub absolute-host : r ≡ false → target.Bad bad_host ≡ absolute_target scheme options w k
+    pub absolute-host : r ≡ false → Err refusal.BadHost ≡ absolute_target scheme options w k
     unfolding absolute_target
     absolute-host g = rw (← c, h, authority-is, g)
 
-    pub absolute-on : {z : TargetRead} → r ≡ true → z ≡ absolute_path scheme options w k e → z ≡ absolute_target scheme options w k
+    pub absolute-on : {z : Result Target Refusal} → r ≡ true → z ≡ absolute_path scheme options w k e → z ≡ absolute_target scheme options w k
     unfolding absolute_target
     absolute-on g y = rw (← c, h, authority-is, g) (rw q at y)
 
 module _ (scheme : ℕ) (options : Bool) (w : List ℕ) {k : ℕ} (e : k ≡ scheme_len w) where
-  pub target-plain : {z : TargetRead} → k ≡ 0 → z ≡ plain_target options w → z ≡ target_of scheme options w
+  pub target-plain : {z : Result Target Refusal} → k ≡ 0 → z ≡ plain_target options w → z ≡ target_of scheme options w
   unfolding target_of
   target-plain h y = rw (← e, eq-eqb _ _ h) y
 
-  pub target-absolute : {z : TargetRead} → (k ≡ 0 → ⊥) → z ≡ absolute_target scheme options w k → z ≡ target_of scheme options w
+  pub target-absolute : {z : Result Target Refusal} → (k ≡ 0 → ⊥) → z ≡ absolute_target scheme options w k → z ≡ target_of scheme options w
   unfolding target_of
   target-absolute h y = rw (← e, ne_eqb _ _ h) y
 
@@ -170,21 +168,21 @@ scheme-some w {k} e h = pick (starts_with (ascii "http://") w) (starts_with (asc
 pub record TargetView (options : Bool) (w : List ℕ) (x : Target) : Type 0 where
   pub some : 1 ≤ length w
   pub size : x.start + x.len ≡ length w
-  pub path : path_verdict options (prefix_octets x.prefix ++ take x.len (drop x.start w)) ≡ 0
+  pub path : path_verdict options (prefix_octets x.prefix ++ take x.len (drop x.start w)) ≡ passed
   pub within : x.host + x.hostlen ≤ length w
   pub host : (x.hostlen ≡ 0) ⊎ ((is_host (take x.hostlen (drop x.host w)) ≡ true) × (x.host + x.hostlen ≡ x.start))
 
-no_target : {n : ℕ} {x : Target} → target.Bad n ≡ target.Of x → ⊥
+no_target : {n : Refusal} {x : Target} → Err n ≡ Ok x → ⊥
 no_target e = let z : ◌≡◌ {A = ℕ} 0 1 = cc in omega arith
 
-of-target : (x y : Target) → target.Of x ≡ target.Of y → x ≡ y
+of-target : (x y : Target) → ◌≡◌ {A = Result Target Refusal} (Ok x) (Ok y) → x ≡ y
 of-target x y e = cc
 
-plain-view : (options : Bool) (w : List ℕ) (x : Target) → plain_target options w ≡ target.Of x → TargetView options w x
+plain-view : (options : Bool) (w : List ℕ) (x : Target) → plain_target options w ≡ Ok x → TargetView options w x
 unfolding plain_target
 plain-view options w x e =
-    let p = into no_target (eqb (path_verdict options w) 0) _ e in
-    let g : path_verdict options w ≡ 0 = eqb-true (path_verdict options w) 0 p.0 in
+    let p = behind_good (path_verdict options w) _ e in
+    let g : path_verdict options w ≡ passed = p.0 in
     let made : TargetView options w (path_alone (length w)) = record {
       some = (path-rule options w g).0;
       size = omega arith;
@@ -195,13 +193,13 @@ plain-view options w x e =
     rw (of-target (path_alone (length w)) x p.1) at made
 
 -- a path that begins with a slash
-slash-good : (options : Bool) (p : List ℕ) → 1 ≤ length p → get_or p 0 0 ≡ 47 → all (has_class path) p ≡ true → length p ≤ path_most → path_verdict options p ≡ 0
+slash-good : (options : Bool) (p : List ℕ) → 1 ≤ length p → get_or p 0 0 ≡ 47 → all (has_class path) p ≡ true → length p ≤ path_most → path_verdict options p ≡ passed
 unfolding path_verdict
 slash-good options p h f c l = rw (not-empty p h, eq-eqb _ _ f, c, le-leb _ _ l)
 
 -- with what is put before it, any path of an absolute target that is not too long is good
 prefixed-good : (options : Bool) (w : List ℕ) → all (has_class path) w ≡ true → length (prefix_octets (prefix_of options w)) + length w ≤ path_most
-    → path_verdict options (prefix_octets (prefix_of options w) ++ w) ≡ 0
+    → path_verdict options (prefix_octets (prefix_of options w) ++ w) ≡ passed
 unfolding prefix_of is_empty all is_token is_value is_path is_authority class_of has_class path_verdict asterisk_verdict same_text
 prefixed-good true [] c l = refl
 prefixed-good false [] c l = refl
@@ -211,7 +209,7 @@ prefixed-good options (b ∷ w) c l = rw (some_first) (pick (eqb b 47) refl (rw 
     some_first = ne_eqb (length (b ∷ w)) 0 (λ e. omega arith)
 
     pick : (t : Bool) → eqb b 47 ≡ t → length (prefix_octets (cond t prefix.Nothing prefix.Slash)) + length (b ∷ w) ≤ path_most
-        → path_verdict options (prefix_octets (cond t prefix.Nothing prefix.Slash) ++ b ∷ w) ≡ 0
+        → path_verdict options (prefix_octets (cond t prefix.Nothing prefix.Slash) ++ b ∷ w) ≡ passed
     pick true e h = slash-good options (b ∷ w) (omega arith) (eqb-true b 47 e) c (omega arith)
     pick false e h = slash-good options (47 ∷ b ∷ w) (omega arith) refl c (omega arith)
 
@@ -219,7 +217,7 @@ host-some : (a : List ℕ) → is_host a ≡ true → 1 ≤ length a
 unfolding is_host
 host-some a e = some a (past no_true (is_empty a) _ e).0
 
-absolute-view : (scheme : ℕ) (options : Bool) (w : List ℕ) (k : ℕ) (x : Target) → absolute_target scheme options w k ≡ target.Of x → TargetView options w x
+absolute-view : (scheme : ℕ) (options : Bool) (w : List ℕ) (k : ℕ) (x : Target) → absolute_target scheme options w k ≡ Ok x → TargetView options w x
 unfolding absolute_target absolute_path
 absolute-view scheme options w k x q =
     let a : ℕ = span_len is_before_path (drop k w) in
@@ -246,11 +244,11 @@ absolute-view scheme options w k x q =
     } in
     rw (of-target y x p4.1) at made
 
-pub target-view : (scheme : ℕ) (options : Bool) (w : List ℕ) (x : Target) → target_of scheme options w ≡ target.Of x → TargetView options w x
+pub target-view : (scheme : ℕ) (options : Bool) (w : List ℕ) (x : Target) → target_of scheme options w ≡ Ok x → TargetView options w x
 unfolding target_of
 target-view scheme options w x = pick (eqb (scheme_len w) 0)
   where
-    pick : (b : Bool) → cond b (plain_target options w) (absolute_target scheme options w (scheme_len w)) ≡ target.Of x → TargetView options w x
+    pick : (b : Bool) → cond b (plain_target options w) (absolute_target scheme options w (scheme_len w)) ≡ Ok x → TargetView options w x
     pick true e = plain-view options w x e
     pick false e = absolute-view scheme options w (scheme_len w) x e
 
@@ -266,6 +264,6 @@ no-scheme [] h f = absurd (omega arith)
 no-scheme (b ∷ s) h (inl f) = let g : b ≡ 47 = f in ap (λ (z : ℕ). scheme_len (z ∷ s)) g ∙ starts-slash s
 no-scheme (b ∷ s) h (inr f) = ap scheme_len f
 
-pub target-back : (scheme : ℕ) (options : Bool) (p : List ℕ) → path_verdict options p ≡ 0 → target_of scheme options p ≡ target.Of (path_alone (length p))
+pub target-back : (scheme : ℕ) (options : Bool) (p : List ℕ) → path_verdict options p ≡ passed → target_of scheme options p ≡ Ok (path_alone (length p))
 unfolding target_of plain_target
 target-back scheme options p e = let r = path-rule options p e in rw (no-scheme p r.0 r.1, e)

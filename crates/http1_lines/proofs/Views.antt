@@ -1,6 +1,7 @@
 -- What a line that is judged good is: its parts, their rules and their places.
+use Rattle.std.proofs.Common.{None, Some, Err, Ok, Result}
 use Prim.Native.Nat.{ℕ, ◌+◌, ◌-◌, ◌*◌, ◌<◌, ◌≤◌, min}
-use mathlib.Core.Path.{◌≡◌, refl, sym, ap, ◌∙◌}
+use mathlib.Core.Path.{◌≡◌, refl, sym, ap, ◌∙◌, subst}
 use mathlib.Core.Bool.{Bool, true, false, cond, not}
 use mathlib.Core.Logic.{◌⊎◌}
 use mathlib.Core.List.{List, [], ◌∷◌, ◌++◌, map}
@@ -10,32 +11,28 @@ use lib.Dec.{eqb, ltb, leb}
 use lib.ListN.{length, get_or, take, drop, length-drop}
 use lib.Seq.{drop-drop, take-take, split_at, length-take-le}
 use borrow.Author.Tests.{eqb-true, eqb-false, leb-false}
-use Rattle.octets.specs.Ascii.{ascii}
+use Rattle.std.proofs.Common.{Option}
 use Rattle.octets.specs.Class.{has_class, token, value, is_blank}
 use Rattle.octets.specs.Text.{span_len, all, is_other, lower_of, same_text, trim_back}
 use Rattle.octets.proofs.Kit.{past, into}
 pub use Rattle.octets.proofs.Texts.{drop-take}
 use Rattle.octets.proofs.Texts.{span-within, span-full, all-take-span, trim-within, same-eq}
 use Rattle.numbers.specs.Digits.{digit_of, most, num_from, num_of}
-use Rattle.numbers.specs.declared.Number.{Number}
-use Rattle.numbers.specs.declared.Number.TheVariants.{Is, Not}
 use Rattle.script.specs.Script.{Lies}
 use Rattle.script.proofs.Places.{lies-from}
-use Rattle.messages.specs.Control.{method_verdict, is_options, path_verdict, is_host, status_verdict, is_lower_name, is_trimmed_value}
-use Rattle.messages.proofs.Verdicts.{method-rule, name-made, value_made}
+use Rattle.messages.specs.Control.{method_verdict, is_options, path_verdict, is_host, status_verdict, is_lower_name, is_trimmed_value, passed}
+use Rattle.messages.proofs.Verdicts.{behind_good, method-rule, name-made, value_made}
 use Rattle.messages.specs.Message.{prefix_octets}
 use Rattle.http1_lines.specs.Target.{target_of}
+use Rattle.http1_lines.specs.declared.FieldLine.{FieldLine}
 use Rattle.http1_lines.specs.declared.Target.{Target}
-use Rattle.http1_lines.specs.declared.TargetRead.{TargetRead}
-use Rattle.http1_lines.specs.declared.TargetRead.TheVariants as target
-use Rattle.http1_lines.specs.declared.RequestLine.TheVariants as request
-use Rattle.http1_lines.specs.declared.StatusLine.TheVariants as status
-use Rattle.http1_lines.specs.declared.FieldLine.TheVariants as field
-use Rattle.http1_lines.specs.declared.ChunkLine.TheVariants as chunk
-use Rattle.http1_lines.specs.Lines.{version, on_target, request_parts, request_version, request_target, request_lens, status_at, status_version, is_status_shape, status_lens}
+use Rattle.http1_lines.specs.declared.RequestLine.{RequestLine}
+use Rattle.http1_lines.specs.Lines.{version, on_target, request_parts, request_version, request_target, request_lens, status_at, status_version, is_status_shape, status_lens, field_parts}
 use Rattle.http1_lines.specs.Lines.{value_from, value_in, name_to, field_lens, on_size, chunk_lens}
 use Rattle.http1_lines.proofs.Judges.{shape-long}
 use Rattle.http1_lines.proofs.RequestTargets.{target-view}
+use Rattle.octets.specs.declared.Refusal.{Refusal}
+use Rattle.http1_lines.specs.Lines.{with_target}
 
 -- a list around its element n
 around : (w : List ℕ) (n c : ℕ) → n < length w → get_or w n 0 ≡ c → w ≡ take n w ++ c ∷ drop (n + 1) w
@@ -57,10 +54,10 @@ pub record FieldView (w : List ℕ) (n b l : ℕ) : Type 0 where
   pub trim : is_trimmed_value (take l (drop b w)) ≡ true
   pub split : w ≡ take n w ++ 58 ∷ drop (n + 1) w
 
-no-field : {n b l : ℕ} → field.Bad ≡ field.Of n b l → ⊥
+no-field : {f : FieldLine} → None ≡ Some f → ⊥
 no-field e = let z : ◌≡◌ {A = ℕ} 0 1 = cc in omega arith
 
-pub field-view : (w : List ℕ) (n b l : ℕ) → field_lens w ≡ field.Of n b l → FieldView w n b l
+pub field-view : (w : List ℕ) (n b l : ℕ) → field_lens w ≡ Some (field_parts n b l) → FieldView w n b l
 unfolding field_lens name_to value_in value_from
 field-view w n b l e =
     let k : ℕ = span_len (has_class token) w in
@@ -72,10 +69,8 @@ field-view w n b l e =
     let p2 = past no-field (leb (length w) k) _ p1.1 in
     let p3 = into no-field (eqb (get_or w k 0) 58) _ p2.1 in
     let p4 = into no-field (eqb (k + 1 + span_len (has_class value) u) (length w)) _ p3.1 in
-    let q : field.Of k v z ≡ field.Of n b l = p4.1 in
-    let en : k ≡ n = cc in
-    let eb : v ≡ b = cc in
-    let el : z ≡ l = cc in
+    let q : Some (field_parts k v z) ≡ Some (field_parts n b l) = p4.1 in
+    let y : field_parts k v z ≡ field_parts n b l = cc in
     let l1 : (k ≡ 0 → ⊥) = eqb-false k 0 p1.0 in
     let l2 : k < length w = leb-false (length w) k p2.0 in
     let l3 : get_or w k 0 ≡ 58 = eqb-true (get_or w k 0) 58 p3.0 in
@@ -95,9 +90,9 @@ field-view w n b l e =
       trim = rw (f, g) at (value_made u (span-full (has_class value) u (omega arith)));
       split = around w k 58 l2 l3;
     } in
-    rw (el, eb, en) at made
+    subst (λ (f : FieldLine). FieldView w f.name f.value f.len) y made
 
-pub field-within : (w : List ℕ) (n b l : ℕ) → field_lens w ≡ field.Of n b l → (1 ≤ n) × (n < b) × (b + l ≤ length w)
+pub field-within : (w : List ℕ) (n b l : ℕ) → field_lens w ≡ Some (field_parts n b l) → (1 ≤ n) × (n < b) × (b + l ≤ length w)
 field-within w n b l e = let v = field-view w n b l e in (v.some, v.before, v.within)
 
 -- ---- request lines
@@ -111,20 +106,22 @@ pub record RequestView (w : List ℕ) (m : ℕ) (x : Target) : Type 0 where
   pub some : 1 ≤ m
   pub more : 1 ≤ x.start + x.len
   pub size : m + 1 + (x.start + x.len) + 9 ≡ length w
-  pub method : method_verdict (take m w) ≡ 0
-  pub path : path_verdict (is_options (take m w)) (prefix_octets x.prefix ++ take x.len (drop (m + 1 + x.start) w)) ≡ 0
+  pub method : method_verdict (take m w) ≡ passed
+  pub path : path_verdict (is_options (take m w)) (prefix_octets x.prefix ++ take x.len (drop (m + 1 + x.start) w)) ≡ passed
   pub within : m + 1 + (x.host + x.hostlen) + 9 ≤ length w
   pub host : (x.hostlen ≡ 0) ⊎ ((is_host (take x.hostlen (drop (m + 1 + x.host) w)) ≡ true) × (x.host + x.hostlen ≡ x.start))
 
-no-request : {n m : ℕ} {x : Target} → request.Bad n ≡ request.Of m x → ⊥
+no-request : {n : Refusal} {q : RequestLine} → Err n ≡ Ok q → ⊥
 no-request e = let z : ◌≡◌ {A = ℕ} 0 1 = cc in omega arith
 
 -- a request line that is good has a good target
-on-target : (k : ℕ) (y : TargetRead) (m : ℕ) (x : Target) → on_target k y ≡ request.Of m x → (k ≡ m) × (y ≡ target.Of x)
-on-target k (target.Of z) m x e = let a : k ≡ m = cc in let b : z ≡ x = cc in (a, ap target.Of b)
-on-target k (target.Bad n) m x e = absurd (no-request e)
+on-target : (k : ℕ) (y : Result Target Refusal) (m : ℕ) (x : Target) → on_target k y ≡ Ok (with_target m x) → (k ≡ m) × (y ≡ Ok x)
+on-target k (Ok z) m x e =
+    let y : with_target k z ≡ with_target m x = cc in
+    (ap (λ (q : RequestLine). q.method) y, ap (λ (q : RequestLine). Ok q.target) y)
+on-target k (Err n) m x e = absurd (no-request e)
 
-pub request-view : (scheme : ℕ) (w : List ℕ) (m : ℕ) (x : Target) → request_lens scheme w ≡ request.Of m x → RequestView w m x
+pub request-view : (scheme : ℕ) (w : List ℕ) (m : ℕ) (x : Target) → request_lens scheme w ≡ Ok (with_target m x) → RequestView w m x
 unfolding request_lens request_target request_version request_parts
 request-view scheme w m y e =
     let k : ℕ = span_len (is_other 32) w in
@@ -136,7 +133,7 @@ request-view scheme w m y e =
     let p2 = past no-request (leb (length w) v) _ p1.1 in
     let p3 = into no-request (eqb (v + 1 + span_len (is_other 32) (drop (v + 1) w)) (length w)) _ p2.1 in
     let p4 = into no-request (same_text (drop (v + 1) w) version) _ p3.1 in
-    let p5 = into no-request (eqb (method_verdict (take k w)) 0) _ p4.1 in
+    let p5 = behind_good (method_verdict (take k w)) _ p4.1 in
     let p6 = on-target k (target_of scheme (is_options (take k w)) (take x u)) m y p5.1 in
     let ex : x ≡ d = omega arith in
     let l1 : k < length w = leb-false (length w) k p1.0 in
@@ -147,7 +144,7 @@ request-view scheme w m y e =
     let l6 : length w ≡ v + 9 = let z = rw l5 at l4 in omega arith in
     let l7 : length (take k w) ≡ k = length-take-le k w (omega arith) in
     let l8 : length (take d u) ≡ d = length-take-le d u (omega arith) in
-    let g : method_verdict (take k w) ≡ 0 = eqb-true (method_verdict (take k w)) 0 p5.0 in
+    let g : method_verdict (take k w) ≡ passed = p5.0 in
     let r = method-rule (take k w) g in
     let t = target-view scheme (is_options (take k w)) (take x u) y p6.1 in
     let l9 : length (take x u) ≡ x = length-take-le x u (omega arith) in
@@ -171,26 +168,26 @@ pub record StatusView (w : List ℕ) (n : ℕ) : Type 0 where
   pub size : 13 ≤ length w
   pub front : take 8 w ≡ version
   pub number : n ≡ status_at w 9
-  pub good : status_verdict n ≡ 0
+  pub good : status_verdict n ≡ passed
 
-no-status : {m n : ℕ} → status.Bad m ≡ status.Of n → ⊥
+no-status : {r : Refusal} {n : ℕ} → Err r ≡ Ok n → ⊥
 no-status e = let z : ◌≡◌ {A = ℕ} 0 1 = cc in omega arith
 
-pub status-view : (w : List ℕ) (n : ℕ) → status_lens w ≡ status.Of n → StatusView w n
+pub status-view : (w : List ℕ) (n : ℕ) → status_lens w ≡ Ok n → StatusView w n
 unfolding status_lens status_version
 status-view w n e =
     let v : ℕ = span_len (is_other 32) w in
     let x : ℕ = status_at w (v + 1) in
     let p1 = into no-status (is_status_shape w v) _ e in
     let p2 = into no-status (same_text (take v w) version) _ p1.1 in
-    let p3 = into no-status (eqb (status_verdict x) 0) _ p2.1 in
-    let q : status.Of x ≡ status.Of n = p3.1 in
+    let p3 = behind_good (status_verdict x) _ p2.1 in
+    let q : ◌≡◌ {A = Result ℕ Refusal} (Ok x) (Ok n) = p3.1 in
     let en : x ≡ n = cc in
     let l1 : v + 5 ≤ length w = shape-long w v refl p1.0 in
     let l2 : take v w ≡ version = same-eq (take v w) version p2.0 in
     let l3 : length (take v w) ≡ v = length-take-le v w (omega arith) in
     let l4 : v ≡ 8 = let y = rw l2 at l3 in omega arith in
-    let g : status_verdict x ≡ 0 = eqb-true (status_verdict x) 0 p3.0 in
+    let g : status_verdict x ≡ passed = p3.0 in
     record {
       size = omega arith;
       front = rw l4 at l2;
@@ -200,26 +197,26 @@ status-view w n e =
 
 -- ---- chunk lines
 
-num-most : (base m : ℕ) (s : List ℕ) (n : ℕ) → num_from base m s ≡ Is n → n ≤ most
+num-most : (base m : ℕ) (s : List ℕ) (n : ℕ) → num_from base m s ≡ Some n → n ≤ most
 unfolding num_from
 num-most base m [] n e = let q : min m most ≡ n = cc in omega arith
 num-most base m (b ∷ s) n e = pick (ltb (digit_of b) base) (num-most base (m * base + digit_of b) s n) e
   where
-    pick : (t : Bool) → (num_from base (m * base + digit_of b) s ≡ Is n → n ≤ most) → cond t (num_from base (m * base + digit_of b) s) Not ≡ Is n → n ≤ most
+    pick : (t : Bool) → (num_from base (m * base + digit_of b) s ≡ Some n → n ≤ most) → cond t (num_from base (m * base + digit_of b) s) None ≡ Some n → n ≤ most
     pick true ih e = ih e
     pick false ih e = let z : ◌≡◌ {A = ℕ} 0 1 = cc in absurd (omega arith)
 
-number-most : (base : ℕ) (s : List ℕ) (n : ℕ) → num_of base s ≡ Is n → n ≤ most
+number-most : (base : ℕ) (s : List ℕ) (n : ℕ) → num_of base s ≡ Some n → n ≤ most
 unfolding num_of
 number-most base [] n e = let z : ◌≡◌ {A = ℕ} 0 1 = cc in absurd (omega arith)
 number-most base (b ∷ s) n e = num-most base 0 (b ∷ s) n e
 
-sized : (r : Number) (t : Bool) (n : ℕ) → on_size r t ≡ chunk.Of n → r ≡ Is n
-sized (Is m) true n e = let q : m ≡ n = cc in ap Is q
-sized (Is m) false n e = let z : ◌≡◌ {A = ℕ} 0 1 = cc in absurd (omega arith)
-sized Not t n e = let z : ◌≡◌ {A = ℕ} 0 1 = cc in absurd (omega arith)
+sized : (r : Option ℕ) (t : Bool) (n : ℕ) → on_size r t ≡ Some n → r ≡ Some n
+sized (Some m) true n e = let q : m ≡ n = cc in ap Some q
+sized (Some m) false n e = let z : ◌≡◌ {A = ℕ} 0 1 = cc in absurd (omega arith)
+sized None t n e = let z : ◌≡◌ {A = ℕ} 0 1 = cc in absurd (omega arith)
 
 -- a size is a number that was read, so sums with it do not wrap
-pub chunk-within : (w : List ℕ) (n : ℕ) → chunk_lens w ≡ chunk.Of n → n ≤ most
+pub chunk-within : (w : List ℕ) (n : ℕ) → chunk_lens w ≡ Some n → n ≤ most
 unfolding chunk_lens
 chunk-within w n e = number-most 16 (take (span_len (is_other 59) w) w) n (sized _ _ n e)

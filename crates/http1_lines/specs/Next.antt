@@ -1,25 +1,24 @@
 -- The next line of a section, read and judged at once: `line_of` (script/specs/Script), then `field_lens` (Lines; 01, "HTTP/1.1 as we take it": line endings,
 -- field lines).
-use Rattle.std.specs.Prelude.{ℕ, ◌+◌, ◌-◌, ◌≡◌, cond, List, take, drop}
+use Rattle.std.specs.Prelude.{ℕ, ◌+◌, ◌-◌, ◌≡◌, cond, List, take, drop, None, Option, Some}
 use Rattle.octets.specs.Text.{is_empty}
 use Rattle.script.specs.Script.{line_of}
 use Rattle.script.specs.declared.Line.{Line}
 use Rattle.script.specs.declared.Line.TheVariants.{Ends, Bad, Long, More}
 use Rattle.http1_lines.specs.Lines.{value_in, field_lens}
 use Rattle.http1_lines.specs.declared.FieldLine.{FieldLine}
-use Rattle.http1_lines.specs.declared.FieldLine.TheVariants as field
 use Rattle.http1_lines.specs.declared.NextLine.{NextLine}
 use Rattle.http1_lines.specs.declared.NextLine.TheVariants as line
 
 -- the name of a field line has n octets, and a colon stands behind it: the rest is the value's; or n is 0, and it is no field line
 pub record NameEnds (w : List ℕ) (n : ℕ) : Type 0 where
-  pub none : n ≡ 0 → field_lens w ≡ field.Bad
+  pub none : n ≡ 0 → field_lens w ≡ None
   pub some : (n ≡ 0 → ⊥) → field_lens w ≡ value_in w n (n + 1)
 
 -- a field line that ends at the place `next`, or a line that is none
-abbrev pub of_field : ℕ → FieldLine → NextLine
-of_field next (field.Of n v l) = line.Field n v l next
-of_field next field.Bad = line.NoField
+abbrev pub of_field : ℕ → Option FieldLine → NextLine
+of_field next (Some f) = line.Field f.name f.value f.len next
+of_field next None = line.NoField
 
 -- a line's octets without its CR LF, which end at the place `next`
 unfoldable pub line_judged : List ℕ → ℕ → NextLine

@@ -1,19 +1,18 @@
 -- The readers of HTTP/1.1, as scripts in 01's order of judgement (01, "HTTP/1.1 as we take it", "Sizes", "Numbers a call answers with").
-use Rattle.std.specs.Prelude.{ℕ, zero, suc, ◌+◌, ◌-◌, Bool, true, false, cond, not, ◌||◌, List, [], ◌∷◌, ◌++◌, ltb, leb, eqb, length, take, drop}
+use Rattle.std.specs.Prelude.{ℕ, zero, suc, ◌+◌, ◌-◌, cond, List, [], ◌∷◌, ◌++◌, ltb, leb, eqb, length, take, drop, Option}
 use Rattle.octets.specs.Text.{same_text, is_empty}
 use Rattle.octets.specs.Limits.{head_most, trailer_most, chunk_line_most, lines_most, chunks_most, content_most, informational_most}
 use Rattle.octets.specs.Refusals.{bad_syntax, not_supported, bad_length, too_large}
-use Rattle.script.specs.Script.{Answer, refused, Cutter, a_line, some_octets, Script, done, stop, need, run}
+use Rattle.script.specs.Script.{Answer, refused, Cutter, a_line, some_octets, Script, done, stop, run}
 use Rattle.script.specs.Do.{◌>>=◌, Piece, piece, word, tell, Judged, good, wrong}
 use Rattle.messages.specs.declared.Told.{Told}
-use Rattle.messages.specs.Message.{FieldRead, Section, InformationalRead, request_start, response_start, Message, plain_message, stating_message, non_empty}
+use Rattle.messages.specs.Message.{FieldRead, InformationalRead, request_start, response_start, Message, plain_message, stating_message, non_empty}
 use Rattle.messages.specs.Control.{is_informational}
 use Rattle.messages.specs.Names.{are_trailers}
 use Rattle.messages.specs.Rules.{target_authority, framing_of, request_body, nothing_stated, response_body, stated_in}
 use Rattle.messages.specs.declared.Body.{Body}
 use Rattle.messages.specs.declared.Body.TheVariants.{Sized, InChunks, UntilClosed}
 use Rattle.messages.specs.Told.{ending_of}
-use Rattle.messages.specs.declared.Ending.{Ending}
 use Rattle.messages.specs.Valid.{is_scheme}
 use Rattle.http1_lines.specs.Lines.{RequestRead, request_of, status_of, field_of, chunk_of}
 
@@ -149,7 +148,7 @@ after_informational_line next is n left = do
 -- a call of the reader of responses: what it is told, and where the stream ends
 pub record ResponseCall : Type 0 where
   pub told : Told
-  pub ending : Ending
+  pub ending : Option ℕ
 
 -- a call that is told t, on a stream of n octets
 abbrev pub response_call : Told → ℕ → ResponseCall

@@ -7,13 +7,13 @@ ghost use Rattle.numbers.specs.Digits.{digit_of};
 ghost use Rattle.http1_lines.specs.Next.{NameEnds, of_field, line_judged, next_line};
 ghost use Rattle.http1_lines.specs.Lines.{value_from, value_in, field_lens, chunk_lens};
 ghost use Rattle.http1_lines.specs.Lines.{status_at, status_version, is_status_shape, status_lens};
-ghost use Rattle.http1_lines.specs.Lines.{on_target, request_parts, request_version, request_lens};
+ghost use Rattle.http1_lines.specs.Lines.{request_parts, request_version, request_lens};
 
 use super::targets::request_target;
-use super::{ChunkLine, FieldLine, NextLine, RequestLine, StatusLine, TargetRead};
+use super::{FieldLine, NextLine, RequestLine};
 use messages::parts::{is_options, method_verdict, status_verdict};
-use numbers::{Number, digit, hexadecimal};
-use octets::{Class, Refusals, all_of, blank_end, equal, find, span, trim_len};
+use numbers::{digit, hexadecimal};
+use octets::{Class, Refusal, all_of, blank_end, equal, find, span, trim_len};
 use script::{Line, line_end};
 
 // Whether all octets from `from` on are those of a value, by the table that is lent.
@@ -27,14 +27,14 @@ fn is_value_from(t: &[u8; 256], w: &[u8], from: usize) -> bool
 }
 
 // The value of the field whose name has `name` octets, from `from` on.
-fn value_in(t: &[u8; 256], w: &[u8], name: usize, from: usize) -> FieldLine
+fn value_in(t: &[u8; 256], w: &[u8], name: usize, from: usize) -> Option<FieldLine>
     requires { from ≤ length w.now }
     ensures { t.now ≡ classes → result ≡ value_in w.now name from }
 {
     if span(t, w, from, Class::VALUE) == w.len() {
-        return trimmed(w, name, from);
+        return Some(trimmed(w, name, from));
     }
-    FieldLine::Bad
+    None
 }
 
 // The field whose name has `name` octets and whose value stands from `from` on, blanks around it.
@@ -44,10 +44,10 @@ fn trimmed(w: &[u8], name: usize, from: usize) -> FieldLine
 {
     let b = blank_end(w, from);
     let len = trim_len(&w[b..]);
-    FieldLine::Of {
-        name: name,
+    FieldLine {
+        name,
         value: b,
-        len: len,
+        len,
     }
 }
 
@@ -66,40 +66,40 @@ fn name_len(t: &[u8; 256], w: &[u8]) -> usize
 }
 
 // A field line whose octets are all those of a value.
-fn plain_line(t: &[u8; 256], w: &[u8]) -> FieldLine
+fn plain_line(t: &[u8; 256], w: &[u8]) -> Option<FieldLine>
     requires { all (has_in t.now value) w.now ≡ true }
     ensures { t.now ≡ classes → result ≡ field_lens w.now }
 {
     let n = name_len(t, w);
     if n == 0 {
-        return FieldLine::Bad;
+        return None;
     }
-    trimmed(w, n, n + 1)
+    Some(trimmed(w, n, n + 1))
 }
 
 // Any field line.
-pub fn field_line(t: &[u8; 256], w: &[u8]) -> FieldLine
+pub fn field_line(t: &[u8; 256], w: &[u8]) -> Option<FieldLine>
     ensures { t.now ≡ classes → result ≡ field_lens w.now }
 {
     let n = name_len(t, w);
     if n == 0 {
-        return FieldLine::Bad;
+        return None;
     }
     value_in(t, w, n, n + 1)
 }
 
 // A field line as the next one, which ends at `next`.
-fn of_field(line: FieldLine, next: usize) -> NextLine
+fn of_field(line: Option<FieldLine>, next: usize) -> NextLine
     ensures { result ≡ of_field next line }
 {
     match line {
-        FieldLine::Of { name, value, len } => NextLine::Field {
-            name,
-            value,
-            len,
+        Some(f) => NextLine::Field {
+            name: f.name,
+            value: f.value,
+            len: f.len,
             next,
         },
-        FieldLine::Bad => NextLine::NoField,
+        None => NextLine::NoField,
     }
 }
 
@@ -155,20 +155,21 @@ pub fn next_line(t: &[u8; 256], s: &[u8], i: usize, left: usize) -> NextLine
     any_line(t, s, i, left)
 }
 
-pub fn chunk_line(t: &[u8; 256], w: &[u8]) -> ChunkLine
+// The size of the chunk of a chunk line.
+pub fn chunk_line(t: &[u8; 256], w: &[u8]) -> Option<usize>
     ensures { t.now ≡ classes → result ≡ chunk_lens w.now }
 {
     let h = find(w, 0, b';');
     let size = hexadecimal(&w[..h]);
     match size {
-        Number::Is(n) => {
+        Some(n) => {
             if is_value_from(t, w, h + 1) {
-                return ChunkLine::Of { size: n };
+                return Some(n);
             } else {
-                return ChunkLine::Bad;
+                return None;
             }
         }
-        Number::Not => return ChunkLine::Bad,
+        None => return None,
     }
 }
 
@@ -190,21 +191,16 @@ fn status_at(w: &[u8], d: usize) -> usize
 }
 
 // The version and the status, around the first space at v.
-fn status_version(w: &[u8], v: usize) -> StatusLine
+fn status_version(w: &[u8], v: usize) -> Result<u32, Refusal>
     requires { v + 5 ≤ length w.now }
     ensures { result ≡ status_version w.now v }
 {
     if equal(&w[..v], b"HTTP/1.1") {
         let n = status_at(w, v + 1);
-        let verdict = status_verdict(n);
-        if verdict == 0 {
-            return StatusLine::Of { status: n as u32 };
-        }
-        return StatusLine::Bad { number: verdict };
+        status_verdict(n)?;
+        return Ok(n as u32);
     } else {
-        return StatusLine::Bad {
-            number: Refusals::BAD_VERSION,
-        };
+        return Err(Refusal::BadVersion);
     }
 }
 
@@ -231,50 +227,44 @@ fn is_status_shape(t: &[u8; 256], w: &[u8], v: usize) -> bool
     false
 }
 
-pub fn status_line(t: &[u8; 256], w: &[u8]) -> StatusLine
+pub fn status_line(t: &[u8; 256], w: &[u8]) -> Result<u32, Refusal>
     ensures { t.now ≡ classes → result ≡ status_lens w.now }
 {
     let v = find(w, 0, b' ');
     if is_status_shape(t, w, v) {
         return status_version(w, v);
     } else {
-        return StatusLine::Bad {
-            number: Refusals::BAD_SYNTAX,
-        };
-    }
-}
-
-// A good method of m octets with the target behind it.
-fn with_target(m: usize, target: TargetRead) -> RequestLine
-    ensures { result ≡ on_target m target }
-{
-    match target {
-        TargetRead::Of(x) => RequestLine::Of {
-            method: m,
-            target: x,
-        },
-        TargetRead::Bad { number } => RequestLine::Bad { number },
+        return Err(Refusal::BadSyntax);
     }
 }
 
 // Method and target, of so many octets.
-fn request_parts(t: &[u8; 256], scheme: u32, w: &[u8], m: usize, p: usize) -> RequestLine
+fn request_parts(
+    t: &[u8; 256],
+    scheme: u32,
+    w: &[u8],
+    m: usize,
+    p: usize,
+) -> Result<RequestLine, Refusal>
     requires { m + 1 + p ≤ length w.now }
     ensures { t.now ≡ classes → result ≡ request_parts scheme w.now m p }
 {
-    let verdict = method_verdict(t, &w[..m]);
-    if verdict == 0 {
-        let options = is_options(&w[..m]);
-        let a = m + 1;
-        let e = a + p;
-        let x = request_target(t, scheme, options, &w[a..e]);
-        return with_target(m, x);
-    }
-    RequestLine::Bad { number: verdict }
+    method_verdict(t, &w[..m])?;
+    let options = is_options(&w[..m]);
+    let a = m + 1;
+    let e = a + p;
+    let target = request_target(t, scheme, options, &w[a..e])?;
+    Ok(RequestLine { method: m, target })
 }
 
 // What stands behind the second space, at e; then method and target.
-fn request_version(t: &[u8; 256], scheme: u32, w: &[u8], m: usize, e: usize) -> RequestLine
+fn request_version(
+    t: &[u8; 256],
+    scheme: u32,
+    w: &[u8],
+    m: usize,
+    e: usize,
+) -> Result<RequestLine, Refusal>
     requires { (m < e) × (e < length w.now) }
     ensures { t.now ≡ classes → result ≡ request_version scheme w.now m e }
 {
@@ -283,31 +273,23 @@ fn request_version(t: &[u8; 256], scheme: u32, w: &[u8], m: usize, e: usize) -> 
         if equal(&w[v..], b"HTTP/1.1") {
             return request_parts(t, scheme, w, m, e - (m + 1));
         } else {
-            return RequestLine::Bad {
-                number: Refusals::BAD_VERSION,
-            };
+            return Err(Refusal::BadVersion);
         }
     }
-    RequestLine::Bad {
-        number: Refusals::BAD_SYNTAX,
-    }
+    Err(Refusal::BadSyntax)
 }
 
 // A request line on a connection of the scheme told.
-pub fn request_line(t: &[u8; 256], scheme: u32, w: &[u8]) -> RequestLine
+pub fn request_line(t: &[u8; 256], scheme: u32, w: &[u8]) -> Result<RequestLine, Refusal>
     ensures { t.now ≡ classes → result ≡ request_lens scheme w.now }
 {
     let m = find(w, 0, b' ');
     if w.len() <= m {
-        return RequestLine::Bad {
-            number: Refusals::BAD_SYNTAX,
-        };
+        return Err(Refusal::BadSyntax);
     }
     let e = find(w, m + 1, b' ');
     if w.len() <= e {
-        return RequestLine::Bad {
-            number: Refusals::BAD_SYNTAX,
-        };
+        return Err(Refusal::BadSyntax);
     }
     request_version(t, scheme, w, m, e)
 }

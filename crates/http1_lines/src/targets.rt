@@ -2,28 +2,25 @@
 ghost use Rattle.std.specs.Prelude.{◌≡◌, ◌+◌, ◌-◌, ◌≤◌, length, drop};
 ghost use Rattle.octets.specs.Table.{classes};
 ghost use Rattle.octets.specs.Text.{span_len};
-ghost use Rattle.http1_lines.specs.Target.{path_alone, plain_target, starts_with, scheme_len, is_before_path, prefix_of, absolute_path, absolute_target, target_of};
+ghost use Rattle.http1_lines.specs.Target.{plain_target, starts_with, scheme_len, is_before_path, prefix_of, absolute_path, absolute_target, target_of};
 
-use super::{Target, TargetRead};
+use super::Target;
 use messages::PathPrefix;
 use messages::parts::{is_host, path_verdict, prefix_len};
-use octets::{Class, Limits, Refusals, all_of, same};
+use octets::{Class, Limits, Refusal, all_of, same};
 
 // A target that is a path alone.
-fn plain_target(t: &[u8; 256], options: bool, w: &[u8]) -> TargetRead
+fn plain_target(t: &[u8; 256], options: bool, w: &[u8]) -> Result<Target, Refusal>
     ensures { t.now ≡ classes → result ≡ plain_target options w.now }
 {
-    let verdict = path_verdict(t, options, w);
-    if verdict == 0 {
-        return TargetRead::Of(Target {
-            prefix: PathPrefix::Nothing,
-            start: 0,
-            len: w.len(),
-            host: 0,
-            hostlen: 0,
-        });
-    }
-    TargetRead::Bad { number: verdict }
+    path_verdict(t, options, w)?;
+    Ok(Target {
+        prefix: PathPrefix::Nothing,
+        start: 0,
+        len: w.len(),
+        host: 0,
+        hostlen: 0,
+    })
 }
 
 // Whether a scheme with its "://" stands at the front.
@@ -50,22 +47,25 @@ fn scheme_len(w: &[u8]) -> usize
     0
 }
 
+// Whether an octet may stand between "://" and the path or the query: any but a slash and a question mark.
+#[tactic(auto, unfolding(crate::specs::Target::is_before_path))]
+fn is_before_path(b: u8) -> bool
+    ensures { result ≡ is_before_path b }
+{
+    b != b'/' && b != b'?'
+}
+
 // The place of the first slash or question mark from `from` on, or the end.
 fn authority_end(w: &[u8], from: usize) -> usize
     requires { from ≤ length w.now }
     ensures { (result ≡ from + span_len is_before_path (drop from w.now)) × (result ≤ length w.now) × (from ≤ result) }
 {
-    let mut i = from;
-    while i < w.len() {
-        if w[i] == b'/' {
+    for i in from..w.len() {
+        if !is_before_path(w[i]) {
             return i;
         }
-        if w[i] == b'?' {
-            return i;
-        }
-        i += 1;
     }
-    i
+    w.len()
 }
 
 // What is put before the path's own octets, which stand from e on.
@@ -86,7 +86,13 @@ fn prefix_of(options: bool, w: &[u8], e: usize) -> PathPrefix
 }
 
 // The path of an absolute target, and its scheme of k octets; the authority ends at e.
-fn absolute_path(scheme: u32, options: bool, w: &[u8], k: usize, e: usize) -> TargetRead
+fn absolute_path(
+    scheme: u32,
+    options: bool,
+    w: &[u8],
+    k: usize,
+    e: usize,
+) -> Result<Target, Refusal>
     requires { (7 ≤ k) × (k ≤ e) × (e ≤ length w.now) }
     ensures { result ≡ absolute_path scheme options w.now k e }
 {
@@ -94,7 +100,7 @@ fn absolute_path(scheme: u32, options: bool, w: &[u8], k: usize, e: usize) -> Ta
     let len = w.len() - e;
     if len <= Limits::PATH - prefix_len(prefix) {
         if k - 7 == scheme as usize {
-            return TargetRead::Of(Target {
+            return Ok(Target {
                 prefix,
                 start: e,
                 len,
@@ -102,17 +108,19 @@ fn absolute_path(scheme: u32, options: bool, w: &[u8], k: usize, e: usize) -> Ta
                 hostlen: e - k,
             });
         }
-        return TargetRead::Bad {
-            number: Refusals::OTHER_SCHEME,
-        };
+        return Err(Refusal::OtherScheme);
     }
-    TargetRead::Bad {
-        number: Refusals::TOO_LARGE,
-    }
+    Err(Refusal::TooLarge)
 }
 
 // An absolute target whose scheme takes k octets.
-fn absolute_target(t: &[u8; 256], scheme: u32, options: bool, w: &[u8], k: usize) -> TargetRead
+fn absolute_target(
+    t: &[u8; 256],
+    scheme: u32,
+    options: bool,
+    w: &[u8],
+    k: usize,
+) -> Result<Target, Refusal>
     requires { (7 ≤ k) × (k ≤ length w.now) }
     ensures { t.now ≡ classes → result ≡ absolute_target scheme options w.now k }
 {
@@ -121,18 +129,19 @@ fn absolute_target(t: &[u8; 256], scheme: u32, options: bool, w: &[u8], k: usize
         if is_host(t, &w[k..e]) {
             return absolute_path(scheme, options, w, k, e);
         } else {
-            return TargetRead::Bad {
-                number: Refusals::BAD_HOST,
-            };
+            return Err(Refusal::BadHost);
         }
     }
-    TargetRead::Bad {
-        number: Refusals::BAD_SYNTAX,
-    }
+    Err(Refusal::BadSyntax)
 }
 
 // A target on a connection of the scheme told; `options` says whether the method is OPTIONS.
-pub(crate) fn request_target(t: &[u8; 256], scheme: u32, options: bool, w: &[u8]) -> TargetRead
+pub(crate) fn request_target(
+    t: &[u8; 256],
+    scheme: u32,
+    options: bool,
+    w: &[u8],
+) -> Result<Target, Refusal>
     ensures { t.now ≡ classes → result ≡ target_of scheme options w.now }
 {
     let k = scheme_len(w);

@@ -1,3 +1,4 @@
+pub mod Stops
 pub mod Parts
 pub mod Line
 pub mod Turns

@@ -1,4 +1,5 @@
 -- A field line that was taken, as the code makes it, and what the next line of a section tells.
+use Rattle.std.proofs.Common.{None, Option, Some}
 use Prim.Native.Nat.{ℕ, ◌+◌, ◌-◌, ◌≤◌}
 use mathlib.Core.Path.{◌≡◌, refl, sym, ap, ◌∙◌}
 use mathlib.Core.List.{List, [], ◌∷◌, map}
@@ -19,10 +20,9 @@ use Rattle.messages.specs.declared.Notes.{Notes}
 use Rattle.messages.proofs.Noting.{noted_nothing}
 use Rattle.messages.specs.declared.Kind.{Kind}
 use Rattle.octets.specs.Refusals.{bad_syntax}
-use Rattle.http1_lines.specs.Lines.{field_lens, field_of}
+use Rattle.http1_lines.specs.Lines.{field_lens, field_of, field_parts}
 use Rattle.http1_lines.specs.Next.{of_field, line_judged, on_line, next_line}
 use Rattle.http1_lines.specs.declared.FieldLine.{FieldLine}
-use Rattle.http1_lines.specs.declared.FieldLine.TheVariants as field
 use Rattle.http1_lines.specs.declared.NextLine.{NextLine}
 use Rattle.http1_lines.specs.declared.NextLine.TheVariants as line
 use Rattle.http1_lines.proofs.Views.{field-within}
@@ -68,9 +68,9 @@ tag line.Bad = 3
 tag line.Long = 4
 tag line.More = 5
 
-tag-field : (next : ℕ) (f : FieldLine) → tag (of_field next f) ≤ 2
-tag-field next (field.Of n v l) = omega arith
-tag-field next field.Bad = omega arith
+tag-field : (next : ℕ) (f : Option FieldLine) → tag (of_field next f) ≤ 2
+tag-field next (Some f) = omega arith
+tag-field next None = omega arith
 
 tag-judged : (w : List ℕ) (next : ℕ) → tag (line_judged w next) ≤ 2
 unfolding line_judged
@@ -86,13 +86,13 @@ pub record EmptyLine (s : List ℕ) (i left next : ℕ) : Type 0 where
 
 pub record FieldAt (s : List ℕ) (i left n v l next : ℕ) : Type 0 where
   pub ends : line_of (drop i s) left i 0 ≡ Ends next
-  pub field : field_lens (take (next - 2 - i) (drop i s)) ≡ field.Of n v l
+  pub field : field_lens (take (next - 2 - i) (drop i s)) ≡ Some (field_parts n v l)
 
 pub record NoFieldAt (s : List ℕ) (i left : ℕ) : Type 0 where
   pub next : ℕ
   pub ends : line_of (drop i s) left i 0 ≡ Ends next
   pub some : length (take (next - 2 - i) (drop i s)) ≡ 0 → ⊥
-  pub bad : field_lens (take (next - 2 - i) (drop i s)) ≡ field.Bad
+  pub bad : field_lens (take (next - 2 - i) (drop i s)) ≡ None
 
 module _ (s : List ℕ) (i left : ℕ) where
   pub tells_more : next_line s i left ≡ line.More → line_of (drop i s) left i 0 ≡ More
@@ -129,9 +129,9 @@ module _ (s : List ℕ) (i left : ℕ) where
   unfolding next_line line_judged is_empty
   tells-empty next q = go (line_of (drop i s) left i 0) refl q
     where
-      in_field : (e : ℕ) (f : FieldLine) → of_field e f ≡ line.Empty next → ⊥
-      in_field e (field.Of n v l) q = omega (arith, ap tag q)
-      in_field e field.Bad q = omega (arith, ap tag q)
+      in_field : (e : ℕ) (f : Option FieldLine) → of_field e f ≡ line.Empty next → ⊥
+      in_field e (Some f) q = omega (arith, ap tag q)
+      in_field e None q = omega (arith, ap tag q)
 
       pick : (e : ℕ) (b : Bool) → eqb (length (take (e - 2 - i) (drop i s))) 0 ≡ b → line_of (drop i s) left i 0 ≡ Ends e
           → cond b (line.Empty e) (of_field e (field_lens (take (e - 2 - i) (drop i s)))) ≡ line.Empty next → EmptyLine s i left next
@@ -150,13 +150,16 @@ module _ (s : List ℕ) (i left : ℕ) where
   unfolding next_line line_judged
   tells-field n v l next q = go (line_of (drop i s) left i 0) refl q
     where
-      in_field : (e : ℕ) (f : FieldLine) → field_lens (take (e - 2 - i) (drop i s)) ≡ f → line_of (drop i s) left i 0 ≡ Ends e → of_field e f ≡ line.Field n v l next
+      in_field : (e : ℕ) (f : Option FieldLine) → field_lens (take (e - 2 - i) (drop i s)) ≡ f → line_of (drop i s) left i 0 ≡ Ends e → of_field e f ≡ line.Field n v l next
           → FieldAt s i left n v l next
-      in_field e (field.Of m w k) h p q =
+      in_field e (Some f) h p q =
           let z : e ≡ next = cc in
-          let y : field.Of m w k ≡ field.Of n v l = cc in
+          let a : f.name ≡ n = cc in
+          let b : f.value ≡ v = cc in
+          let c : f.len ≡ l = cc in
+          let y : Some f ≡ Some (field_parts n v l) = rw (← a, ← b, ← c) refl in
           rw (← z) (record { ends = p; field = h ∙ y })
-      in_field e field.Bad h p q = absurd (omega (arith, ap tag q))
+      in_field e None h p q = absurd (omega (arith, ap tag q))
 
       pick : (e : ℕ) (b : Bool) → line_of (drop i s) left i 0 ≡ Ends e
           → cond b (line.Empty e) (of_field e (field_lens (take (e - 2 - i) (drop i s)))) ≡ line.Field n v l next → FieldAt s i left n v l next
@@ -173,10 +176,10 @@ module _ (s : List ℕ) (i left : ℕ) where
   unfolding next_line line_judged is_empty
   tells_none q = go (line_of (drop i s) left i 0) refl q
     where
-      in_field : (e : ℕ) (f : FieldLine) → field_lens (take (e - 2 - i) (drop i s)) ≡ f → line_of (drop i s) left i 0 ≡ Ends e
+      in_field : (e : ℕ) (f : Option FieldLine) → field_lens (take (e - 2 - i) (drop i s)) ≡ f → line_of (drop i s) left i 0 ≡ Ends e
           → (length (take (e - 2 - i) (drop i s)) ≡ 0 → ⊥) → of_field e f ≡ line.NoField → NoFieldAt s i left
-      in_field e (field.Of m w k) h p x q = absurd (omega (arith, ap tag q))
-      in_field e field.Bad h p x q = record { next = e; ends = p; some = x; bad = h }
+      in_field e (Some f) h p x q = absurd (omega (arith, ap tag q))
+      in_field e None h p x q = record { next = e; ends = p; some = x; bad = h }
 
       pick : (e : ℕ) (b : Bool) → eqb (length (take (e - 2 - i) (drop i s))) 0 ≡ b → line_of (drop i s) left i 0 ≡ Ends e
           → cond b (line.Empty e) (of_field e (field_lens (take (e - 2 - i) (drop i s)))) ≡ line.NoField → NoFieldAt s i left
@@ -191,11 +194,11 @@ module _ (s : List ℕ) (i left : ℕ) where
 
 -- ---- the line as the definitions judge it
 
-pub field-bad : (w : List ℕ) (i : ℕ) → field_lens w ≡ field.Bad → field_of (piece i w) ≡ wrong bad_syntax i
+pub field-bad : (w : List ℕ) (i : ℕ) → field_lens w ≡ None → field_of (piece i w) ≡ wrong bad_syntax i
 unfolding field_of
 field-bad w i e = rw e refl
 
-module _ (s : List ℕ) (i e n v l : ℕ) (h : i ≤ e) (g : e ≤ length s) (q : field_lens (take (e - i) (drop i s)) ≡ field.Of n v l) where
+module _ (s : List ℕ) (i e n v l : ℕ) (h : i ≤ e) (g : e ≤ length s) (q : field_lens (take (e - i) (drop i s)) ≡ Some (field_parts n v l)) where
   -- where the name and the value end
   pub line-bounds : (1 ≤ n) × (n ≤ e - i) × (v + l ≤ e - i)
   line-bounds =

@@ -1,6 +1,7 @@
 -- What a section that was read says to its caller, by its outcome.
+use Rattle.std.proofs.Common.{None, Option, Some, Ok, Err}
 use Prim.Native.Nat.{ℕ, zero, suc, ◌+◌, ◌-◌, ◌≤◌}
-use mathlib.Core.Path.{◌≡◌, refl, ◌∙◌, subst}
+use mathlib.Core.Path.{◌≡◌, refl, sym, ap, ◌∙◌, subst}
 use mathlib.Core.List.{List, [], ◌∷◌, ◌++◌}
 use mathlib.Core.Bool.{Bool, true, false, cond}
 use native.Mathlib.Omega.{arith}
@@ -10,7 +11,7 @@ use lib.ListN.{length, take, drop, length-append, length-drop, replicate, length
 use lib.Seq.{length-take-le}
 use Rattle.octets.specs.Text.{is_empty}
 use Rattle.octets.specs.Limits.{lines_most}
-use Rattle.octets.specs.Refusals.{too_large}
+use Rattle.octets.specs.Refusals.{too_large, refused_at}
 use Rattle.script.specs.Script.{Answer, accepted, refused, more, Script, done, stop, run, Every}
 use Rattle.script.proofs.Places.{run_bind}
 use Rattle.script.specs.Do.{◌>>=◌, Piece, piece, word, tell, good}
@@ -19,17 +20,17 @@ use Rattle.script.proofs.Sound.{sound, says}
 use Rattle.messages.specs.Message.{FieldRead}
 use Rattle.messages.specs.Names.{kept_of}
 use Rattle.messages.specs.Notes.{notes_of}
-use Rattle.messages.specs.declared.Notes.{Notes}
+use Rattle.messages.specs.declared.Stop.{Stop}
 use Rattle.http1_lines.specs.Lines.{on_field, field_lens, field_of}
 use Rattle.http1_lines.specs.declared.FieldLine.{FieldLine}
-use Rattle.http1_lines.specs.declared.FieldLine.TheVariants as field
 use Rattle.http1_lines.specs.Read.{Lines, line_within, less, field_lines, section}
 use Rattle.http1_lines.proofs.Views.{field-within}
 use Rattle.sound.specs.Placed.{Each}
 use Rattle.sound.proofs.Each.{each_snoc, each_map}
 use Rattle.http1_parts.specs.Section.{Before, LinesStored, SectionSays, Sectioned}
 use Rattle.http1_parts.specs.declared.Section.{Section}
-use Rattle.http1_parts.specs.declared.Section.TheVariants.{Done, Refused, More}
+use Rattle.http1_parts.specs.Stops.{stopped}
+use Rattle.http1_parts.proofs.Stops.{stopped-as, and-stopped}
 
 -- ---- a section ends where its run does, its octets are taken off its allowance, and its values end before it
 
@@ -43,14 +44,17 @@ value_before : (l : Piece) (f : FieldRead) → field_of l ≡ good f → Before 
 unfolding field_of
 value_before l f e = go (field_lens l.text) refl e
   where
-    go : (x : FieldLine) → field_lens l.text ≡ x → on_field l x ≡ good f → Before (l.place + length l.text) f
-    go (field.Of n b k) q g =
+    go : (x : Option FieldLine) → field_lens l.text ≡ x → on_field l x ≡ good f → Before (l.place + length l.text) f
+    go (Some x) q g =
+        let n : ℕ = x.name in
+        let b : ℕ = x.value in
+        let k : ℕ = x.len in
         let v = field-within l.text n b k q in
         let r : FieldRead = record { name = piece l.place (take n l.text); value = piece (l.place + b) (take k (drop b l.text)); place = l.place } in
         let z : r ≡ f = cc in
         let m : length (take k (drop b l.text)) ≡ k = length-take-le k (drop b l.text) (omega (arith, v, length-drop b l.text)) in
         subst (Before (l.place + length l.text)) z (omega (arith, v, m))
-    go field.Bad q g = let z : ◌≡◌ {A = ℕ} 0 1 = cc in absurd (omega arith)
+    go None q g = let z : ◌≡◌ {A = ℕ} 0 1 = cc in absurd (omega arith)
 
 every-ended : (s : List ℕ) (f left at total : ℕ) (fs : List FieldRead) → at + left ≡ total → Each (Before at) fs → Every s (λ n h. Ended total n h) at (field_lines f left fs)
 unfolding field_lines is_empty
@@ -97,53 +101,47 @@ section-end left at s {n} {h} e =
 abbrev pub lines_with : List FieldRead → ℕ → ℕ → Lines
 lines_with fs end left = record { lines = fs; end = end; left = left }
 
-pub record SectionDone (x : Answer Lines) (headers host : Bool) (base : ℕ) (o o' : List ℕ) (end left count : ℕ) (notes : Notes) : Type 0 where
+pub record SectionDone (x : Answer Lines) (headers host : Bool) (base : ℕ) (o o' : List ℕ) (r : Section) : Type 0 where
   pub place : ℕ
   pub lines : List FieldRead
-  pub taken : x ≡ accepted place (lines_with lines end left)
-  pub counted : count ≡ base + length (kept_of headers host lines)
-  pub noted : notes ≡ notes_of true lines
+  pub taken : x ≡ accepted place (lines_with lines r.end r.left)
+  pub counted : r.kept ≡ base + length (kept_of headers host lines)
+  pub noted : r.notes ≡ notes_of true lines
   pub stored : LinesStored headers host base lines o o'
 
-module _ {x : Answer Lines} {headers host : Bool} {base : ℕ} {o o' : List ℕ} {r : Section} (h : Sectioned x headers host base o o' r) where
-  pub section-more : r ≡ More → x ≡ more
-  section-more e = go x h.says
+module _ {x : Answer Lines} {headers host : Bool} {base : ℕ} {o o' : List ℕ} where
+  pub section-stopped : {e : Stop} → Sectioned x headers host base o o' (Err e) → x ≡ stopped e
+  section-stopped {e} h = go x h.says
     where
-      go : (y : Answer Lines) → SectionSays y headers host base o o' r → y ≡ more
+      go : (y : Answer Lines) → SectionSays y headers host base o o' (Err e) → y ≡ stopped e
       go (accepted n l) q = let d = q.0 in cc
-      go (refused n p) q = let d = q.0 in cc
-      go more q = refl
+      go (refused n p) q = let d = q.0 in let z : Stop.Refused (refused_at n p) ≡ e = cc in stopped-as z
+      go more q = let d = q.0 in let z : Stop.More ≡ e = cc in stopped-as z
 
-  pub section-refused : {n p : ℕ} → r ≡ Refused n p → x ≡ refused n p
-  section-refused {n} {p} e = go x h.says
+  pub section-done : {r : Section} → Sectioned x headers host base o o' (Ok r) → SectionDone x headers host base o o' r
+  section-done {r} h = go x h.says
     where
-      go : (y : Answer Lines) → SectionSays y headers host base o o' r → y ≡ refused n p
-      go (accepted m l) q = let d = q.0 in cc
-      go (refused m k) q = let d = q.0 in cc
-      go more q = let d = q.0 in cc
-
-  pub section-done : {end left count : ℕ} {notes : Notes} → r ≡ Done end left count notes → SectionDone x headers host base o o' end left count notes
-  section-done {end} {left} {count} {notes} e = go x h.says
-    where
-      go : (y : Answer Lines) → SectionSays y headers host base o o' r → SectionDone y headers host base o o' end left count notes
+      go : (y : Answer Lines) → SectionSays y headers host base o o' (Ok r) → SectionDone y headers host base o o' r
       go (accepted m l) q =
           let d = q.0 in
-          let a : l.end ≡ end = cc in
-          let b : l.left ≡ left = cc in
-          let c : count ≡ base + length (kept_of headers host l.lines) = cc in
-          let n : notes ≡ notes_of true l.lines = cc in
-          record { place = m; lines = l.lines; taken = rw (a, b); counted = c; noted = n; stored = q.1 }
+          let w : Section = record { end = l.end; left = l.left; kept = base + length (kept_of headers host l.lines); notes = notes_of true l.lines } in
+          let z : w ≡ r = cc in
+          record {
+            place = m;
+            lines = l.lines;
+            taken = ap (λ (y : Section). accepted m (lines_with l.lines y.end y.left)) z;
+            counted = sym (ap (λ (y : Section). y.kept) z);
+            noted = sym (ap (λ (y : Section). y.notes) z);
+            stored = q.1;
+          }
       go (refused m k) q = let d = q.0 in let z : ◌≡◌ {A = ℕ} 0 1 = cc in absurd (omega arith)
       go more q = let d = q.0 in let z : ◌≡◌ {A = ℕ} 0 1 = cc in absurd (omega arith)
 
 -- ---- a section, and what goes on behind it
 
 module _ {A : Type 0} (left : ℕ) (f : Lines → Script A) (s : List ℕ) (i : ℕ) where
-  pub behind_more : run (section left) i (drop i s) ≡ more → run (section left >>= f) i (drop i s) ≡ more
-  behind_more e = run_bind (section left) f s i ∙ rw e refl
-
-  pub behind-refused : (k p : ℕ) → run (section left) i (drop i s) ≡ refused k p → run (section left >>= f) i (drop i s) ≡ refused k p
-  behind-refused k p e = run_bind (section left) f s i ∙ rw e refl
+  pub behind-stopped : (e : Stop) → run (section left) i (drop i s) ≡ stopped e → run (section left >>= f) i (drop i s) ≡ stopped e
+  behind-stopped e q = run_bind (section left) f s i ∙ rw q (and-stopped (λ (n : ℕ) (h : Lines). run (f h) n (drop n s)) e)
 
   pub behind-done : (n : ℕ) (h : Lines) → run (section left) i (drop i s) ≡ accepted n h → run (section left >>= f) i (drop i s) ≡ run (f h) n (drop n s)
   behind-done n h e = run_bind (section left) f s i ∙ rw e refl

@@ -1,4 +1,5 @@
 -- The lines of a section that were taken so far: counted, noted, and stored with the values of Connection lines beside them.
+use Rattle.std.proofs.Common.{Result, Ok}
 use Prim.Native.Nat.{ℕ, ◌+◌, ◌-◌, ◌*◌, ◌<◌, ◌≤◌}
 use mathlib.Core.Path.{◌≡◌, refl, sym, ap, ◌∙◌, subst}
 use mathlib.Core.Bool.{Bool, true, false, cond}
@@ -15,13 +16,14 @@ use Rattle.messages.specs.Notes.{is_noted, no_notes, note_of, note_line, notes_o
 use Rattle.messages.specs.declared.Kind.{Kind}
 use Rattle.messages.specs.declared.Kind.TheVariants as kind
 use Rattle.messages.specs.declared.Notes.{Notes}
+use Rattle.messages.specs.declared.Stop.{Stop}
 use Rattle.messages.proofs.Noting.{notes-none, notes-more, notes-connections}
 use Rattle.ranges.specs.Ranges.{StoredIf, AlteredFrom}
 use Rattle.ranges.specs.Connections.{connection_at, Gathered}
 use Rattle.ranges.proofs.Gathering.{gathered_none, gathered-more, gathered-unnoted, gathered-count, gathered-room, connection-room}
 use Rattle.http1_parts.specs.Section.{FieldRoom, SectionRoom, line_at, LineTaken}
 use Rattle.http1_parts.specs.declared.LineRead.{LineRead}
-use Rattle.http1_parts.specs.declared.Section.TheVariants.{Done}
+use Rattle.http1_parts.specs.declared.Section.{Section}
 use Rattle.http1_parts.proofs.Line.{note-taken, note-passed}
 
 -- the lines fs, taken behind the `base` fields of o, which is o' then: how many they are, how many fields there are with them, what is noted of them
@@ -102,6 +104,7 @@ module _ {host : Bool} {base : ℕ} {fs : List FieldRead} {o o₁ : List ℕ} {l
 
   -- ---- no line more
 
-  pub taken-all : {end left rest : ℕ} → left ≡ rest
-      → (Done end left count notes ≡ Done end rest (base + length (end_to_end host fs)) (notes_of true fs)) × Gathered host base fs o o₁
+  pub taken-all : {next left rest : ℕ} → left ≡ rest
+      → (◌≡◌ {A = Result Section Stop} (Ok (record { end = next; left = left; kept = count; notes = notes })) (Ok (record { end = next; left = rest; kept = base + length (end_to_end host fs); notes = notes_of true fs })))
+      × Gathered host base fs o o₁
   taken-all e = (rw (e, h.counted, h.noted), h.gathered)

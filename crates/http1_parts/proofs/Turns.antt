@@ -1,4 +1,5 @@
 -- One turn of the section loop, by what the next line is.
+use Rattle.std.proofs.Common.{Result}
 use Prim.Native.Nat.{ℕ, suc, ◌+◌, ◌-◌, ◌<◌, ◌≤◌}
 use mathlib.Core.Path.{◌≡◌, refl, sym, ◌∙◌, subst}
 use mathlib.Core.List.{List, [], ◌∷◌, ◌++◌}
@@ -17,14 +18,17 @@ use Rattle.script.specs.declared.Line.TheVariants.{Ends, Bad, Long, More}
 use Rattle.script.proofs.Laws.{run-done, run-stop}
 use Rattle.script.proofs.Places.{line-more, line-bad, line-long, line-ends, line-within}
 use Rattle.messages.specs.Message.{FieldRead}
+use Rattle.messages.specs.declared.Stop.{Stop}
 use Rattle.http1_lines.specs.Lines.{field_of}
 use Rattle.http1_lines.specs.Read.{Lines, field_lines}
 use Rattle.http1_parts.specs.Section.{no_field, line_at, SectionSays, Sectioned}
-use Rattle.http1_parts.proofs.Line.{EmptyLine, FieldAt, NoFieldAt, field-bad, field-good, line-bounds}
+use Rattle.http1_lines.specs.Next.{next_line}
+use Rattle.http1_lines.specs.declared.NextLine.TheVariants as line
+use Rattle.http1_parts.proofs.Line.{EmptyLine, FieldAt, NoFieldAt, tells-field, field-bad, field-good, line-bounds}
 use Rattle.http1_parts.specs.declared.Section.{Section}
 
 -- an answer that equals another promises the same
-pub sectioned-as : {x y : Answer Lines} {headers host : Bool} {k : ℕ} {o o' : List ℕ} {r : Section} → x ≡ y → SectionSays y headers host k o o' r
+pub sectioned-as : {x y : Answer Lines} {headers host : Bool} {k : ℕ} {o o' : List ℕ} {r : Result Section Stop} → x ≡ y → SectionSays y headers host k o o' r
     → Sectioned x headers host k o o' r
 sectioned-as {headers = headers} {host = host} {k = k} {o = o} {o' = o'} {r = r} e h =
     record { says = subst (λ (z : Answer Lines). SectionSays z headers host k o o' r) (sym e) h }
@@ -112,3 +116,8 @@ module _ (s : List ℕ) (i left f : ℕ) (fs : List FieldRead) (within : i ≤ l
     turn-taken g' rest z y g =
         let w = field-bounds in
         rw (← y) (turn-field s i left f fs next x.ends within not-empty g g' z (field-good s i (next - 2) n v l (omega (arith, w)) (omega (arith, w)) x.field))
+
+-- where a field line ends that the next line is told to be
+pub told-bounds : (s : List ℕ) (i left : ℕ) → i ≤ length s → {n v l next : ℕ} → next_line s i left ≡ line.Field n v l next
+    → (1 ≤ n) × (i + n ≤ next - 2) × (i + v + l ≤ next - 2) × (i + 2 ≤ next) × (next ≤ length s) × (next - i ≤ left)
+told-bounds s i left within e = field-bounds s i left 0 [] within (tells-field s i left _ _ _ _ e)

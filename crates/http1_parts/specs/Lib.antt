@@ -1,3 +1,4 @@
+pub mod Stops
 pub mod Section
 pub mod Content
 pub mod Chunk

@@ -1,7 +1,7 @@
 -- What the code that reads sections promises, in terms of the script `section` (http1_lines/specs/Read; 01, "HTTP/1.1 as we take it": field lines).
-use Rattle.std.specs.Prelude.{ℕ, ◌+◌, ◌*◌, ◌≤◌, ◌≡◌, Bool, true, false, cond, List, leb, length, take, drop}
+use Rattle.std.specs.Prelude.{ℕ, ◌+◌, ◌*◌, ◌≤◌, ◌≡◌, Bool, true, false, cond, List, leb, length, take, drop, Result, Ok, Err}
 use Rattle.octets.specs.Limits.{lines_most}
-use Rattle.octets.specs.Refusals.{bad_syntax, too_large}
+use Rattle.octets.specs.Refusals.{bad_syntax, too_large, refused_at}
 use Rattle.script.specs.Script.{Answer, accepted, refused, more}
 use Rattle.script.specs.Do.{piece}
 use Rattle.messages.specs.Message.{FieldRead}
@@ -9,12 +9,12 @@ use Rattle.messages.specs.Room.{section_room}
 use Rattle.messages.specs.Names.{line_kind, is_end_to_end, kept, kept_of}
 use Rattle.messages.specs.Notes.{notes_of}
 use Rattle.messages.specs.Answers.{field_numbers, fields_numbers}
+use Rattle.messages.specs.declared.Stop.{Stop}
 use Rattle.http1_lines.specs.Read.{Lines}
 use Rattle.ranges.specs.Ranges.{StoredIf, AlteredFrom, Stores}
 use Rattle.ranges.specs.Connections.{Gathered}
 use Rattle.http1_parts.specs.declared.LineRead.{LineRead}
 use Rattle.http1_parts.specs.declared.Section.{Section}
-use Rattle.http1_parts.specs.declared.Section.TheVariants.{Done, Refused, More}
 
 -- ---- the lent space: a field takes four numbers
 
@@ -52,13 +52,13 @@ LinesStored true host k fs o o' = Stores o (k * 4) (fields_numbers (kept host fs
 LinesStored false host k fs o o' = Gathered host k fs o o'
 
 -- a section, of headers or not, that was read behind the k entries of o
-abbrev pub SectionSays : Answer Lines → Bool → Bool → ℕ → List ℕ → List ℕ → Section → Type 0
+abbrev pub SectionSays : Answer Lines → Bool → Bool → ℕ → List ℕ → List ℕ → Result Section Stop → Type 0
 SectionSays (accepted n h) headers host k o o' r =
-    (r ≡ Done h.end h.left (k + length (kept_of headers host h.lines)) (notes_of true h.lines))
+    (r ≡ Ok (record { end = h.end; left = h.left; kept = k + length (kept_of headers host h.lines); notes = notes_of true h.lines }))
     × LinesStored headers host k h.lines o o'
-SectionSays (refused x p) headers host k o o' r = (r ≡ Refused x p) × AlteredFrom (k * 4) o o'
-SectionSays more headers host k o o' r = (r ≡ More) × AlteredFrom (k * 4) o o'
+SectionSays (refused x p) headers host k o o' r = (r ≡ Err (Stop.Refused (refused_at x p))) × AlteredFrom (k * 4) o o'
+SectionSays more headers host k o o' r = (r ≡ Err Stop.More) × AlteredFrom (k * 4) o o'
 
 -- the promise of a section that is read
-pub record Sectioned (x : Answer Lines) (headers host : Bool) (k : ℕ) (o o' : List ℕ) (r : Section) : Type 0 where
+pub record Sectioned (x : Answer Lines) (headers host : Bool) (k : ℕ) (o o' : List ℕ) (r : Result Section Stop) : Type 0 where
   pub says : SectionSays x headers host k o o' r

@@ -1,4 +1,5 @@
 -- A request's head and what stands behind it, put together.
+use Rattle.std.proofs.Common.{Err}
 use Prim.Native.Nat.{ℕ, ◌+◌, ◌-◌, ◌≤◌}
 use mathlib.Core.Path.{◌≡◌, refl, sym, ap, ap₂, ◌∙◌, subst}
 use mathlib.Core.List.{List, [], ◌++◌}
@@ -9,25 +10,26 @@ use lib.Seq.{length-take-le}
 use Rattle.octets.specs.Limits.{head_most}
 use Rattle.script.specs.Script.{Answer, accepted, refused, more, Says, run, Every}
 use Rattle.script.specs.Do.{◌>>=◌, tell}
-use Rattle.script.proofs.Sound.{says, sound, every_any}
+use Rattle.script.proofs.Sound.{sound, every_any}
 use Rattle.script.proofs.Do.{every_bind, every-tell, every-then}
 use Rattle.messages.specs.Message.{is_response, Message}
 use Rattle.messages.specs.Names.{kept}
 use Rattle.messages.specs.Answers.{fields_numbers, informational_lines, informational_in, part_at, part_of}
 use Rattle.messages.specs.Rules.{target_authority, framing_of, request_body}
 use Rattle.messages.specs.declared.Told.{Told}
-use Rattle.messages.specs.declared.Notes.{Notes}
-use Rattle.messages.specs.declared.Outcome.{Outcome}
-use Rattle.messages.specs.declared.Outcome.TheVariants as outcome
+use Rattle.messages.specs.Answers.{Outcome}
+use Rattle.messages.specs.declared.Stop.{Stop}
+use Rattle.http1_parts.specs.Stops.{stopped}
 use Rattle.http1_lines.specs.Lines.{RequestRead}
+use Rattle.http1_lines.specs.declared.RequestLine.{RequestLine}
 use Rattle.http1_lines.specs.Read.{Lines, section, content, after_head}
 use Rattle.sound.specs.Placed.{Each}
 use Rattle.ranges.specs.Ranges.{Stores, OutcomeSays, Outcomed}
 use Rattle.http1_parts.proofs.Outcomes.{lines_with, SectionDone, behind-done}
 use Rattle.http1_parts.specs.Section.{Before}
+use Rattle.http1_parts.specs.declared.Section.{Section}
 use Rattle.http1_reader.specs.Readers.{request_is, HeadFacts, RestSays, RestRead}
 use Rattle.http1_reader.proofs.Facts.{SectionFacts, section-facts}
-use Rattle.http1_lines.specs.declared.Target.{Target}
 
 -- an answer that equals another promises the same
 pub outcomed-as : {x y : Answer Message} {hs hs' cs cs' ts ts' : List ℕ} {r : Outcome} → x ≡ y → OutcomeSays y hs hs' cs cs' ts ts' r → Outcomed x hs hs' cs cs' ts ts' r
@@ -36,6 +38,11 @@ outcomed-as {hs = hs} {hs' = hs'} {cs = cs} {cs' = cs'} {ts = ts} {ts' = ts'} {r
 
 pub outcomed-is : {x y : Answer Message} {hs hs' cs cs' ts ts' : List ℕ} {r : Outcome} → x ≡ y → Outcomed y hs hs' cs cs' ts ts' r → Outcomed x hs hs' cs cs' ts ts' r
 outcomed-is e h = outcomed-as e h.says
+
+-- a reader that stops
+pub outcomed-stopped : {x : Answer Message} {hs hs' cs cs' ts ts' : List ℕ} (e : Stop) → x ≡ stopped e → Outcomed x hs hs' cs cs' ts ts' (Err e)
+outcomed-stopped (Stop.Refused e) q = outcomed-as q refl
+outcomed-stopped Stop.More q = outcomed-as q refl
 
 -- a message with the lines h of its one head
 pub record OfRequest (h : Lines) (m : Message) : Type 0 where
@@ -69,37 +76,37 @@ with-headers h (accepted n m) hs hs' cs cs' ts ts' r e u w = (w.0, rw (u.alone, 
 with-headers h (refused n p) hs hs' cs cs' ts ts' r e u w = w
 with-headers h more hs hs' cs cs' ts ts' r e u w = w
 
-module _ (s : List ℕ) (m : ℕ) (x : Target) (next : ℕ) (g : next ≤ length s) (k : m + 1 + (x.start + x.len) + 11 ≡ next)
-    (i : m + 1 + (x.host + x.hostlen) + 2 ≤ next) (b : next ≤ head_most) where
+module _ (s : List ℕ) (l : RequestLine) (next : ℕ) (g : next ≤ length s) (k : l.method + 1 + (l.target.start + l.target.len) + 11 ≡ next)
+    (i : l.method + 1 + (l.target.host + l.target.hostlen) + 2 ≤ next) (b : next ≤ head_most) where
   line-long : length (take (next - 2) s) ≡ next - 2
   line-long = length-take-le (next - 2) s (omega (arith, g))
 
-  method-is : part_of (request_is s next m x).method ≡ part_at 0 m
-  method-is = ap (part_at 0) (length-take-le m (take (next - 2) s) (omega (arith, line-long, k)))
+  method-is : part_of (request_is s next l).method ≡ part_at 0 l.method
+  method-is = ap (part_at 0) (length-take-le l.method (take (next - 2) s) (omega (arith, line-long, k)))
 
-  path-is : part_of (request_is s next m x).path.own ≡ part_at (m + 1 + x.start) x.len
+  path-is : part_of (request_is s next l).path.own ≡ part_at (l.method + 1 + l.target.start) l.target.len
   path-is =
-      let z : 0 + (m + 1 + x.start) ≡ m + 1 + x.start = omega arith in
-      let l = length-take-le x.len (drop (m + 1 + x.start) (take (next - 2) s)) (omega (arith, line-long, k, length-drop (m + 1 + x.start) (take (next - 2) s))) in
-      ap₂ part_at z l
+      let z : 0 + (l.method + 1 + l.target.start) ≡ l.method + 1 + l.target.start = omega arith in
+      let n = length-take-le l.target.len (drop (l.method + 1 + l.target.start) (take (next - 2) s)) (omega (arith, line-long, k, length-drop (l.method + 1 + l.target.start) (take (next - 2) s))) in
+      ap₂ part_at z n
 
-  named : m + 1 + (x.host + x.hostlen) + 2 ≤ next → length (request_is s next m x).authority.text ≡ x.hostlen
-  named h = length-take-le x.hostlen (drop (m + 1 + x.host) (take (next - 2) s)) (omega (arith, line-long, h, length-drop (m + 1 + x.host) (take (next - 2) s)))
+  named : l.method + 1 + (l.target.host + l.target.hostlen) + 2 ≤ next → length (request_is s next l).authority.text ≡ l.target.hostlen
+  named h = length-take-le l.target.hostlen (drop (l.method + 1 + l.target.host) (take (next - 2) s)) (omega (arith, line-long, h, length-drop (l.method + 1 + l.target.host) (take (next - 2) s)))
 
-  module _ {hs hs' : List ℕ} {e l c : ℕ} {n : Notes} (d : SectionDone (run (section (head_most - next)) next (drop next s)) true false 0 hs hs' e l c n) where
+  module _ {hs hs' : List ℕ} {r : Section} (d : SectionDone (run (section (head_most - next)) next (drop next s)) true false 0 hs hs' r) where
     abbrev pub head-lines : Lines
-    head-lines = lines_with d.lines e l
+    head-lines = lines_with d.lines r.end r.left
 
     facts : SectionFacts s next (next + (head_most - next)) d.place head-lines
     facts = section-facts s next (head_most - next) d.place head-lines g d.taken
 
-    place_is : d.place ≡ e
+    place_is : d.place ≡ r.end
     place_is = sym facts.ended.end
 
-    pub head-within : (e ≤ length s) × (e ≤ head_most)
+    pub head-within : (r.end ≤ length s) × (r.end ≤ head_most)
     head-within = (omega (arith, place_is, facts.within), omega (arith, place_is, facts.ended.left, b))
 
-    pub head-facts : HeadFacts s (request_is s next m x) head-lines m x e c n
+    pub head-facts : HeadFacts s (request_is s next l) head-lines l r
     head-facts =
         record {
           method = method-is;
@@ -115,11 +122,11 @@ module _ (s : List ℕ) (m : ℕ) (x : Target) (next : ℕ) (g : next ≤ length
           before = subst (λ (x : ℕ). Each (Before x) d.lines) place_is facts.ended.before;
         }
 
-    pub head_done : (t : Told) (cs cs' ts ts' : List ℕ) (r : Outcome) → RestRead s t m x e c n cs cs' ts ts' r
-        → Outcomed (run (section (head_most - next) >>= after_head t (request_is s next m x)) next (drop next s)) hs hs' cs cs' ts ts' r
-    head_done t cs cs' ts ts' r w =
-        let q = request_is s next m x in
+    pub head_done : (t : Told) (cs cs' ts ts' : List ℕ) (o : Outcome) → RestRead s t l r cs cs' ts ts' o
+        → Outcomed (run (section (head_most - next) >>= after_head t (request_is s next l)) next (drop next s)) hs hs' cs cs' ts ts' o
+    head_done t cs cs' ts ts' o w =
+        let q = request_is s next l in
         let f = behind-done (head_most - next) (after_head t q) s next d.place head-lines d.taken in
         let z = ap (λ (x : ℕ). run (after_head t q head-lines) x (drop x s)) place_is in
         outcomed-as (f ∙ z)
-        (with-headers head-lines (run (after_head t q head-lines) e (drop e s)) hs hs' cs cs' ts ts' r d.stored (rest_of s t q head-lines e head-within.0) (w.by q head-lines head-facts))
+        (with-headers head-lines (run (after_head t q head-lines) r.end (drop r.end s)) hs hs' cs cs' ts ts' o d.stored (rest_of s t q head-lines r.end head-within.0) (w.by q head-lines head-facts))

@@ -1,4 +1,5 @@
 -- The heads of a response one after another, as the code reads them.
+use Rattle.std.proofs.Common.{Ok, Err}
 use Prim.Native.Nat.{ℕ, suc, ◌+◌, ◌-◌, ◌*◌, ◌<◌, ◌≤◌}
 use mathlib.Core.Path.{◌≡◌, refl, ap, ◌∙◌, subst}
 use mathlib.Core.List.{List, [], ◌∷◌, ◌++◌}
@@ -13,6 +14,7 @@ use Rattle.messages.specs.Message.{InformationalRead}
 use Rattle.messages.specs.Names.{kept}
 use Rattle.messages.specs.Answers.{fields_numbers, informational_numbers, informational_lines}
 use Rattle.messages.specs.declared.Notes.{Notes}
+use Rattle.messages.specs.declared.Stop.{Stop}
 use Rattle.messages.proofs.Noting.{kept-few}
 use Rattle.http1_lines.specs.Read.{Lines, informational_read, BehindHeads, next_head, heads_then}
 use Rattle.ranges.proofs.Storing.{altered-none, stores-none}
@@ -20,7 +22,6 @@ use Rattle.ranges.proofs.HeadsStored.{lines_snoc, fields-more, numbers_more}
 use Rattle.http1_reader.specs.Responses.{Onward, HeadStored, HeadSays, Headed, response_run, HeadsTaken}
 use Rattle.http1_reader.specs.declared.HeadRead.{HeadRead}
 use Rattle.http1_reader.specs.declared.HeadRead.TheVariants as head
-use Rattle.http1_reader.specs.declared.HeadsRead.TheVariants as heads-read
 
 -- what was read of s up to the place i: informational heads whose fields are stored in hs and whose numbers are stored in ns
 pub record HeadsTo (s hs₀ hs ns₀ ns : List ℕ) (i left count base : ℕ) : Type 0 where
@@ -51,12 +52,7 @@ heads-start s hs ns =
       turn = λ v. refl;
     }
 
-module _ {s hs₀ hs hs' ns₀ ns : List ℕ} {i left count base : ℕ} (to : HeadsTo s hs₀ hs ns₀ ns i left count base) {r : HeadRead}
-    (w : Headed (SoManyHeads count) (λ is u v. run (next_head u v is left) i (drop i s)) s base hs hs' r) where
-  says : (r' : HeadRead) → r ≡ r' → HeadSays (λ u v. run (next_head u v to.read left) i (drop i s)) to.read s base hs hs' r'
-  says r' e =
-      subst (λ (z : HeadRead). HeadSays (λ u v. run (next_head u v to.read left) i (drop i s)) to.read s base hs hs' z) e (w.by to.read to.counted)
-
+module _ {s hs₀ hs ns₀ ns : List ℕ} {i left count base : ℕ} (to : HeadsTo s hs₀ hs ns₀ ns i left count base) where
   -- what reads on behind an informational head: the heads that may still come
   abbrev onward : BehindHeads → Onward
   onward v = heads_then v (informational_most - count)
@@ -65,59 +61,63 @@ module _ {s hs₀ hs hs' ns₀ ns : List ℕ} {i left count base : ℕ} (to : He
   unfolding heads_then
   turns v = to.turn v
 
-  pub heads-more : (ns' : List ℕ) → r ≡ head.More → HeadsTaken (response_run s) s hs₀ hs' ns₀ ns' heads-read.More
-  heads-more ns' e = record { says = λ v. turns v ∙ says head.More e (onward v) v }
-
-  pub heads-refused : (ns' : List ℕ) (k p : ℕ) → r ≡ head.Refused k p → HeadsTaken (response_run s) s hs₀ hs' ns₀ ns' (heads-read.Refused k p)
-  heads-refused ns' k p e = record { says = λ v. turns v ∙ says (head.Refused k p) e (onward v) v }
+  pub heads-stopped : {e : Stop} {hs' ns' : List ℕ} → Headed (SoManyHeads count) (λ is u v. run (next_head u v is left) i (drop i s)) s base hs hs' (Err e)
+      → HeadsTaken (response_run s) s hs₀ hs' ns₀ ns' (Err e)
+  heads-stopped w = record { says = λ v. turns v ∙ w.by to.read to.counted (onward v) v }
 
   -- the fields of one head more
-  stored_more : {e k : ℕ} {h : Lines} → HeadStored s base hs hs' e k h → Stores hs₀ 0 (fields_numbers (informational_lines to.read ++ kept true h.lines)) hs'
+  stored_more : {e k : ℕ} {h : Lines} {hs' : List ℕ} → HeadStored s base hs hs' e k h → Stores hs₀ 0 (fields_numbers (informational_lines to.read ++ kept true h.lines)) hs'
   stored_more {h = h} q = fields-more (informational_lines to.read) (kept true h.lines) to.fields to.stored q.stored
 
-  module _ (n e k : ℕ) where
-    pub heads-final : (notes : Notes) → r ≡ head.Final n e k notes → HeadsTaken (response_run s) s hs₀ hs' ns₀ ns (heads-read.Done n e count (k - base) notes)
-    heads-final notes q =
-        let d = says (head.Final n e k notes) q in
-        record {
-          says = (
-            to.read,
-            d.0,
-            record { end = d.1.end; heads = to.counted; fields = omega (arith, d.1.count); noted = d.2 },
-            d.1.within,
-            omega (arith, d.1.left),
-            λ v. turns v ∙ d.3 (onward v) v,
-            stored_more d.1,
-            to.numbers,
-          );
-        }
+  module _ {hs' : List ℕ} {r : HeadRead} (w : Headed (SoManyHeads count) (λ is u v. run (next_head u v is left) i (drop i s)) s base hs hs' (Ok r)) where
+    says : (r' : HeadRead) → r ≡ r' → HeadSays (λ u v. run (next_head u v to.read left) i (drop i s)) to.read s base hs hs' (Ok r')
+    says r' e =
+        subst (λ (z : HeadRead). HeadSays (λ u v. run (next_head u v to.read left) i (drop i s)) to.read s base hs hs' (Ok z)) e (w.by to.read to.counted)
 
-    pub final-some : (notes : Notes) → r ≡ head.Final n e k notes → base ≤ k
-    final-some notes q = omega (arith, (says (head.Final n e k notes) q).1.count)
-
-    module _ (l : ℕ) (q : r ≡ head.Informational n e l k) where
-      pub informational-some : (base ≤ k) × (k ≤ base + lines_most) × (count < informational_most)
-      informational-some =
-          let d = says (head.Informational n e l k) q in
-          (omega (arith, d.1.count), omega (arith, d.1.count, d.1.few, kept-few true d.0.lines), omega (arith, d.3, to.counted))
-
-      pub heads-next : (ns' : List ℕ) → ns' ≡ splice ns (count * 2) (n ∷ (k - base) ∷ []) → HeadsTo s hs₀ hs' ns₀ ns' e l (count + 1) k
-      heads-next ns' stores =
-          let d = says (head.Informational n e l k) q in
-          let h : Lines = d.0 in
-          let few = informational-some in
-          let x : InformationalRead = informational_read n h in
-          let f : length (kept true h.lines) ≡ k - base = omega (arith, d.1.count) in
-          let g : informational_most - count ≡ suc (informational_most - (count + 1)) = omega (arith, few) in
+    module _ {n e k : ℕ} where
+      pub heads-final : {notes : Notes} → r ≡ head.Final n e k notes
+          → HeadsTaken (response_run s) s hs₀ hs' ns₀ ns (Ok (record { status = n; end = e; heads = count; kept = k - base; notes = notes }))
+      heads-final {notes} q =
+          let d = says (head.Final n e k notes) q in
           record {
-            read = to.read ++ x ∷ [];
-            counted = length-append to.read (x ∷ []) ∙ omega (arith, to.counted);
-            most = omega (arith, few);
-            within = d.1.within;
-            total = omega (arith, d.1.left, d.2);
-            fields = rw (lines_snoc to.read x) (length-append (informational_lines to.read) (kept true h.lines) ∙ omega (arith, to.fields, d.1.count));
-            few = omega (arith, few, to.few);
-            stored = rw (lines_snoc to.read x) (stored_more d.1);
-            numbers = numbers_more ns₀ to.read x to.counted to.numbers f stores;
-            turn = λ v. turns v ∙ d.4 (onward v) v ∙ ap (λ (m : ℕ). run (heads_then v m (to.read ++ x ∷ []) l) e (drop e s)) g;
+            says = (
+              to.read,
+              d.0,
+              record { end = d.1.end; heads = to.counted; fields = omega (arith, d.1.count); noted = d.2 },
+              d.1.within,
+              omega (arith, d.1.left),
+              λ v. turns v ∙ d.3 (onward v) v,
+              stored_more d.1,
+              to.numbers,
+            );
           }
+
+      pub final-some : {notes : Notes} → r ≡ head.Final n e k notes → base ≤ k
+      final-some {notes} q = omega (arith, (says (head.Final n e k notes) q).1.count)
+
+      module _ {l : ℕ} (q : r ≡ head.Informational n e l k) where
+        pub informational-some : (base ≤ k) × (k ≤ base + lines_most) × (count < informational_most)
+        informational-some =
+            let d = says (head.Informational n e l k) q in
+            (omega (arith, d.1.count), omega (arith, d.1.count, d.1.few, kept-few true d.0.lines), omega (arith, d.3, to.counted))
+
+        pub heads-next : {ns' : List ℕ} → ns' ≡ splice ns (count * 2) (n ∷ (k - base) ∷ []) → HeadsTo s hs₀ hs' ns₀ ns' e l (count + 1) k
+        heads-next stores =
+            let d = says (head.Informational n e l k) q in
+            let h : Lines = d.0 in
+            let few = informational-some in
+            let x : InformationalRead = informational_read n h in
+            let f : length (kept true h.lines) ≡ k - base = omega (arith, d.1.count) in
+            let g : informational_most - count ≡ suc (informational_most - (count + 1)) = omega (arith, few) in
+            record {
+              read = to.read ++ x ∷ [];
+              counted = length-append to.read (x ∷ []) ∙ omega (arith, to.counted);
+              most = omega (arith, few);
+              within = d.1.within;
+              total = omega (arith, d.1.left, d.2);
+              fields = rw (lines_snoc to.read x) (length-append (informational_lines to.read) (kept true h.lines) ∙ omega (arith, to.fields, d.1.count));
+              few = omega (arith, few, to.few);
+              stored = rw (lines_snoc to.read x) (stored_more d.1);
+              numbers = numbers_more ns₀ to.read x to.counted to.numbers f stores;
+              turn = λ v. turns v ∙ d.4 (onward v) v ∙ ap (λ (m : ℕ). run (heads_then v m (to.read ++ x ∷ []) l) e (drop e s)) g;
+            }

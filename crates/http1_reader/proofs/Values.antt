@@ -9,8 +9,8 @@ use Rattle.messages.specs.Message.{FieldRead, Start, request_start, response_sta
 use Rattle.messages.specs.declared.Told.{Told}
 use Rattle.messages.specs.Answers.{reading_of}
 use Rattle.messages.specs.declared.Record.{Record}
-use Rattle.messages.specs.declared.Outcome.{Outcome}
-use Rattle.messages.specs.declared.Outcome.TheVariants as outcome
+use Rattle.messages.specs.Answers.{Outcome}
+use Rattle.std.proofs.Common.{Ok}
 use Rattle.http1_lines.specs.Read.{read_request, read_response}
 use Rattle.http1_sound.specs.Read.{IsRequest}
 use Rattle.http1_sound.proofs.Sound.{request-sound, response-sound}
@@ -30,7 +30,7 @@ sound-request t s n m e =
 
 -- a request that was read is held, whatever stands where informational heads would
 pub request-held : (t : Told) (s : List ℕ) {hs hs' cs cs' ts ts' : List ℕ} {o : Outcome} {r : Record} (ns : List ℕ) → Outcomed (read_request t s) hs hs' cs cs' ts ts' o
-    → o ≡ outcome.Message r → 256 ≤ length hs → 512 ≤ length cs → 256 ≤ length ts → IsHeld (read_request t s) s r hs' ns cs' ts'
+    → o ≡ Ok r → 256 ≤ length hs → 512 ≤ length cs → 256 ≤ length ts → IsHeld (read_request t s) s r hs' ns cs' ts'
 request-held t s ns h e = held-request s ns h e (sound-request t s)
 
 -- its counts are within its ranges, and its answer by value is what its definition says
@@ -46,7 +46,7 @@ sound-response t s n m e = (response-sound t s n m e).sound
 
 -- a response that was read is held
 pub response-held : (t : Told) (s : List ℕ) {hs hs' ns ns' cs cs' ts ts' : List ℕ} {o : Outcome} {r : Record} → Responded (read_response t s) hs hs' ns ns' cs cs' ts ts' o
-    → o ≡ outcome.Message r → 1280 ≤ length hs → 8 ≤ length ns → 512 ≤ length cs → 256 ≤ length ts → IsHeld (read_response t s) s r hs' ns' cs' ts'
+    → o ≡ Ok r → 1280 ≤ length hs → 8 ≤ length ns → 512 ≤ length cs → 256 ≤ length ts → IsHeld (read_response t s) s r hs' ns' cs' ts'
 response-held t s h e = held s h e (sound-response t s)
 
 module _ (t : Told) (s : List ℕ) {hs' ns' cs' ts' : List ℕ} {o : Outcome}

@@ -5,20 +5,13 @@ mod heads;
 pub mod request;
 pub mod response;
 
-use messages::{Body, Notes};
+use messages::{Body, Notes, Span};
 
-// A request's head that was judged: the authority's part and how the content is read.
+// A request's head that was judged: where its authority stands and how the content is read.
 #[derive(Clone, Copy)]
-pub enum HeadAnswer {
-    Good {
-        start: usize,
-        len: usize,
-        body: Body,
-    },
-    Refused {
-        number: u32,
-        place: usize,
-    },
+pub struct JudgedHead {
+    pub authority: Span,
+    pub body: Body,
 }
 
 // A response's head that was read: its status, the place behind it and how many kept fields stand in the lent ranges now; behind an informational
@@ -37,27 +30,15 @@ pub enum HeadRead {
         kept: usize,
         notes: Notes,
     },
-    Refused {
-        number: u32,
-        place: usize,
-    },
-    More,
 }
 
 // All heads of a response: the final status, the place behind the final head, how many informational heads there are, how many kept fields the final
 // head has and what its lines state.
 #[derive(Clone, Copy)]
-pub enum HeadsRead {
-    Done {
-        status: u32,
-        end: usize,
-        heads: usize,
-        kept: usize,
-        notes: Notes,
-    },
-    Refused {
-        number: u32,
-        place: usize,
-    },
-    More,
+pub struct HeadsRead {
+    pub status: u32,
+    pub end: usize,
+    pub heads: usize,
+    pub kept: usize,
+    pub notes: Notes,
 }

@@ -8,15 +8,13 @@ use borrow.Author.Tests.{leb-true, eqb-true}
 use lib.Dec.{leb, lit≤}
 use lib.ListN.{length, drop}
 use lib.Seq.{drop_at}
+use Rattle.std.proofs.Common.{Option, Some, None}
 use Rattle.octets.specs.Limits.{head_most, trailer_most, lines_most, informational_most}
 use Rattle.octets.proofs.Kit.{and_split}
 use Rattle.script.specs.Script.{Answer, accepted, refused, more, means}
 use Rattle.script.specs.Do.{piece, Reads}
 use Rattle.script.proofs.Do.{reads}
 use Rattle.messages.specs.Told.{answering, closing, ending_of, in_edition}
-use Rattle.messages.specs.declared.Ending.{Ending}
-use Rattle.messages.specs.declared.StatedLength.{StatedLength}
-use Rattle.messages.specs.declared.StatedLength.TheVariants.{Missing, Of}
 use Rattle.messages.specs.declared.Told.{Told}
 use Rattle.messages.specs.Message.{request_start, Message, whole_path}
 use Rattle.messages.specs.Control.{ends_at_head}
@@ -64,39 +62,39 @@ trailers-ok t m v f = record { valid = (meaning-ok m v).trailers; fit = (fit_of 
 
 -- ---- messages
 
-abbrev made : Control → List Field → List ℕ → List Field → StatedLength → Meaning
+abbrev made : Control → List Field → List ℕ → List Field → Option ℕ → Meaning
 made c fs b ts x = record { control = c; headers = fs; content = b; trailers = ts; stated = x }
 
 other : {A : Type 1} → false ≡ true → A
 other e = let z : ◌≡◌ {A = ℕ} 0 1 = cc in absurd (omega arith)
 
 unstated-request : (m : List ℕ) (s : ℕ) (a p : List ℕ) (fs : List Field) (b : List ℕ) (ts : List Field) (n : ℕ)
-    → valid (made (request m s a p) fs b ts (Of n)) ≡ true → ⊥
+    → valid (made (request m s a p) fs b ts (Some n)) ≡ true → ⊥
 unstated-request m s a p fs b ts n v =
-    let w : Meaning = made (request m s a p) fs b ts (Of n) in
-    let e : Of n ≡ Missing = never-stated (Of n) w refl (meaning-ok w v).stated in
+    let w : Meaning = made (request m s a p) fs b ts (Some n) in
+    let e : Some n ≡ None = never-stated (Some n) w refl (meaning-ok w v).stated in
     let z : ◌≡◌ {A = ℕ} 0 1 = cc in
     omega arith
 
-request-back : (t : Told) (c : Control) (fs : List Field) (b : List ℕ) (ts : List Field) (x : StatedLength)
+request-back : (t : Told) (c : Control) (fs : List Field) (b : List ℕ) (ts : List Field) (x : Option ℕ)
     → valid (made c fs b ts x) ≡ true → http1_fits t (made c fs b ts x) ≡ true → is_request_of t c ≡ true
     → Reads (http1.request t) 0 (http1_of t (made c fs b ts x)) (placed_at t 0 (made c fs b ts x))
 unfolding http1_of head_text head_lines length_line
 request-back t (response hs s) fs b ts x v f e = other e
-request-back t (request m s a p) fs b ts (Of n) v f e = absurd (unstated-request m s a p fs b ts n v)
-request-back t (request m s a p) fs b ts Missing v f e =
-    let w : Meaning = made (request m s a p) fs b ts Missing in
+request-back t (request m s a p) fs b ts (Some n) v f e = absurd (unstated-request m s a p fs b ts n v)
+request-back t (request m s a p) fs b ts None v f e =
+    let w : Meaning = made (request m s a p) fs b ts None in
     let ok = meaning-ok w v in
     let fit = fit_of t w f in
     let o = request-ok m a p s ok.control in
     let l : List ℕ = request_line m p in
     let h : List Field = request_lines t m a fs b ts in
     let x : s ≡ t.scheme = eqb-true s t.scheme e in
-    reads_as (ap (λ (z : ℕ). placed_from (request_start (piece 0 m) z (piece (0 + length l + 6) a) (whole_path (piece (0 + (length m + 1)) p))) (0 + length l) h b ts Missing) (sym x))
+    reads_as (ap (λ (z : ℕ). placed_from (request_start (piece 0 m) z (piece (0 + length l + 6) a) (whole_path (piece (0 + (length m + 1)) p))) (0 + length l) h b ts None) (sym x))
     (reads-from (append_assoc l (section_text h) (body_text b ts))
     (reads-request t m a p fs b ts 0 o.method o.named o.path (section-fields false fs ok.headers) ok.content (trailers-ok t w v f) fit.lines fit.head))
 
-response-back : (t : Told) (y : Ending) (c : Control) (fs : List Field) (b : List ℕ) (ts : List Field) (x : StatedLength)
+response-back : (t : Told) (y : Option ℕ) (c : Control) (fs : List Field) (b : List ℕ) (ts : List Field) (x : Option ℕ)
     → valid (made c fs b ts x) ≡ true → http1_fits t (made c fs b ts x) ≡ true → of_response c ≡ true → suits t (made c fs b ts x) ≡ true
     → Reads (http1.heads (record { told = t; ending = y }) (suc informational_most) [] head_most) 0 (http1_of t (made c fs b ts x)) (placed_at t 0 (made c fs b ts x))
 unfolding http1_of head_text head_lines length_line
@@ -119,12 +117,12 @@ response-back t y (response hs s) fs b ts x v f e u =
 
 -- ---- their meanings
 
-meaning-of : (t : Told) (c : Control) (fs : List Field) (b : List ℕ) (ts : List Field) (x : StatedLength) → valid (made c fs b ts x) ≡ true
+meaning-of : (t : Told) (c : Control) (fs : List Field) (b : List ℕ) (ts : List Field) (x : Option ℕ) → valid (made c fs b ts x) ≡ true
     → meaning (placed_at t 0 (made c fs b ts x)) ≡ made c fs b ts x
 unfolding meaning kept_trailers head_lines length_line
-meaning-of t (request m s a p) fs b ts (Of n) v = absurd (unstated-request m s a p fs b ts n v)
-meaning-of t (request m s a p) fs b ts Missing v =
-    let ok = meaning-ok (made (request m s a p) fs b ts Missing) v in
+meaning-of t (request m s a p) fs b ts (Some n) v = absurd (unstated-request m s a p fs b ts n v)
+meaning-of t (request m s a p) fs b ts None v =
+    let ok = meaning-ok (made (request m s a p) fs b ts None) v in
     rw (
       request-kept t m a fs b ts (0 + length (request_line m p)) (section-fields false fs ok.headers),
       content-back _ b,

@@ -6,6 +6,7 @@ use Prim.Native.Nat.{ℕ, ◌+◌, ◌≤◌}
 use native.Mathlib.Omega.{arith}
 use borrow.Author.Tests.{le-leb, eqb-true}
 use lib.ListN.{length}
+use Rattle.std.proofs.Common.{Option, Some, None}
 use Rattle.octets.specs.Text.{lower_of, same_text, is_empty}
 use Rattle.octets.specs.Limits.{content_most, stated_most}
 use Rattle.octets.proofs.Kit.{and_split}
@@ -14,15 +15,12 @@ use Rattle.messages.specs.Message.{FieldRead}
 use Rattle.messages.specs.Control.{is_host, ends_at_head}
 use Rattle.messages.specs.Names.{kind_of, line_kind, same_kind, lines_of, end_to_end, connection_values, kept, kept_of, are_trailers}
 use Rattle.messages.specs.Rules.{authority_from, authority_in, framing_from, framing_of, request_body, content_body, response_body, length_in, stated_in}
-use Rattle.messages.specs.declared.Ending.{Ending}
 use Rattle.messages.specs.declared.Body.{Body}
 use Rattle.messages.specs.declared.Body.TheVariants.{Sized, InChunks}
 use Rattle.messages.specs.declared.Framing.{Framing}
 use Rattle.messages.specs.declared.Framing.TheVariants.{Unstated, Stated, Chunked}
 use Rattle.messages.specs.declared.Kind.{Kind}
 use Rattle.messages.specs.declared.Kind.TheVariants as kind
-use Rattle.messages.specs.declared.StatedLength.{StatedLength}
-use Rattle.messages.specs.declared.StatedLength.TheVariants.{Missing, Of}
 use Rattle.messages.specs.declared.Told.{Told}
 use Rattle.messages.specs.Meaning.{Field, field_means, Informational, informational_means, response, Meaning, length_field}
 use Rattle.messages.specs.Valid.{valid_fields, valid_heads, no_fields, valid_body, valid_stated}
@@ -89,11 +87,11 @@ Small line.Nothing = Unit {0}
 Small (line.Length n) = n ≤ stated_most
 Small line.Chunked = Unit {0}
 
-small-stated : (x : StatedLength) (m : Meaning) → valid_stated x m ≡ true → Small (stated_line x)
-small-stated Missing m v = tt
-small-stated (Of n) m v = (stated-ok n m v).small
+small-stated : (x : Option ℕ) (m : Meaning) → valid_stated x m ≡ true → Small (stated_line x)
+small-stated None m v = tt
+small-stated (Some n) m v = (stated-ok n m v).small
 
-small_line : (p u : Bool) (x : StatedLength) (n : ℕ) → n ≤ content_most → (m : Meaning) → valid_stated x m ≡ true → Small (line_for p u x n)
+small_line : (p u : Bool) (x : Option ℕ) (n : ℕ) → n ≤ content_most → (m : Meaning) → valid_stated x m ≡ true → Small (line_for p u x n)
 small_line true true x n h m v = small-stated x m v
 small_line true false x n h m v = omega arith
 small_line false u x n h m v = tt
@@ -146,7 +144,7 @@ no-octets c e = sym (eqb-true (length c) 0 e)
 
 module _ (c : List ℕ) (h : length c ≤ content_most) (end p : ℕ) where
   request-body : (b x u : Bool) → is_empty c ≡ x
-      → request_body end (framing_for (line_for b (cond x u false) Missing (length c)) p) ≡ good (cond b (Sized (length c)) InChunks)
+      → request_body end (framing_for (line_for b (cond x u false) None (length c)) p) ≡ good (cond b (Sized (length c)) InChunks)
   unfolding request_body
   request-body true true true e = ap (λ (z : ℕ). good (Sized z)) (no-octets c e)
   request-body true true false e = rw (le-leb (length c) content_most h)
@@ -180,7 +178,7 @@ lead-hosts fs v line.Chunked at = rw (coding-kind at) (no-hosts fs (at + length 
 
 -- the length line of a request with the method m
 abbrev pub request_length : Told → List ℕ → List ℕ → List Field → LengthLine
-request_length t m c ts = line_for (no_fields ts) (cond (is_empty c) (is_silent t m) false) Missing (length c)
+request_length t m c ts = line_for (no_fields ts) (cond (is_empty c) (is_silent t m) false) None (length c)
 
 -- a request's head: the authority is found, the content is told, the fields are kept
 abbrev pub request_lines : Told → List ℕ → List ℕ → List Field → List ℕ → List Field → List Field
@@ -197,7 +195,7 @@ module _ (t : Told) (m a : List ℕ) (fs : List Field) (c : List ℕ) (ts : List
       ap (request_body end) (host-framing a at _ ∙ lead-framing false fs v (request_length t m c ts) (small-request (no_fields ts) (cond (is_empty c) (is_silent t m) false)) _)
       ∙ request-body c h end _ (no_fields ts) (is_empty c) (is_silent t m) refl
     where
-      small-request : (b u : Bool) → Small (line_for b u Missing (length c))
+      small-request : (b u : Bool) → Small (line_for b u None (length c))
       small-request true true = tt
       small-request true false = omega arith
       small-request false u = tt
@@ -216,9 +214,9 @@ abbrev pub response_lines : Told → ℕ → Meaning → List Field
 response_lines t s w = length_fields (response_length t s w) ++ w.headers
 
 -- a stated length's line tells what is stated
-stated-told : (x : StatedLength) (p : ℕ) → framing_for (stated_line x) p ≡ stated_framing x p
-stated-told Missing p = refl
-stated-told (Of n) p = refl
+stated-told : (x : Option ℕ) (p : ℕ) → framing_for (stated_line x) p ≡ stated_framing x p
+stated-told None p = refl
+stated-told (Some n) p = refl
 
 module _ (t : Told) (s : ℕ) (w : Meaning) (hs : List Informational) (control : w.control ≡ response hs s) (v : valid_fields true w.headers ≡ true)
     (few : length w.content ≤ content_most) (stated : valid_stated w.stated w ≡ true) (fits : Suited t s w) where
@@ -227,7 +225,7 @@ module _ (t : Told) (s : ℕ) (w : Meaning) (hs : List Informational) (control :
       lead-framing true w.headers v (response_length t s w)
       (small_line (no_fields w.trailers) (ends_at_head t s) w.stated (length w.content) few w stated) at
 
-  body-with : (x : Ending) (end p : ℕ) (b u : Bool) → no_fields w.trailers ≡ b → ends_at_head t s ≡ u
+  body-with : (x : Option ℕ) (end p : ℕ) (b u : Bool) → no_fields w.trailers ≡ b → ends_at_head t s ≡ u
       → response_body t x s end (framing_for (line_for b u w.stated (length w.content)) p) ≡ good (cond b (Sized (length w.content)) InChunks)
   unfolding response_body content_body request_body valid_body
   body-with x end p true true n e =
@@ -239,11 +237,11 @@ module _ (t : Told) (s : ℕ) (w : Meaning) (hs : List Informational) (control :
   body-with x end p false false n e = rw e
 
   -- it states a length, or is chunked, or ends at its head: where the stream ends does not matter
-  pub response-told : (x : Ending) (end at : ℕ) → response_body t x s end (framing_of (lines_at at (response_lines t s w))) ≡ good (body_for w.content w.trailers)
+  pub response-told : (x : Option ℕ) (end at : ℕ) → response_body t x s end (framing_of (lines_at at (response_lines t s w))) ≡ good (body_for w.content w.trailers)
   response-told x end at = rw (response-states at) (body-with x end at (no_fields w.trailers) (ends_at_head t s) refl refl)
 
   stated-with : (p : ℕ) (b u : Bool) → no_fields w.trailers ≡ b → ends_at_head t s ≡ u
-      → cond u (length_in (framing_for (line_for b u w.stated (length w.content)) p)) Missing ≡ w.stated
+      → cond u (length_in (framing_for (line_for b u w.stated (length w.content)) p)) None ≡ w.stated
   unfolding valid_body
   stated-with p true true n e = rw (stated-told w.stated p) (stated-back w.stated p)
   stated-with p false true n e = let z = (and_split (is_empty w.content) (no_fields w.trailers) (rw e at fits.body)).1 in cc

@@ -18,7 +18,7 @@ use Rattle.numbers.specs.Digits.{digits}
 use Rattle.numbers.proofs.DigitLaws.{digits_value}
 use Rattle.script.specs.Script.{free}
 use Rattle.script.specs.Do.{piece, good}
-use Rattle.messages.specs.Control.{method_verdict, path_verdict, status_verdict, is_host, is_lower_name, is_trimmed_value, is_options}
+use Rattle.messages.specs.Control.{method_verdict, path_verdict, status_verdict, is_host, is_lower_name, is_trimmed_value, is_options, passed}
 use Rattle.messages.specs.Meaning.{Field}
 use Rattle.messages.proofs.Verdicts.{method-rule, path-rule, name-rule, value-rule}
 use Rattle.messages.proofs.Stating.{LineOk, bare-value}
@@ -107,7 +107,7 @@ coding-line = record { name = names.1; value = names.2 }
 
 -- ---- request lines
 
-module _ (m p : List ℕ) (hm : method_verdict m ≡ 0) (hp : path_verdict (is_options m) p ≡ 0) where
+module _ (m p : List ℕ) (hm : method_verdict m ≡ passed) (hp : path_verdict (is_options m) p ≡ passed) where
   pub request-clean : Clean (m ++ 32 ∷ [] ++ p ++ ascii " HTTP/1.1")
   request-clean =
       let a = all-implied (has_class token) (has_class value) token-value m (method-rule m hm).1 in
@@ -140,7 +140,7 @@ status_word n = ascii "HTTP/1.1 " ++ digits 10 n ++ 32 ∷ []
 pub status-clean : (n : ℕ) → Clean (status_word n)
 status-clean n = clean _ (values _ _ (values _ _ signs.3 (digits_value 10 (lit≤ tt) (lit≤ tt) n)) signs.1)
 
-pub status-good : (n at : ℕ) → status_verdict n ≡ 0 → status_of (piece at (status_word n)) ≡ good n
+pub status-good : (n at : ℕ) → status_verdict n ≡ passed → status_of (piece at (status_word n)) ≡ good n
 unfolding status_of
 status-good n at h = rw (status-back n h)
 

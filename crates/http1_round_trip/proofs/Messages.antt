@@ -6,17 +6,16 @@ use Prim.Native.Nat.{ℕ, zero, suc, ◌+◌, ◌-◌, ◌≤◌, ◌<◌}
 use native.Mathlib.Omega.{arith}
 use borrow.Author.Tests.{lt-leb}
 use lib.ListN.{length, length-append}
+use Rattle.std.proofs.Common.{Option, None}
 use Rattle.octets.specs.Ascii.{ascii}
 use Rattle.octets.specs.Limits.{head_most, lines_most, content_most, informational_most}
 use Rattle.script.specs.Do.{piece, good, Reads}
 use Rattle.script.proofs.Do.{reads-done, reads_word, reads-tell, reads-bind, before, behind}
 use Rattle.messages.specs.declared.Told.{Told}
 use Rattle.messages.specs.Message.{InformationalRead, request_start, response_start, Message, whole_path}
-use Rattle.messages.specs.Control.{method_verdict, path_verdict, is_host, status_verdict, is_informational, is_options}
+use Rattle.messages.specs.Control.{method_verdict, path_verdict, is_host, status_verdict, is_informational, is_options, passed}
 use Rattle.messages.specs.Rules.{framing_of, nothing_stated, target_authority}
 use Rattle.messages.specs.declared.Body.TheVariants.{Sized}
-use Rattle.messages.specs.declared.StatedLength.{StatedLength}
-use Rattle.messages.specs.declared.StatedLength.TheVariants.{Missing}
 use Rattle.messages.specs.Meaning.{Field, Informational, response, Meaning}
 use Rattle.messages.specs.Valid.{valid_fields, valid_heads, valid_stated}
 use Rattle.messages.proofs.Valid.{section-fields, section-few, HeadOk, head_ok}
@@ -33,10 +32,10 @@ use Rattle.octets.specs.Text.{is_empty}
 -- ---- requests
 
 pub reads-request : (t : Told) (m a p : List ℕ) (fs : List Field) (c : List ℕ) (ts : List Field) (at : ℕ)
-    → method_verdict m ≡ 0 → is_host a ≡ true → path_verdict (is_options m) p ≡ 0 → valid_fields false fs ≡ true → length c ≤ content_most → TrailersOk ts
+    → method_verdict m ≡ passed → is_host a ≡ true → path_verdict (is_options m) p ≡ passed → valid_fields false fs ≡ true → length c ≤ content_most → TrailersOk ts
     → length (request_lines t m a fs c ts) ≤ lines_most → length (request_line m p ++ section_text (request_lines t m a fs c ts)) ≤ head_most
     → Reads (request t) at (request_line m p ++ (section_text (request_lines t m a fs c ts) ++ body_text c ts))
-    (placed_from (request_start (piece at m) t.scheme (piece (at + length (request_line m p) + 6) a) (whole_path (piece (at + (length m + 1)) p))) (at + length (request_line m p)) (request_lines t m a fs c ts) c ts Missing)
+    (placed_from (request_start (piece at m) t.scheme (piece (at + length (request_line m p) + 6) a) (whole_path (piece (at + (length m + 1)) p))) (at + length (request_line m p)) (request_lines t m a fs c ts) c ts None)
 unfolding request after_head request_line target_authority is_empty
 reads-request t m a p fs c ts at hm ha hp v few ok lines fit =
     let w : List ℕ = m ++ 32 ∷ [] ++ p ++ ascii " HTTP/1.1" in
@@ -81,7 +80,7 @@ reads-head q x f left at is {y} {b} o g fit ih =
 
 -- a final head and what is behind it
 module _ (q : ResponseCall) (s : ℕ) (w : Meaning) (all : List Informational) (control : w.control ≡ response all s)
-    (verdict : status_verdict s ≡ 0) (late : is_informational s ≡ false) (v : valid_fields true w.headers ≡ true) (few : length w.content ≤ content_most)
+    (verdict : status_verdict s ≡ passed) (late : is_informational s ≡ false) (v : valid_fields true w.headers ≡ true) (few : length w.content ≤ content_most)
     (ok : TrailersOk w.trailers) (stated : valid_stated w.stated w ≡ true) (fits : Suited q.told s w) (lines : length (response_lines q.told s w) ≤ lines_most) where
   abbrev final : List Field
   final = response_lines q.told s w
@@ -100,7 +99,7 @@ module _ (q : ResponseCall) (s : ℕ) (w : Meaning) (all : List Informational) (
       let k = status-clean s in
       let p : ℕ = at + length (i ++ crlf) in
       let e = response-stated q.told s w all control v few stated fits p in
-      reads_as (ap (λ (x : StatedLength). placed_from (response_start is s) p final w.content w.trailers x) e)
+      reads_as (ap (λ (x : Option ℕ). placed_from (response_start is s) p final w.content w.trailers x) e)
       (reads-bind _ (reads_word (line_within left) at i (k.lf, k.cr, omega arith))
       (before _ (reads-tell _ _ _ (status-good s at verdict))
       (rw late

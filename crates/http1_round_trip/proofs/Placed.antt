@@ -3,13 +3,13 @@ use mathlib.Core.Bool.{cond}
 use mathlib.Core.List.{List, [], ◌∷◌, ◌++◌}
 use Prim.Native.Nat.{ℕ, ◌+◌}
 use lib.ListN.{length}
+use Rattle.std.proofs.Common.{Option}
 use Rattle.octets.specs.Ascii.{ascii}
 use Rattle.numbers.specs.Digits.{digits}
 use Rattle.script.specs.Do.{piece}
 use Rattle.messages.specs.Message.{FieldRead, InformationalRead, Start, request_start, response_start, Message, non_empty, whole_path}
 use Rattle.messages.specs.Meaning.{Field, Informational, Control, request, response, Meaning}
 use Rattle.messages.specs.Valid.{no_fields}
-use Rattle.messages.specs.declared.StatedLength.{StatedLength}
 use Rattle.messages.specs.declared.Told.{Told}
 use Rattle.http1_lines.specs.Read.{Content}
 use Rattle.http1_writer.specs.Write.{crlf, field_text, section_text, request_line, status_line, head_lines, start_text, chunk_text}
@@ -46,7 +46,7 @@ start_at at (request m s a p) = request_start (piece at m) s (piece (at + length
 start_at at (response hs s) = response_start (heads_at at hs) s
 
 -- lines, content and trailers from the place `at` on, behind control data
-abbrev pub placed_from : Start → ℕ → List Field → List ℕ → List Field → StatedLength → Message
+abbrev pub placed_from : Start → ℕ → List Field → List ℕ → List Field → Option ℕ → Message
 placed_from start at fs c ts x =
     record {
       start = start;

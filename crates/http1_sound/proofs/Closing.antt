@@ -8,6 +8,7 @@ use native.Mathlib.Omega.{arith}
 use borrow.Author.Tests.{leb-true, leb-false, eqb-true}
 use lib.Dec.{leb, eqb}
 use lib.ListN.{length, drop, length-drop}
+use Rattle.std.proofs.Common.{Option, Some, None}
 use Rattle.octets.specs.Limits.{head_most, content_most, informational_most}
 use Rattle.octets.specs.Refusals.{too_large}
 use Rattle.script.specs.Script.{Answer, accepted, refused, more, Settled, Script, done, run}
@@ -22,10 +23,8 @@ use Rattle.messages.specs.Told.{is_yes, closing}
 use Rattle.messages.specs.Rules.{framing_of, nothing_stated, length_alone, bodyless_rule, unmeasured_body, content_body, response_body, stated_in}
 use Rattle.messages.specs.declared.Body.{Body}
 use Rattle.messages.specs.declared.Body.TheVariants.{Sized, UntilClosed}
-use Rattle.messages.specs.declared.Ending.TheVariants.{Open, Closed}
 use Rattle.messages.specs.declared.Framing.{Framing}
 use Rattle.messages.specs.declared.Framing.TheVariants.{Unstated, Stated, Chunked, Clashing}
-use Rattle.messages.specs.declared.StatedLength.{StatedLength}
 use Rattle.http1_lines.specs.Lines.{status_of}
 use Rattle.http1_lines.specs.Read.{line_within, less, Lines, section, content, ResponseCall, after_final, heads, heads_then, read_response}
 use Rattle.http1_sound.specs.Read.{ClosedLater}
@@ -43,7 +42,7 @@ alike e = record { same = λ z. e }
 module _ (t : Told) (c n status end : ℕ) where
   -- it says the same; or, where nothing is stated, on an open connection the end is to come, and on one that has closed it is the stream's
   abbrev Judge : Judged Body → Judged Body → Type 0
-  Judge x y = (x ≡ y) ⊎ ((x ≡ unmeasured_body (Closed n) end) × (y ≡ good UntilClosed))
+  Judge x y = (x ≡ y) ⊎ ((x ≡ unmeasured_body (Some n) end) × (y ≡ good UntilClosed))
 
   bodyless-same : (f : Framing) → bodyless_rule (closing c t) status end f ≡ bodyless_rule (closing 0 t) status end f
   unfolding bodyless_rule length_alone
@@ -52,19 +51,19 @@ module _ (t : Told) (c n status end : ℕ) where
   bodyless-same Chunked = refl
   bodyless-same Clashing = refl
 
-  content-judges : (f : Framing) → Judge (content_body (Closed n) end f) (content_body Open end f)
+  content-judges : (f : Framing) → Judge (content_body (Some n) end f) (content_body None end f)
   unfolding content_body unmeasured_body
   content-judges Unstated = inr (refl, refl)
   content-judges (Stated k p) = inl refl
   content-judges Chunked = inl refl
   content-judges Clashing = inl refl
 
-  judges : (f : Framing) → Judge (response_body (closing c t) (Closed n) status end f) (response_body (closing 0 t) Open status end f)
+  judges : (f : Framing) → Judge (response_body (closing c t) (Some n) status end f) (response_body (closing 0 t) None status end f)
   unfolding response_body ends_at_head
   judges f = go (ends_at_head t status)
     where
-      go : (b : Bool) → Judge (cond b (bodyless_rule (closing c t) status end f) (content_body (Closed n) end f))
-          (cond b (bodyless_rule (closing 0 t) status end f) (content_body Open end f))
+      go : (b : Bool) → Judge (cond b (bodyless_rule (closing c t) status end f) (content_body (Some n) end f))
+          (cond b (bodyless_rule (closing 0 t) status end f) (content_body None end f))
       go true = inl (bodyless-same f)
       go false = content-judges f
 
@@ -77,10 +76,10 @@ module _ (t : Told) (c n status end : ℕ) where
 module _ (s : List ℕ) (t : Told) (c : ℕ) where
   -- the call where the connection has closed, and where it is open
   abbrev shut : ResponseCall
-  shut = record { told = closing c t; ending = Closed (length s) }
+  shut = record { told = closing c t; ending = Some (length s) }
 
   abbrev still : ResponseCall
-  still = record { told = closing 0 t; ending = Open }
+  still = record { told = closing 0 t; ending = None }
 
   alike-bind : {A : Type 0} (sc : Script A) (k l : A → Script Message) (i : ℕ) → i ≤ length s
       → ((n : ℕ) (a : A) → n ≤ length s → run sc i (drop i s) ≡ accepted n a → Alike (run (k a) n (drop n s)) (run (l a) n (drop n s)))
@@ -98,12 +97,12 @@ module _ (s : List ℕ) (t : Told) (c : ℕ) where
   alike-if false x y u v i p q = q
 
   -- what follows the rule, with a stated length
-  abbrev judged_by : StatedLength → List InformationalRead → ℕ → Lines → Judged Body → Script Message
+  abbrev judged_by : Option ℕ → List InformationalRead → ℕ → Lines → Judged Body → Script Message
   judged_by st is n h j = tell j >>= λ b. content b >>= λ d. done (stating_message st (response_start is n) h.lines d.chunks d.trailers)
 
-  module _ (st : StatedLength) (is : List InformationalRead) (n at : ℕ) (h : Lines) (w : at ≤ length s) (e : h.end ≡ at) where
+  module _ (st : Option ℕ) (is : List InformationalRead) (n at : ℕ) (h : Lines) (w : at ≤ length s) (e : h.end ≡ at) where
     -- too many octets are too many, whether or not the connection has closed
-    unmeasured-alike : Alike (run (judged_by st is n h (unmeasured_body (Closed (length s)) h.end)) at (drop at s)) (run (judged_by st is n h (good UntilClosed)) at (drop at s))
+    unmeasured-alike : Alike (run (judged_by st is n h (unmeasured_body (Some (length s)) h.end)) at (drop at s)) (run (judged_by st is n h (good UntilClosed)) at (drop at s))
     unfolding unmeasured_body content ◌>>=◌
     unmeasured-alike = go (leb (length s - h.end) content_most) refl
       where
@@ -118,7 +117,7 @@ module _ (s : List ℕ) (t : Told) (c : ℕ) where
             let y : run (judged_by st is n h (wrong too_large h.end)) at (drop at s) ≡ refused too_large at = rw (run-stop, e) in
             alike (y ∙ sym z)
 
-    judged-alike : (x y : Judged Body) → (x ≡ y) ⊎ ((x ≡ unmeasured_body (Closed (length s)) h.end) × (y ≡ good UntilClosed))
+    judged-alike : (x y : Judged Body) → (x ≡ y) ⊎ ((x ≡ unmeasured_body (Some (length s)) h.end) × (y ≡ good UntilClosed))
         → Alike (run (judged_by st is n h x) at (drop at s)) (run (judged_by st is n h y) at (drop at s))
     judged-alike x y (inl p) = alike (ap (λ (j : Judged Body). run (judged_by st is n h j) at (drop at s)) p)
     judged-alike x y (inr p) = rw (p.0, p.1) unmeasured-alike
@@ -150,7 +149,7 @@ unfolding read_response is_yes
 closed-later t c s = go (eqb c 0) refl
   where
     go : (b : Bool) → eqb c 0 ≡ b → Settled (run (heads (still s t c) (suc informational_most) [] head_most) 0 s)
-        → run (heads (record { told = closing c t; ending = cond (not b) (Closed (length s)) Open }) (suc informational_most) [] head_most) 0 s
+        → run (heads (record { told = closing c t; ending = cond (not b) (Some (length s)) None }) (suc informational_most) [] head_most) 0 s
         ≡ run (heads (still s t c) (suc informational_most) [] head_most) 0 s
     go true e h = rw (eqb-true c 0 e)
     go false e h = (heads-alike s t c (suc informational_most) [] head_most 0 (omega arith)).same h

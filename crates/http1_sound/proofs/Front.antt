@@ -5,6 +5,7 @@ use mathlib.Core.Bool.{Bool, true, false, cond}
 use mathlib.Core.List.{List, [], ◌∷◌, ◌++◌}
 use native.Mathlib.Omega.{arith}
 use lib.ListN.{length}
+use Rattle.std.proofs.Common.{None}
 use Rattle.octets.specs.Limits.{head_most, informational_most}
 use Rattle.octets.specs.Refusals.{not_supported}
 use Rattle.script.specs.Script.{Answer, accepted, refused, more, Settled, run}
@@ -17,15 +18,15 @@ use Rattle.messages.specs.declared.Told.{Told}
 use Rattle.messages.specs.Message.{Message}
 use Rattle.messages.specs.Answers.{reading_of}
 use Rattle.messages.specs.Valid.{is_scheme}
-use Rattle.messages.specs.declared.Outcome.TheVariants as outcome
+use Rattle.std.proofs.Common.{Err}
+use Rattle.messages.specs.declared.Stop.{Stop}
 use Rattle.messages.specs.Told.{is_yes}
-use Rattle.messages.specs.declared.Ending.TheVariants.{Open}
 use Rattle.http1_lines.specs.Read.{request, read_request, ResponseCall, response_call, heads, heads_then, read_response}
 use Rattle.http1_sound.specs.Front.{answers, First, Front}
 
 -- ---- any reader
 
-settles : (x : Answer Message) → ((reading_of x).outcome ≡ outcome.More → ⊥) → Settled x
+settles : (x : Answer Message) → ((reading_of x).outcome ≡ Err Stop.More → ⊥) → Settled x
 settles (accepted n m) h = tt
 settles (refused k p) h = tt
 settles more h = h refl
@@ -85,7 +86,7 @@ response-within t s n m e = heads-within (response_call t (length s)) informatio
 module _ (t : Told) (o : is_yes t.closed ≡ false) where
   pub response-stays : Stable (read_response t)
   unfolding read_response
-  response-stays s u h = rw o (stable (heads (record { told = t; ending = Open }) (suc informational_most) [] head_most) 0 s u (rw o at h))
+  response-stays s u h = rw o (stable (heads (record { told = t; ending = None }) (suc informational_most) [] head_most) 0 s u (rw o at h))
 
   pub response-front : Front (read_response t)
   response-front = front (read_response t) (response-within t) response-stays

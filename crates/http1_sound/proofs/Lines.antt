@@ -1,4 +1,5 @@
 -- What a line that is judged good gives: its parts lie in the input, and obey their rules.
+use Rattle.std.proofs.Common.{None, Option, Some, Err, Ok, Result}
 use Prim.Native.Nat.{ℕ, ◌+◌, ◌≤◌}
 use mathlib.Core.Path.{◌≡◌, refl, subst}
 use mathlib.Core.Bool.{true}
@@ -12,26 +13,26 @@ use Rattle.octets.specs.Text.{is_empty}
 use Rattle.script.specs.Do.{Piece, piece, good}
 use Rattle.script.proofs.Places.{lies-front, lies-from}
 use Rattle.messages.specs.Message.{FieldRead, PathRead, path_octets}
-use Rattle.messages.specs.Control.{method_verdict, is_options, path_verdict, is_host, status_verdict}
+use Rattle.messages.specs.Control.{method_verdict, is_options, path_verdict, is_host, status_verdict, passed}
 use Rattle.http1_lines.specs.Lines.{RequestRead, within, on_request, request_of, request_lens, on_status, status_of, status_lens, on_field, field_of, field_lens}
 use Rattle.http1_lines.specs.declared.Target.{Target}
 use Rattle.http1_lines.specs.declared.RequestLine.{RequestLine}
-use Rattle.http1_lines.specs.declared.RequestLine.TheVariants as request
-use Rattle.http1_lines.specs.declared.StatusLine.{StatusLine}
-use Rattle.http1_lines.specs.declared.StatusLine.TheVariants as status
 use Rattle.http1_lines.specs.declared.FieldLine.{FieldLine}
-use Rattle.http1_lines.specs.declared.FieldLine.TheVariants as field
 use Rattle.http1_lines.proofs.Views.{field-view, request-view, status-view}
 use Rattle.sound.specs.Placed.{Lying}
 use Rattle.sound.proofs.Parts.{LineAt}
 use Rattle.http1_sound.specs.Read.{InTarget}
+use Rattle.octets.specs.declared.Refusal.{Refusal}
 
 pub line_at : (s : List ℕ) (l : Piece) (f : FieldRead) → field_of l ≡ good f → Lying s l → LineAt s f
 unfolding field_of
 line_at s l f e y = go (field_lens l.text) refl e
   where
-    go : (x : FieldLine) → field_lens l.text ≡ x → on_field l x ≡ good f → LineAt s f
-    go (field.Of n b k) q g =
+    go : (x : Option FieldLine) → field_lens l.text ≡ x → on_field l x ≡ good f → LineAt s f
+    go (Some x) q g =
+        let n : ℕ = x.name in
+        let b : ℕ = x.value in
+        let k : ℕ = x.len in
         let v = field-view l.text n b k q in
         let r : FieldRead = record { name = piece l.place (take n l.text); value = piece (l.place + b) (take k (drop b l.text)); place = l.place } in
         let z : r ≡ f = cc in
@@ -40,7 +41,7 @@ line_at s l f e y = go (field_lens l.text) refl e
           good = record { name = v.lower; value = v.trim };
         } in
         subst (LineAt s) z x
-    go field.Bad q g = let z : ◌≡◌ {A = ℕ} 0 1 = cc in absurd (omega arith)
+    go None q g = let z : ◌≡◌ {A = ℕ} 0 1 = cc in absurd (omega arith)
 
 -- the target's authority is empty, or names a host and stands right before the path
 abbrev pub TargetHost : Piece → PathRead → Type 0
@@ -50,8 +51,8 @@ pub record RequestAt (s : List ℕ) (q : RequestRead) : Type 0 where
   pub method : Lying s q.method
   pub path : Lying s q.path.own
   pub authority : Lying s q.authority
-  pub method_good : method_verdict q.method.text ≡ 0
-  pub path_good : path_verdict (is_options q.method.text) (path_octets q.path) ≡ 0
+  pub method_good : method_verdict q.method.text ≡ passed
+  pub path_good : path_verdict (is_options q.method.text) (path_octets q.path) ≡ passed
   pub target : TargetHost q.authority q.path
 
 target-host : (l : Piece) (a n : ℕ) (p : PathRead) → a + n ≤ length l.text
@@ -67,8 +68,10 @@ pub request-at : (s : List ℕ) (scheme : ℕ) (l : Piece) (q : RequestRead) →
 unfolding request_of
 request-at s scheme l q e y = go (request_lens scheme l.text) refl e
   where
-    go : (x : RequestLine) → request_lens scheme l.text ≡ x → on_request l x ≡ good q → RequestAt s q
-    go (request.Of m x) h g =
+    go : (x : Result RequestLine Refusal) → request_lens scheme l.text ≡ x → on_request l x ≡ good q → RequestAt s q
+    go (Ok k) h g =
+        let m : ℕ = k.method in
+        let x : Target = k.target in
         let v = request-view scheme l.text m x h in
         let p : PathRead = record { prefix = x.prefix; own = within l (m + 1 + x.start) x.len } in
         let r : RequestRead = record { method = piece l.place (take m l.text); path = p; authority = within l (m + 1 + x.host) x.hostlen } in
@@ -88,12 +91,12 @@ request-at s scheme l q e y = go (request_lens scheme l.text) refl e
             × (l.place + (m + 1 + x.host + x.hostlen) ≡ l.place + (m + 1 + x.start)))
         placed m x (inl f) = inl f
         placed m x (inr f) = inr (f.0, omega (arith, f.1))
-    go (request.Bad n) h g = let z : ◌≡◌ {A = ℕ} 0 1 = cc in absurd (omega arith)
+    go (Err n) h g = let z : ◌≡◌ {A = ℕ} 0 1 = cc in absurd (omega arith)
 
-pub status-good : (l : Piece) (n : ℕ) → status_of l ≡ good n → status_verdict n ≡ 0
+pub status-good : (l : Piece) (n : ℕ) → status_of l ≡ good n → status_verdict n ≡ passed
 unfolding status_of
 status-good l n e = go (status_lens l.text) refl e
   where
-    go : (x : StatusLine) → status_lens l.text ≡ x → on_status l x ≡ good n → status_verdict n ≡ 0
-    go (status.Of k) h g = let z : k ≡ n = cc in subst (λ (i : ℕ). status_verdict i ≡ 0) z (status-view l.text k h).good
-    go (status.Bad k) h g = cc
+    go : (x : Result ℕ Refusal) → status_lens l.text ≡ x → on_status l x ≡ good n → status_verdict n ≡ passed
+    go (Ok k) h g = let z : k ≡ n = cc in subst (λ (i : ℕ). status_verdict i ≡ passed) z (status-view l.text k h).good
+    go (Err k) h g = let z : ◌≡◌ {A = ℕ} 0 1 = cc in absurd (omega arith)

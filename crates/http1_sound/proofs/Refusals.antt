@@ -1,10 +1,10 @@
 -- What the two readers of HTTP/1.1 refuse with, and where.
+use Rattle.std.proofs.Common.{None, Option, Some, Err, Ok, Result}
 use Prim.Native.Nat.{ℕ, ◌-◌, zero, suc, ◌+◌, ◌≤◌}
 use mathlib.Core.Path.{◌≡◌, refl}
 use mathlib.Core.Bool.{Bool, true, false, cond}
 use mathlib.Core.List.{List, [], ◌∷◌, ◌++◌}
 use native.Mathlib.Omega.{arith}
-use borrow.Author.Tests.{eqb-false}
 use lib.Dec.{eqb, leb, ltb}
 use lib.ListN.{length, take, drop, length-append}
 use Rattle.octets.specs.Limits.{head_most, trailer_most, chunk_line_most, lines_most, chunks_most, content_most, informational_most, path_most}
@@ -18,30 +18,26 @@ use Rattle.messages.specs.declared.Told.{Told}
 use Rattle.messages.specs.Message.{FieldRead, InformationalRead, prefix_octets}
 use Rattle.messages.specs.Control.{method_verdict, path_verdict, status_verdict, is_informational, is_options, is_host}
 use Rattle.messages.specs.Names.{are_trailers}
-use Rattle.messages.specs.Rules.{authority_in, framing_of, request_body, nothing_stated, response_body, target_authority}
+use Rattle.messages.specs.Rules.{framing_of, request_body, nothing_stated, response_body, target_authority}
 use Rattle.messages.specs.Valid.{is_scheme}
 use Rattle.messages.specs.declared.Body.{Body}
 use Rattle.messages.specs.declared.Body.TheVariants.{Sized, InChunks, UntilClosed}
 use Rattle.http1_lines.specs.Lines.{version, request_parts, request_version, request_target, request_lens, on_request, request_of, status_at, status_version, is_status_shape, status_lens, on_status, status_of, on_target}
 use Rattle.http1_lines.specs.Lines.{field_lens, on_field, field_of, chunk_lens, on_chunk, chunk_of}
 use Rattle.http1_lines.specs.Read.{line_within, less, Lines, field_lines, section, trailer_section, chunk_data, chunks_from, content, after_head, request, read_request, ResponseCall, response_call, after_final, heads, heads_then, read_response}
-use Rattle.http1_lines.specs.declared.TargetRead.TheVariants as target
 use Rattle.http1_lines.specs.declared.RequestLine.{RequestLine}
-use Rattle.http1_lines.specs.declared.RequestLine.TheVariants as request
-use Rattle.http1_lines.specs.declared.StatusLine.{StatusLine}
-use Rattle.http1_lines.specs.declared.StatusLine.TheVariants as status
 use Rattle.http1_lines.specs.declared.FieldLine.{FieldLine}
-use Rattle.http1_lines.specs.declared.FieldLine.TheVariants as field
-use Rattle.http1_lines.specs.declared.ChunkLine.{ChunkLine}
-use Rattle.http1_lines.specs.declared.ChunkLine.TheVariants as chunk
 use Rattle.sound.specs.Placed.{Each}
 use Rattle.sound.specs.Refusal.{is_one_of, Refusal}
 use Rattle.sound.proofs.Each.{each_snoc}
-use Rattle.sound.proofs.Refusals.{Among, among, common_numbers, Common, status_numbers, method-verdict, path-verdict, status-verdict, not_good, NamedIn, framing-in, Refuses, refusal, target-judged, nothing-judged, request-judged, response-judged}
+use Rattle.sound.proofs.Refusals.{Among, among, common_numbers, Common, CommonVerdict, VerdictOf, status_numbers, method-verdict, path-verdict, status-verdict, NamedIn, framing-in, Refuses, refusal, target-judged, nothing-judged, request-judged, response-judged}
 use Rattle.http1_sound.specs.Read.{request_numbers, response_numbers, RequestsRefused, ResponsesRefused}
-use Rattle.http1_lines.specs.declared.TargetRead.{TargetRead}
-use Rattle.http1_lines.specs.Target.{absolute_target, target_of, absolute_path, plain_target, scheme_len, is_before_path, scheme_number, prefix_of}
+use Rattle.http1_lines.specs.Target.{absolute_target, target_of, absolute_path, plain_target, scheme_len, is_before_path, scheme_number, prefix_of, path_alone}
 use Rattle.octets.specs.Class.{has_class, path}
+use Rattle.octets.specs.declared.Refusal.{Refusal as Reason}
+use Rattle.octets.specs.Refusals.{refusal_number}
+use Rattle.messages.specs.Control.{Verdict, behind}
+use Rattle.http1_lines.specs.declared.Target.{Target}
 
 -- the numbers that both readers have
 request-wide : Among common_numbers request_numbers
@@ -59,9 +55,9 @@ status_line_numbers = bad_syntax ∷ bad_version ∷ status_numbers
 
 -- ---- lines
 
-abbrev OfRequest : RequestLine → Type 0
-OfRequest (request.Of m p) = Unit {0}
-OfRequest (request.Bad n) = is_one_of request_line_numbers n ≡ true
+abbrev OfRequest : Result RequestLine Reason → Type 0
+OfRequest (Ok q) = Unit {0}
+OfRequest (Err r) = is_one_of request_line_numbers (refusal_number r) ≡ true
 
 common-line : Among common_numbers request_line_numbers
 common-line = among common_numbers request_line_numbers (refl, (refl, (refl, (refl, tt))))
@@ -69,9 +65,9 @@ common-line = among common_numbers request_line_numbers (refl, (refl, (refl, (re
 syntax-number : Common bad_syntax
 syntax-number = refl
 
-abbrev OfTarget : TargetRead → Type 0
-OfTarget (target.Of x) = Unit {0}
-OfTarget (target.Bad n) = is_one_of request_line_numbers n ≡ true
+abbrev OfTarget : Result Target Reason → Type 0
+OfTarget (Ok x) = Unit {0}
+OfTarget (Err r) = is_one_of request_line_numbers (refusal_number r) ≡ true
 
 absolute-path : (scheme : ℕ) (options : Bool) (w : List ℕ) (k e : ℕ) → OfTarget (absolute_path scheme options w k e)
 unfolding absolute_path
@@ -95,20 +91,26 @@ unfolding target_of plain_target
 any_target scheme options w =
     either OfTarget (eqb (scheme_len w) 0) _ _
     (λ a.
-    either OfTarget (eqb (path_verdict options w) 0) _ _ (λ b. tt)
-    (λ b. common-line.has (path_verdict options w) (not_good common_numbers (path-verdict options w) (eqb-false (path_verdict options w) 0 b))))
+    alone (path_verdict options w) (path-verdict options w) (path_alone (length w)))
     (λ a. absolute-target scheme options w (scheme_len w))
+  where
+    alone : (v : Verdict) → CommonVerdict v → (x : Target) → OfTarget (behind v (Ok x))
+    alone (Ok u) h x = tt
+    alone (Err r) h x = common-line.has (refusal_number r) h
 
-on-target : (m : ℕ) (x : TargetRead) → OfTarget x → OfRequest (on_target m x)
-on-target m (target.Of x) h = tt
-on-target m (target.Bad n) h = h
+on-target : (m : ℕ) (x : Result Target Reason) → OfTarget x → OfRequest (on_target m x)
+on-target m (Ok x) h = tt
+on-target m (Err n) h = h
 
 request-parts : (scheme : ℕ) (w : List ℕ) (m p : ℕ) → OfRequest (request_parts scheme w m p)
 unfolding request_parts
 request-parts scheme w m p =
-    either OfRequest (eqb (method_verdict (take m w)) 0) _ _
-    (λ a. on-target m (target_of scheme (is_options (take m w)) (take p (drop (m + 1) w))) (any_target scheme (is_options (take m w)) (take p (drop (m + 1) w))))
-    (λ a. common-line.has (method_verdict (take m w)) (not_good common_numbers (method-verdict (take m w)) (eqb-false (method_verdict (take m w)) 0 a)))
+    on (method_verdict (take m w)) (method-verdict (take m w)) _
+    (on-target m (target_of scheme (is_options (take m w)) (take p (drop (m + 1) w))) (any_target scheme (is_options (take m w)) (take p (drop (m + 1) w))))
+  where
+    on : (v : Verdict) → CommonVerdict v → (x : Result RequestLine Reason) → OfRequest x → OfRequest (behind v x)
+    on (Ok u) h x g = g
+    on (Err r) h x g = common-line.has (refusal_number r) h
 
 request-version : (scheme : ℕ) (w : List ℕ) (m e : ℕ) → OfRequest (request_version scheme w m e)
 unfolding request_version
@@ -123,9 +125,9 @@ request-lens scheme w =
     either OfRequest (leb (length w) (span_len (is_other 32) w)) _ _ (λ a. refl)
     (λ a. either OfRequest (leb (length w) _) _ _ (λ b. refl) (λ b. request-version scheme w _ _))
 
-abbrev OfStatus : StatusLine → Type 0
-OfStatus (status.Of n) = Unit {0}
-OfStatus (status.Bad n) = is_one_of status_line_numbers n ≡ true
+abbrev OfStatus : Result ℕ Reason → Type 0
+OfStatus (Ok n) = Unit {0}
+OfStatus (Err r) = is_one_of status_line_numbers (refusal_number r) ≡ true
 
 status-in-line : Among status_numbers status_line_numbers
 status-in-line = among status_numbers status_line_numbers (refl, (refl, tt))
@@ -137,28 +139,30 @@ status-lens w =
     either OfStatus (is_status_shape w v) _ _
     (λ a.
     either OfStatus (same_text (take v w) version) _ _
-    (λ b.
-    either OfStatus (eqb (status_verdict (status_at w (v + 1))) 0) _ _ (λ c. tt)
-    (λ c. status-in-line.has (status_verdict (status_at w (v + 1))) (not_good status_numbers (status-verdict (status_at w (v + 1))) (eqb-false (status_verdict (status_at w (v + 1))) 0 c))))
+    (λ b. on (status_verdict (status_at w (v + 1))) (status-verdict (status_at w (v + 1))) (status_at w (v + 1)))
     (λ b. refl))
     (λ a. refl)
+  where
+    on : (v : Verdict) → VerdictOf status_numbers v → (n : ℕ) → OfStatus (behind v (Ok n))
+    on (Ok u) h n = tt
+    on (Err r) h n = status-in-line.has (refusal_number r) h
 
 module _ (s : List ℕ) (l : Piece) (i : l.place ≤ length s) where
   request-line : (scheme : ℕ) → Refuses request_numbers s (request_of scheme l)
   unfolding request_of
   request-line scheme = on (request_lens scheme l.text) (request-lens scheme l.text)
     where
-      on : (x : RequestLine) → OfRequest x → Refuses request_numbers s (on_request l x)
-      on (request.Of m p) h = tt
-      on (request.Bad n) h = record { of_form = (among request_line_numbers request_numbers (refl, (refl, (refl, (refl, (refl, (refl, (refl, tt)))))))).has n h; inside = i }
+      on : (x : Result RequestLine Reason) → OfRequest x → Refuses request_numbers s (on_request l x)
+      on (Ok q) h = tt
+      on (Err r) h = record { of_form = (among request_line_numbers request_numbers (refl, (refl, (refl, (refl, (refl, (refl, (refl, tt)))))))).has (refusal_number r) h; inside = i }
 
   status-line : Refuses response_numbers s (status_of l)
   unfolding status_of
   status-line = on (status_lens l.text) (status-lens l.text)
     where
-      on : (x : StatusLine) → OfStatus x → Refuses response_numbers s (on_status l x)
-      on (status.Of n) h = tt
-      on (status.Bad n) h = record { of_form = (among status_line_numbers response_numbers (refl, (refl, (refl, (refl, tt))))).has n h; inside = i }
+      on : (x : Result ℕ Reason) → OfStatus x → Refuses response_numbers s (on_status l x)
+      on (Ok n) h = tt
+      on (Err r) h = record { of_form = (among status_line_numbers response_numbers (refl, (refl, (refl, (refl, tt))))).has (refusal_number r) h; inside = i }
 
 -- ---- what both readers read alike, whatever the numbers
 
@@ -176,17 +180,17 @@ module _ {ns : List ℕ} (wide : Among common_numbers ns) (s : List ℕ) (l : Pi
   unfolding field_of
   field-line = on (field_lens l.text)
     where
-      on : (x : FieldLine) → Judges (Refusal ns s) (NamedIn (length s)) (on_field l x)
-      on (field.Of n b e) = i
-      on field.Bad = at_place wide syntax-number i
+      on : (x : Option FieldLine) → Judges (Refusal ns s) (NamedIn (length s)) (on_field l x)
+      on (Some f) = i
+      on None = at_place wide syntax-number i
 
   chunk-line : Refuses ns s (chunk_of l)
   unfolding chunk_of
   chunk-line = on (chunk_lens l.text)
     where
-      on : (x : ChunkLine) → Refuses ns s (on_chunk l x)
-      on (chunk.Of n) = tt
-      on chunk.Bad = at_place wide syntax-number i
+      on : (x : Option ℕ) → Refuses ns s (on_chunk l x)
+      on (Some n) = tt
+      on None = at_place wide syntax-number i
 
   chunk-data : (n : ℕ) → l.place + n ≤ length s → Refuses ns s (chunk_data n l)
   unfolding chunk_data

@@ -7,6 +7,7 @@ use native.Mathlib.Omega.{arith}
 use borrow.Author.Tests.{eq-eqb, leb-true, ne_eqb}
 use lib.Dec.{leb, eqb}
 use lib.ListN.{length}
+use Rattle.std.proofs.Common.{Option, Some, None}
 use Rattle.octets.specs.Limits.{lines_most, content_most}
 use Rattle.octets.specs.Refusals.{too_large, bad_host}
 use Rattle.octets.specs.Text.{is_empty}
@@ -21,8 +22,6 @@ use Rattle.messages.specs.Meaning.{Informational, response, Meaning, field_means
 use Rattle.messages.specs.Valid.{valid_body, valid_stated}
 use Rattle.messages.specs.declared.Body.{Body}
 use Rattle.messages.specs.declared.Body.TheVariants.{Sized, InChunks, UntilClosed}
-use Rattle.messages.specs.declared.Ending.{Ending}
-use Rattle.messages.specs.declared.Ending.TheVariants.{Open, Closed}
 use Rattle.messages.specs.declared.Framing.{Framing}
 use Rattle.messages.specs.declared.Framing.TheVariants.{Unstated, Stated, Chunked, Clashing}
 use Rattle.messages.specs.declared.Kind.TheVariants as kind
@@ -107,13 +106,13 @@ request-framed end Chunked b e =
     subst (Framed Chunked) z x
 request-framed end Clashing b e = let z : ◌≡◌ {A = ℕ} 0 1 = cc in absurd (omega arith)
 
-unmeasured-framed : (e : Ending) (end : ℕ) (b : Body) → unmeasured_body e end ≡ good b → Framed Unstated b
+unmeasured-framed : (e : Option ℕ) (end : ℕ) (b : Body) → unmeasured_body e end ≡ good b → Framed Unstated b
 unfolding unmeasured_body
-unmeasured-framed Open end b g =
+unmeasured-framed None end b g =
     let z : UntilClosed ≡ b = cc in
     let x : Framed Unstated UntilClosed = record { fits = tt; stated = λ c h. refl } in
     subst (Framed Unstated) z x
-unmeasured-framed (Closed n) end b g = go (leb (n - end) content_most) refl g
+unmeasured-framed (Some n) end b g = go (leb (n - end) content_most) refl g
   where
     go : (t : Bool) → leb (n - end) content_most ≡ t → cond t (good (Sized (n - end))) (wrong too_large end) ≡ good b → Framed Unstated b
     go true q h =
@@ -135,11 +134,11 @@ module _ (t : Told) (long end to : ℕ) (b : Body) (c : Content) (fills : Fills 
           omega (arith, r)
       sized false g = let z : ◌≡◌ {A = ℕ} 0 1 = cc in absurd (omega arith)
 
-      on : (x : Bool) → unmeasured_body (cond x (Closed long) Open) end ≡ good b → (x ≡ true) × (to ≡ long)
+      on : (x : Bool) → unmeasured_body (cond x (Some long) None) end ≡ good b → (x ≡ true) × (to ≡ long)
       on true g = (refl, sized (leb (long - end) content_most) g)
       on false g = let z : b ≡ UntilClosed = cc in absurd (subst (λ (y : Body). Fills y c) z fills)
 
-content-framed : (x : Ending) (end : ℕ) (f : Framing) (b : Body) → content_body x end f ≡ good b → Framed f b
+content-framed : (x : Option ℕ) (end : ℕ) (f : Framing) (b : Body) → content_body x end f ≡ good b → Framed f b
 unfolding content_body
 content-framed x end Unstated b e = unmeasured-framed x end b e
 content-framed x end (Stated n p) b e = request-framed end (Stated n p) b e
@@ -153,7 +152,7 @@ empty-body true c h = refl
 empty-body false c h = rw (eq-eqb (length (content_of c.chunks)) 0 h.0, h.1)
 
 -- a body that the rule of responses lets through, told t, where the stream ends at x, behind the head of a status n that ends at `end`
-pub record ResponseFramed (t : Told) (x : Ending) (n end : ℕ) (f : Framing) (b : Body) : Type 0 where
+pub record ResponseFramed (t : Told) (x : Option ℕ) (n end : ℕ) (f : Framing) (b : Body) : Type 0 where
   pub fits : Fits b
   pub once : is_clashing f ≡ false
   pub none : eqb n 204 ≡ true → f ≡ Unstated
@@ -167,7 +166,7 @@ pub record ResponseFramed (t : Told) (x : Ending) (n end : ℕ) (f : Framing) (b
   -- and where it states nothing, the content ends with the stream
   pub unmeasured : ends_at_head t n ≡ false → f ≡ Unstated → unmeasured_body x end ≡ good b
 
-content-once : (x : Ending) (end : ℕ) (f : Framing) (b : Body) → content_body x end f ≡ good b → is_clashing f ≡ false
+content-once : (x : Option ℕ) (end : ℕ) (f : Framing) (b : Body) → content_body x end f ≡ good b → is_clashing f ≡ false
 unfolding content_body request_body
 content-once x end Unstated b e = refl
 content-once x end (Stated n p) b e = refl
@@ -177,11 +176,11 @@ content-once x end Clashing b e = let z : ◌≡◌ {A = ℕ} 0 1 = cc in absurd
 no_both : {A : Type 0} {x : Bool} → x ≡ true → x ≡ false → A
 no_both p q = let z : ◌≡◌ {A = ℕ} 0 1 = cc in absurd (omega arith)
 
-content-unmeasured : (x : Ending) (end : ℕ) (f : Framing) (b : Body) → content_body x end f ≡ good b → f ≡ Unstated → unmeasured_body x end ≡ good b
+content-unmeasured : (x : Option ℕ) (end : ℕ) (f : Framing) (b : Body) → content_body x end f ≡ good b → f ≡ Unstated → unmeasured_body x end ≡ good b
 unfolding content_body
 content-unmeasured x end f b e q = rw q at e
 
-pub response-framed : (t : Told) (x : Ending) (n end : ℕ) (f : Framing) (b : Body) → response_body t x n end f ≡ good b → ResponseFramed t x n end f b
+pub response-framed : (t : Told) (x : Option ℕ) (n end : ℕ) (f : Framing) (b : Body) → response_body t x n end f ≡ good b → ResponseFramed t x n end f b
 unfolding response_body
 response-framed t x n end f b e = go (ends_at_head t n) refl e
   where

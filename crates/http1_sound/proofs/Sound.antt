@@ -7,6 +7,7 @@ use native.Mathlib.Omega.{arith}
 use borrow.Author.Tests.{leb-false}
 use lib.Dec.{leb}
 use lib.ListN.{length, length-map}
+use Rattle.std.proofs.Common.{Option}
 use Rattle.octets.specs.Limits.{head_most, lines_most, informational_most}
 use Rattle.octets.specs.Refusals.{not_supported, too_large}
 use Rattle.script.specs.Script.{accepted, refused, Script, stop, run, Every}
@@ -16,14 +17,12 @@ use Rattle.script.proofs.Sound.{says, sound-all}
 use Rattle.messages.specs.Told.{is_yes, answering, closing}
 use Rattle.messages.specs.declared.Told.{Told}
 use Rattle.messages.specs.Message.{InformationalRead, request_start, response_start, Message, plain_message, stating_message, FieldRead, path_octets}
-use Rattle.messages.specs.Control.{status_verdict, is_informational, is_bodyless, ends_at_head, is_host}
+use Rattle.messages.specs.Control.{status_verdict, is_informational, is_bodyless, ends_at_head, is_host, passed}
 use Rattle.messages.specs.Names.{kept, kept_trailers, lines_of}
-use Rattle.messages.specs.Rules.{authority_in, framing_of, request_body, nothing_stated, response_body, length_in, stated_in, target_authority}
+use Rattle.messages.specs.Rules.{framing_of, request_body, nothing_stated, response_body, length_in, stated_in, target_authority}
 use Rattle.messages.specs.Meaning.{field_means, content_of, meaning}
 use Rattle.messages.specs.Valid.{is_scheme, valid_body, valid_stated, suits}
 use Rattle.messages.specs.declared.Body.{Body}
-use Rattle.messages.specs.declared.Ending.{Ending}
-use Rattle.messages.specs.declared.StatedLength.{StatedLength}
 use Rattle.messages.specs.declared.Kind.TheVariants as kind
 use Rattle.http1_lines.specs.Lines.{RequestRead, request_of, status_of}
 use Rattle.http1_lines.specs.Read.{line_within, less, Lines, section, Content, content, after_head, request, read_request, ResponseCall, response_call, after_final, heads, heads_then, read_response}
@@ -133,7 +132,7 @@ record ResponseTail (t : Told) (hs : List InformationalRead) (n : ℕ) (h : Line
   valid : valid_stated (stated_in t n (framing_of h.lines)) (meaning (response_message t hs n h c)) ≡ true
 
 response-tail : (t : Told) (hs : List InformationalRead) (n : ℕ) (h : Lines) (b : Body) (c : Content) → length h.lines ≤ lines_most
-    → {e : Ending} → ResponseFramed t e n h.end (framing_of h.lines) b → Fills b c → ResponseTail t hs n h c
+    → {e : Option ℕ} → ResponseFramed t e n h.end (framing_of h.lines) b → Fills b c → ResponseTail t hs n h c
 unfolding suits meaning stated_in valid_body
 response-tail t hs n h b c few f y = go (ends_at_head t n) refl
   where
@@ -143,13 +142,13 @@ response-tail t hs n h b c few f y = go (ends_at_head t n) refl
       suits = rw q (f.empty q false c y);
       valid =
           let z : stated_in t n (framing_of h.lines) ≡ length_in (framing_of h.lines) = rw q in
-          ap (λ (x : StatedLength). valid_stated x (meaning (response_message t hs n h c))) z
+          ap (λ (x : Option ℕ). valid_stated x (meaning (response_message t hs n h c))) z
           ∙ f.valid q _ (meaning (response_message t hs n h c)) refl (f.empty q false c y) λ k p e.
           rw (length-map (kept true h.lines) field_means) (stated-few true h.lines few k p e);
     }
     go false q = record { body = rw (content-status t n q); suits = rw q; valid = rw q (none-stated _) }
 
-response-parts : (s : List ℕ) (t : Told) (hs : List InformationalRead) (n : ℕ) (h : Lines) (c : Content) → HeadsAt s hs → status_verdict n ≡ 0
+response-parts : (s : List ℕ) (t : Told) (hs : List InformationalRead) (n : ℕ) (h : Lines) (c : Content) → HeadsAt s hs → status_verdict n ≡ passed
     → is_informational n ≡ false → SectionAt s h.lines → ContentAt s c → ResponseTail t hs n h c → PartsAt s (response_message t hs n h c)
 response-parts s t hs n h c a v i k x y = record {
   control = response-valid s hs n a v i;
@@ -178,7 +177,7 @@ module _ (s : List ℕ) (t : Told) where
   abbrev call : ResponseCall
   call = response_call t (length s)
 
-  every-final : (at : ℕ) (hs : List InformationalRead) (n : ℕ) (h : Lines) → HeadsAt s hs → status_verdict n ≡ 0 → is_informational n ≡ false
+  every-final : (at : ℕ) (hs : List InformationalRead) (n : ℕ) (h : Lines) → HeadsAt s hs → status_verdict n ≡ passed → is_informational n ≡ false
       → SectionRead s at h → Every s (ResponseEnd t s) at (after_final call hs n h)
   unfolding after_final
   every-final at hs n h a v i k =
@@ -208,7 +207,7 @@ module _ (s : List ℕ) (t : Told) where
       pick (less left (piece at w)) _ n (status-good (piece at w) n e) (is_informational n) refl (leb informational_most (length hs)) refl
       (λ i h l b. every-heads f i (hs ++ h ∷ []) l b))
     where
-      pick : (l i n : ℕ) → status_verdict n ≡ 0 → (b : Bool) → is_informational n ≡ b → (c : Bool) → leb informational_most (length hs) ≡ c
+      pick : (l i n : ℕ) → status_verdict n ≡ passed → (b : Bool) → is_informational n ≡ b → (c : Bool) → leb informational_most (length hs) ≡ c
           → ((j : ℕ) (h : InformationalRead) (k : ℕ) → HeadsAt s (hs ++ h ∷ []) → Every s (ResponseEnd t s) j (heads call f (hs ++ h ∷ []) k))
           → Every s (ResponseEnd t s) i
           (cond b

@@ -4,7 +4,8 @@ use Rattle.script.specs.Script.{Answer, accepted, refused, Settled}
 use Rattle.stream.specs.Taking.{Taken, message, waits, stops, take_off, resume}
 use Rattle.messages.specs.Message.{Message}
 use Rattle.messages.specs.Answers.{reading_of}
-use Rattle.messages.specs.declared.Outcome.TheVariants as outcome
+use Rattle.std.specs.Prelude.{Err}
+use Rattle.messages.specs.declared.Stop.{Stop}
 use Rattle.messages.specs.declared.Reading.{Reading}
 
 -- the answers of a stream that is taken off message by message, ranges included, save a closing call for more octets
@@ -23,7 +24,7 @@ pub record Front (read : List ℕ → Answer Message) : Type 0 where
   -- an answer that does not ask for more octets stays, whatever octets come behind
   pub stays : (s u : List ℕ) → Settled (read s) → read (s ++ u) ≡ read s
   -- the same of what a call answers with: outcome, length, refusal, place and ranges
-  pub reading : (s u : List ℕ) → ((reading_of (read s)).outcome ≡ outcome.More → ⊥) → reading_of (read (s ++ u)) ≡ reading_of (read s)
+  pub reading : (s u : List ℕ) → ((reading_of (read s)).outcome ≡ Err Stop.More → ⊥) → reading_of (read (s ++ u)) ≡ reading_of (read s)
   -- an accepted message is not empty, and lies within the stream
   pub within : (s : List ℕ) (n : ℕ) (m : Message) → read s ≡ accepted n m → (0 < n) × (n ≤ length s)
   -- taking off what has come, and then the rest, is taking off the whole

@@ -8,6 +8,7 @@ use native.Mathlib.Omega.{arith}
 use borrow.Author.Tests.{ne_eqb}
 use lib.Dec.{eqb, leb}
 use lib.ListN.{length, length-append}
+use Rattle.std.proofs.Common.{Option}
 use Rattle.octets.specs.Text.{is_empty}
 use Rattle.octets.specs.Limits.{head_most, lines_most, trailer_most}
 use Rattle.octets.specs.Refusals.{too_large, other_scheme}
@@ -19,7 +20,6 @@ use Rattle.messages.specs.Control.{ends_at_head}
 use Rattle.messages.specs.Meaning.{Field, content_of}
 use Rattle.messages.specs.Valid.{no_fields}
 use Rattle.ranges.specs.Entries.{fields_in, chunks_in, heads_in, part_in, control_in, fields_before, meaning_in, fields_named, path_in, path_size}
-use Rattle.messages.specs.declared.StatedLength.{StatedLength}
 use Rattle.messages.specs.declared.Told.{Told}
 use Rattle.http1_writer.specs.declared.LengthLine.{LengthLine}
 use Rattle.http1_writer.specs.Write.{field_text, section_text, request_line, status_line, informational_text, host_field, unmeasured, line_for, length_line, length_fields, host_line, head_lines, start_text, head_text, body_text, http1_of, http1_fits, on_connection, to_http1, is_silent}
@@ -45,7 +45,7 @@ module _ (s fs : List ℕ) where
 
 -- ---- the head
 
-lines_same : {a a' b b' : Bool} (x : StatedLength) {n n' : ℕ} → a ≡ a' → b ≡ b' → n ≡ n' → line_for a b x n ≡ line_for a' b' x n'
+lines_same : {a a' b b' : Bool} (x : Option ℕ) {n n' : ℕ} → a ≡ a' → b ≡ b' → n ≡ n' → line_for a b x n ≡ line_for a' b' x n'
 lines_same x p q e = cc
 
 module _ (s : List ℕ) (r : Record) (hs ns : List ℕ) where

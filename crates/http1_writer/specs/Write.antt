@@ -1,13 +1,11 @@
 -- A meaning as HTTP/1.1 (01, "How we write"), and whether it may be written ("Sizes"; 14, then 8 at 0: "Numbers a call answers with";
 -- 02, items 5 and 9).
-use Rattle.std.specs.Prelude.{ℕ, Bool, true, false, cond, ◌&&◌, List, [], ◌∷◌, ◌++◌, leb, eqb, length}
+use Rattle.std.specs.Prelude.{ℕ, Bool, true, false, cond, ◌&&◌, List, [], ◌∷◌, ◌++◌, leb, eqb, length, Option, Some, None}
 use Rattle.octets.specs.Ascii.{ascii}
 use Rattle.octets.specs.Text.{same_text, is_empty}
 use Rattle.octets.specs.Limits.{head_most, trailer_most, lines_most}
 use Rattle.octets.specs.Refusals.{too_large, other_scheme}
 use Rattle.numbers.specs.Digits.{digits}
-use Rattle.messages.specs.declared.StatedLength.{StatedLength}
-use Rattle.messages.specs.declared.StatedLength.TheVariants.{Missing, Of}
 use Rattle.messages.specs.declared.Told.{Told}
 use Rattle.messages.specs.Told.{is_yes}
 use Rattle.messages.specs.Control.{ends_at_head}
@@ -65,12 +63,12 @@ unmeasured t (request m s a p) content = cond (is_empty content) (is_silent t m)
 unmeasured t (response hs s) content = ends_at_head t s
 
 -- the length line of a stated length: none where it is missing
-abbrev pub stated_line : StatedLength → LengthLine
-stated_line Missing = Nothing
-stated_line (Of n) = Length n
+abbrev pub stated_line : Option ℕ → LengthLine
+stated_line None = Nothing
+stated_line (Some n) = Length n
 
 -- which length line: chunked where trailers are kept; else the stated length's where none is of the content, and else that of the content, n octets
-abbrev pub line_for : Bool → Bool → StatedLength → ℕ → LengthLine
+abbrev pub line_for : Bool → Bool → Option ℕ → ℕ → LengthLine
 line_for plain without stated n = cond plain (cond without (stated_line stated) (Length n)) Chunked
 
 -- the length line of a meaning

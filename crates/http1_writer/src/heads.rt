@@ -56,15 +56,13 @@ fn put_heads(out: &mut [u8], at: usize, s: &[u8], fields: &[u32], heads: &[u32],
         (informational_text (heads_in s.now fields.now heads.now 0 n))
         (heads_size fields.now heads.now 0 n) out.new result }
 {
-    let mut i = 0;
     let mut k = 0;
     let mut a = at;
-    while i < n {
+    for i in 0..n {
         let status = number_at(heads, i * 2);
         let count = number_at(heads, i * 2 + 1);
         a = put_informational(out, a, s, fields, status, k, count);
         k += count;
-        i += 1;
     }
     a
 }
@@ -74,15 +72,13 @@ fn heads_size(fields: &[u32], heads: &[u32], n: usize) -> usize
     requires { HeadsCounted fields.now heads.now n }
     ensures { (result ≡ heads_size fields.now heads.now 0 n) × (result ≤ heads_bound) }
 {
-    let mut i = 0;
     let mut k = 0;
     let mut size = 0;
-    while i < n {
+    for i in 0..n {
         let status = number_at(heads, i * 2);
         let count = number_at(heads, i * 2 + 1);
         size += status_size(status) + section_size(fields, k, count);
         k += count;
-        i += 1;
     }
     size
 }

@@ -8,18 +8,18 @@ ghost use Rattle.http1_writer.specs.Numbered.{unmeasured_in, length_line_in, len
 use crate::LengthLine;
 use messages::call::is_yes;
 use messages::parts::ends_at_head;
-use messages::{Record, StatedLength, Told};
+use messages::{Record, Told};
 use numbers::digit_count;
 use octets::equal;
 use output::{put_decimal, put_text};
 
 // The length line of a stated length.
-fn stated_line(stated: StatedLength) -> LengthLine
+fn stated_line(stated: Option<usize>) -> LengthLine
     ensures { result ≡ stated_line stated }
 {
     match stated {
-        StatedLength::Missing => LengthLine::Nothing,
-        StatedLength::Of(n) => LengthLine::Length(n),
+        None => LengthLine::Nothing,
+        Some(n) => LengthLine::Length(n),
     }
 }
 

@@ -28,7 +28,7 @@ use fitting::{is_connected, sizes_fit};
 use heads::{measure_head, put_head};
 use lengths::length_line;
 use messages::{Record, Told};
-use octets::Refusals;
+use octets::Refusal;
 use output::Written;
 
 // A message within the sizes, with this length line, whose heads are of so many octets; 13 at 0 where there is no room for it.
@@ -51,14 +51,11 @@ fn put_message(
 {
     let size = head + body_size(r.content, trailers, r.trailers);
     if out.len() < size {
-        return Written::Refused {
-            number: Refusals::NO_ROOM,
-            place: 0,
-        };
+        return Err(Refusal::NoRoom.at(0));
     }
     let a = put_head(out, 0, s, r, line, headers, heads);
     let b = put_body(out, a, s, chunks, r.chunks, r.content, trailers, r.trailers);
-    Written::Done(b)
+    Ok(b)
 }
 
 // The message that the numbers name, on the connection told.
@@ -83,15 +80,9 @@ fn write_named(
         if sizes_fit(head, r, line, trailers) {
             return put_message(s, r, line, headers, heads, chunks, trailers, head, out);
         }
-        return Written::Refused {
-            number: Refusals::TOO_LARGE,
-            place: 0,
-        };
+        return Err(Refusal::TooLarge.at(0));
     }
-    Written::Refused {
-        number: Refusals::OTHER_SCHEME,
-        place: 0,
-    }
+    Err(Refusal::OtherScheme.at(0))
 }
 
 // An accepted message, by its record and its ranges in the source that it was read from, as HTTP/1.1: 14 at 0 where a request's scheme is not the

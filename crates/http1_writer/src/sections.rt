@@ -35,11 +35,9 @@ pub(crate) fn put_section(
     ensures { Put out.old at
         (section_text (fields_named s.now fields.now k n)) (section_size fields.now k n) out.new result }
 {
-    let mut i = 0;
     let mut a = at;
-    while i < n {
+    for i in 0..n {
         a = put_line(out, a, s, fields, k + i);
-        i += 1;
     }
     put_text(out, a, b"\r\n")
 }
@@ -49,12 +47,10 @@ pub(crate) fn section_size(fields: &[u32], k: usize, n: usize) -> usize
     requires { ((k + n) * 4 ≤ length fields.now) × (n ≤ lines_most) }
     ensures { (result ≡ section_size fields.now k n) × (result ≤ section_bound) }
 {
-    let mut i = 0;
     let mut size = 2;
-    while i < n {
+    for i in 0..n {
         let j = (k + i) * 4;
         size += number_at(fields, j + 1) + number_at(fields, j + 3) + 4;
-        i += 1;
     }
     size
 }

@@ -10,14 +10,13 @@ use borrow.Author.Tests.{lt-leb, leb-true}
 use lib.Dec.{leb}
 use lib.ListN.{length, length-append, take, drop}
 use lib.Seq.{length-take-le, take-length, take_at}
-use Rattle.std.proofs.Common.{Option, None, Some, IfSome}
+use Rattle.std.proofs.Common.{Option, None, Some, IfSome, Ok, Err}
 use Rattle.std.specs.Io.KnownBytes.{Appends, Consumes, IsAtEnd}
 use Rattle.octets.specs.Limits.{listing_most}
-use Rattle.octets.specs.Refusals.{no_room}
+use Rattle.octets.specs.Refusals.{no_room, refused_at}
 use Rattle.octets.proofs.Kit.{split}
 use Rattle.output.specs.Splice.{splice}
 use Rattle.output.specs.Reply.{writes, written_of, lent_after}
-use Rattle.output.specs.declared.Written.TheVariants.{Done, Refused}
 use Rattle.output.proofs.Laws.{splice-is}
 use Rattle.listing.specs.Listing.{listing_of}
 use Rattle.lister.specs.Printed.{printed_of, buffer_size, printed}
@@ -51,7 +50,7 @@ unfolding written_of lent_after
 lent-printed bs o = on (leb (length bs) (length o)) refl
   where
     on : (b : Bool) → leb (length bs) (length o) ≡ b
-        → take (printed_of (cond b (Done (length bs)) (Refused no_room 0))) (cond b (splice o 0 bs) o) ≡ take (printed_of (cond b (Done (length bs)) (Refused no_room 0))) bs
+        → take (printed_of (cond b (Ok (length bs)) (Err (refused_at no_room 0)))) (cond b (splice o 0 bs) o) ≡ take (printed_of (cond b (Ok (length bs)) (Err (refused_at no_room 0)))) bs
     on true e =
         let i = splice-is o 0 bs (omega (arith, leb-true (length bs) (length o) e)) in
         ap (take (length bs)) i ∙ take_at bs (drop (0 + length bs) o) (length bs) refl ∙ sym (take-length bs)

@@ -1,14 +1,12 @@
 -- What the listing program prints (01, "Examples": the listing program): what the listing wrote, and nothing where it did not fit.
-use Rattle.std.specs.Prelude.{ℕ, List, take}
-use Rattle.output.specs.Reply.{writes, written_of}
-use Rattle.output.specs.declared.Written.{Written}
-use Rattle.output.specs.declared.Written.TheVariants.{Done, Refused}
+use Rattle.std.specs.Prelude.{ℕ, List, take, Ok, Err}
+use Rattle.output.specs.Reply.{writes, written_of, Written}
 use Rattle.listing.specs.Listing.{listing_of}
 
 -- how many of the lent octets are printed
 abbrev pub printed_of : Written → ℕ
-printed_of (Done n) = n
-printed_of (Refused number place) = 0
+printed_of (Ok n) = n
+printed_of (Err e) = 0
 
 -- the octets of the program's buffer
 abbrev pub buffer_size : ℕ

@@ -8,7 +8,6 @@ ghost use Rattle.listing.specs.Listing.{listing_of};
 ghost use Rattle.lister.specs.Printed.{printed_of, printed};
 
 use listing::listing;
-use output::Written;
 use reading::read_full;
 use std::io;
 use std::io::{Read, Write};
@@ -19,13 +18,9 @@ fn fill(stream: &[u8], out: &mut [u8]) -> usize
     ensures value { result ≡ printed_of (written_of (writes (listing_of stream.now)) (length out.old)) }
     ensures out_after { out.new ≡ lent_after (writes (listing_of stream.now)) out.old }
 {
-    let w = listing(stream, out);
-    match w {
-        Written::Refused {
-            number: _,
-            place: _,
-        } => return 0,
-        Written::Done(n) => return n,
+    match listing(stream, out) {
+        Ok(n) => n,
+        Err(_) => 0,
     }
 }
 

@@ -2,13 +2,13 @@
 use Prim.Native.Nat.{ℕ, ◌+◌, ◌-◌, ◌<◌, ◌≤◌}
 use mathlib.Core.Path.{◌≡◌, refl, sym, ap, subst, ◌∙◌}
 use mathlib.Core.Bool.{Bool, true, false, cond}
-use mathlib.Core.List.{List, [], ◌∷◌, ◌++◌, map}
+use mathlib.Core.List.{List, [], ◌++◌, map}
 use native.Mathlib.Omega.{arith}
 use borrow.Author.Tests.{ne_eqb, le-leb, lt-leb, leb-true}
-use lib.Dec.{eqb, leb}
+use lib.Dec.{leb}
 use lib.Seq.{drop-drop}
 use lib.ListN.{length, take, drop, length-append, length-drop, length-map, drop_of_length-le}
-use Rattle.octets.specs.Refusals.{more_needed, too_large, no_room}
+use Rattle.octets.specs.Refusals.{more_needed, too_large, no_room, refused_at}
 use Rattle.octets.specs.Limits.{listing_most}
 use Rattle.octets.specs.Text.{is_empty}
 use Rattle.octets.proofs.Texts.{part-all}
@@ -19,36 +19,33 @@ use Rattle.messages.specs.Meaning.{field_means, content_of, meaning}
 use Rattle.messages.specs.Answers.{record_from, record_of}
 use Rattle.messages.specs.Valid.{is_scheme}
 use Rattle.messages.specs.declared.Record.{Record}
-use Rattle.messages.specs.declared.Outcome.{Outcome}
-use Rattle.messages.specs.declared.Outcome.TheVariants as outcome
+use Rattle.messages.specs.Answers.{Outcome}
+use Rattle.std.proofs.Common.{Ok, Err}
+use Rattle.messages.specs.declared.Stop.{Stop}
 use Rattle.http1_lines.specs.Read.{read_request}
 use Rattle.ranges.specs.Ranges.{Outcomed}
 use Rattle.ranges.proofs.Outcomes.{given-message, given-refusal, given-more}
 use Rattle.messages.specs.Told.{plain}
 use Rattle.messages.specs.declared.Told.{Told}
-use Rattle.http1_reader.proofs.Requests.{first_more}
+use Rattle.http1_reader.proofs.Requests.{first-stopped}
 use Rattle.http1_sound.proofs.Front.{request-within}
 use Rattle.http1_sound.proofs.Refusals.{request-refused}
-use Rattle.numbers.specs.Digits.{digits}
 use Rattle.numbers.proofs.DigitLaws.{digits-length}
-use Rattle.stream.specs.Taking.{Taken, message, waits, stops, next, take_off}
+use Rattle.stream.specs.Taking.{next, take_off}
 use Rattle.stream.proofs.Taking.{take_step}
 use Rattle.output.specs.Splice.{splice, Put, Left}
-use Rattle.output.specs.Reply.{writes, written_of, Served}
-use Rattle.output.specs.declared.Written.{Written}
-use Rattle.output.specs.declared.Written.TheVariants.{Done, Refused}
+use Rattle.output.specs.Reply.{writes, written_of, Served, Written}
 use Rattle.output.proofs.Laws.{put_then, left_step}
 use Rattle.output.proofs.Serve.{serve-small, serve-done}
 use Rattle.listing.specs.Listing.{row, rows, end_line, title, listing_of}
 use Rattle.listing.specs.Rows.{row_of, row_at, rows_at, row_text, title_size, row_size, end_size}
-use Rattle.listing.specs.declared.Row.{Row}
 use Rattle.listing.specs.declared.Row.TheVariants as at_row
 
 -- ---- the row at a place
 
 empty-more : read_request (plain 0) [] ≡ more
 unfolding line_of is_scheme
-empty-more = first_more (plain 0) [] refl refl
+empty-more = first-stopped (plain 0) [] refl {e = Stop.More} refl
 
 pub row-none : (s : List ℕ) (at : ℕ) → length s ≤ at → at_row.Stop at 0 ≡ row_at s at
 unfolding row_at is_empty
@@ -65,7 +62,7 @@ counts-are n m = go m.start
     go (response_start a b) = rw (length-map, length-map)
 
 of-message : {x : Answer Message} {hs hs' cs cs' ts ts' : List ℕ} {o : Outcome} → Outcomed x hs hs' cs cs' ts ts' o → (at : ℕ) (r : List ℕ) (z : Record)
-    → o ≡ outcome.Message z → at_row.Message z.length z.headers z.content z.trailers ≡ row_of at r x
+    → o ≡ Ok z → at_row.Message z.length z.headers z.content z.trailers ≡ row_of at r x
 of-message h at r z e =
     let g = given-message h z e in
     ap (λ (y : Record). at_row.Message y.length y.headers y.content y.trailers) g.numbers ∙ counts-are g.long g.message ∙ ap (row_of at r) (sym g.taken)
@@ -75,11 +72,11 @@ module _ (s : List ℕ) (at : ℕ) {hs hs' cs cs' ts ts' : List ℕ} {o : Outcom
   whole : Outcomed (read_request (plain 0) (drop at s)) hs hs' cs cs' ts ts' o
   whole = rw (part-all s at, told) at h
 
-  pub row-message : (z : Record) → o ≡ outcome.Message z → at_row.Message z.length z.headers z.content z.trailers ≡ row_at s at
+  pub row-message : (z : Record) → o ≡ Ok z → at_row.Message z.length z.headers z.content z.trailers ≡ row_at s at
   unfolding row_at
   row-message z e = of-message whole at (drop at s) z e
 
-  module _ (k p : ℕ) (e : o ≡ outcome.Refusal k p) where
+  module _ (k p : ℕ) (e : o ≡ Err (Stop.Refused (refused_at k p))) where
     is-refused : read_request (plain 0) (drop at s) ≡ refused k p
     is-refused = given-refusal whole k p e
 
@@ -90,7 +87,7 @@ module _ (s : List ℕ) (at : ℕ) {hs hs' cs cs' ts ts' : List ℕ} {o : Outcom
     pub refused-in : at ≤ length s → at + p ≤ length s
     refused-in g = omega (arith, (request-refused (plain 0) (drop at s) k p is-refused).inside, length-drop at s)
 
-  pub row_more : at < length s → o ≡ outcome.More → at_row.Stop (length s) more_needed ≡ row_at s at
+  pub row_more : at < length s → o ≡ Err Stop.More → at_row.Stop (length s) more_needed ≡ row_at s at
   unfolding row_at is_empty
   row_more g e =
       let l : length (drop at s) ≡ length s - at = length-drop at s in
@@ -193,26 +190,26 @@ unfolding listing_of
 listing-large s h = simp (lt-leb _ _ h)
 
 -- what is written fits
-pub served-fits : {bs o o' : List ℕ} {n : ℕ} → Served (writes bs) o o' (Done n) → n ≤ length o
+pub served-fits : {bs o o' : List ℕ} {n : ℕ} → Served (writes bs) o o' (Ok n) → n ≤ length o
 unfolding written_of
 served-fits {bs} {o} {o'} {n} h = go (leb (length bs) (length o)) refl h.answer
   where
-    go : (b : Bool) → leb (length bs) (length o) ≡ b → Done n ≡ cond b (Done (length bs)) (Refused no_room 0) → n ≤ length o
+    go : (b : Bool) → leb (length bs) (length o) ≡ b → Ok n ≡ cond b (Ok (length bs)) (Err (refused_at no_room 0)) → n ≤ length o
     go true e q = let z : n ≡ length bs = cc in omega (arith, leb-true (length bs) (length o) e)
     go false e q = let z : ◌≡◌ {A = ℕ} 0 1 = cc in absurd (omega arith)
 
 module _ {o : List ℕ} {bs all : List ℕ} {n : ℕ} (e : title ++ bs ≡ all) where
-  pub titled-small : length bs ≡ n → length o < title_size + n → Served (writes all) o o (Refused no_room 0)
+  pub titled-small : length bs ≡ n → length o < title_size + n → Served (writes all) o o (Err (refused_at no_room 0))
   titled-small l h =
       let k : length (title ++ bs) ≡ title_size + length bs = length-append title bs in
       let g : length o < length (title ++ bs) = omega arith in
-      subst (λ (x : List ℕ). Served (writes x) o o (Refused no_room 0)) e (serve-small g)
+      subst (λ (x : List ℕ). Served (writes x) o o (Err (refused_at no_room 0))) e (serve-small g)
 
-  pub titled-done : {o₁ o₂ : List ℕ} {r₁ r₂ : ℕ} → title_size + n ≤ length o → Put o 0 title title_size o₁ r₁ → Put o₁ r₁ bs n o₂ r₂ → Served (writes all) o o₂ (Done r₂)
-  titled-done {o₁} {o₂} {r₁} {r₂} h p q = subst (λ (x : List ℕ). Served (writes x) o o₂ (Done r₂)) e (serve-done h (put_then p q))
+  pub titled-done : {o₁ o₂ : List ℕ} {r₁ r₂ : ℕ} → title_size + n ≤ length o → Put o 0 title title_size o₁ r₁ → Put o₁ r₁ bs n o₂ r₂ → Served (writes all) o o₂ (Ok r₂)
+  titled-done {o₁} {o₂} {r₁} {r₂} h p q = subst (λ (x : List ℕ). Served (writes x) o o₂ (Ok r₂)) e (serve-done h (put_then p q))
 
 pub served-as : {a b o o' : List ℕ} {r : Written} → a ≡ b → Served (writes a) o o' r → Served (writes b) o o' r
 served-as e h = rw e at h
 
-pub served-is : {bs o o' : List ℕ} {r : Written} {n : ℕ} → r ≡ Done n → Served (writes bs) o o' r → n ≤ length o
+pub served-is : {bs o o' : List ℕ} {r : Written} {n : ℕ} → r ≡ Ok n → Served (writes bs) o o' r → n ≤ length o
 served-is e h = served-fits (rw e at h)

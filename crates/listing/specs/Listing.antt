@@ -1,5 +1,5 @@
 -- What the listing program prints for an input (01, "Examples": a listing program).
-use Rattle.std.specs.Prelude.{ℕ, ◌+◌, Bool, true, false, cond, List, [], ◌∷◌, ◌++◌, leb, length}
+use Rattle.std.specs.Prelude.{ℕ, ◌+◌, cond, List, [], ◌∷◌, ◌++◌, leb, length}
 use Rattle.octets.specs.Ascii.{ascii}
 use Rattle.octets.specs.Text.{is_empty}
 use Rattle.octets.specs.Limits.{listing_most}

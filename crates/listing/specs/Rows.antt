@@ -1,6 +1,6 @@
 -- What the code of the listing promises, in terms of `rows` and `listing_of` (Listing; 01, "Examples": a listing program), and how long the text is that it
 -- puts.
-use Rattle.std.specs.Prelude.{ℕ, ◌+◌, ◌*◌, ◌≤◌, cond, List, ◌++◌, length, drop}
+use Rattle.std.specs.Prelude.{ℕ, ◌+◌, ◌*◌, cond, List, ◌++◌, length, drop}
 use Rattle.octets.specs.Text.{is_empty}
 use Rattle.octets.specs.Limits.{listing_most}
 use Rattle.octets.specs.Refusals.{more_needed}

@@ -2,7 +2,6 @@
 #![tactic(auto)]
 
 ghost use Rattle.std.specs.Prelude.{◌≡◌, ◌+◌, ◌≤◌, ◌++◌, length};
-ghost use Rattle.octets.specs.Table.{classes};
 ghost use Rattle.octets.specs.Limits.{listing_most};
 ghost use Rattle.octets.specs.Refusals.{too_large};
 ghost use Rattle.output.specs.Splice.{Put};
@@ -12,10 +11,10 @@ ghost use Rattle.listing.specs.Rows.{row_at, rows_at, counts_text, row_text};
 ghost use Rattle.listing.specs.Rows.{title_size, column_size, column_most, three_size, row_size, row_most, end_size, end_most, rows_most};
 
 use http1_reader::request::request_in;
-use messages::Outcome;
+use messages::Stop;
 use messages::call::plain;
 use numbers::digit_count;
-use octets::{Limits, Refusals, class_table};
+use octets::{ClassTable, Limits, Refusal};
 use output::{Written, put_decimal, put_octet, put_text};
 
 // What stands at a place of the stream: a message with its length and counts, or where and why the listing stops.
@@ -34,8 +33,8 @@ pub enum Row {
 }
 
 // The row at a place of the stream.
-fn next_row(t: &[u8; 256], s: &[u8], at: usize) -> Row
-    requires { (t.now ≡ classes) × (at ≤ length s.now) }
+fn next_row(t: &ClassTable, s: &[u8], at: usize) -> Row
+    requires { at ≤ length s.now }
     ensures { result ≡ row_at s.now at }
 {
     if s.len() <= at {
@@ -56,15 +55,15 @@ fn next_row(t: &[u8; 256], s: &[u8], at: usize) -> Row
         &mut trailers,
     );
     match o {
-        Outcome::More => return Row::Stop {
+        Err(Stop::More) => return Row::Stop {
             place: s.len(),
-            number: Refusals::MORE_NEEDED,
+            number: Refusal::MoreNeeded as u32,
         },
-        Outcome::Refusal { number, place } => return Row::Stop {
-            place: at + place,
-            number,
+        Err(Stop::Refused(e)) => return Row::Stop {
+            place: at + e.place,
+            number: e.number,
         },
-        Outcome::Message(r) => return Row::Message {
+        Ok(r) => return Row::Message {
             length: r.length,
             fields: r.headers,
             content: r.content,
@@ -102,8 +101,8 @@ fn end_size(place: usize, number: u32) -> usize
 }
 
 // The length of all rows of a stream, with the last line.
-fn rows_size(t: &[u8; 256], s: &[u8]) -> usize
-    requires { (t.now ≡ classes) × (length s.now ≤ listing_most) }
+fn rows_size(t: &ClassTable, s: &[u8]) -> usize
+    requires { length s.now ≤ listing_most }
     ensures { (result ≡ length (rows_at s.now 1 0)) × (result ≤ rows_most) }
 {
     let mut i = 1;
@@ -176,8 +175,8 @@ fn put_end(out: &mut [u8], at: usize, place: usize, number: u32) -> usize
 }
 
 // All rows of a stream, with the last line.
-fn put_rows(t: &[u8; 256], s: &[u8], out: &mut [u8], start: usize) -> usize
-    requires { (t.now ≡ classes) × (length s.now ≤ listing_most) × (start + length (rows_at s.now 1 0) ≤ length out.old) }
+fn put_rows(t: &ClassTable, s: &[u8], out: &mut [u8], start: usize) -> usize
+    requires { (length s.now ≤ listing_most) × (start + length (rows_at s.now 1 0) ≤ length out.old) }
     ensures { Put out.old start (rows_at s.now 1 0) (length (rows_at s.now 1 0)) out.new result }
 {
     let mut i = 1;
@@ -213,33 +212,27 @@ fn put_stream(s: &[u8], out: &mut [u8]) -> Written
     requires { length s.now ≤ listing_most }
     ensures { Served (writes (listing_of s.now)) out.old out.new result }
 {
-    let t = class_table();
+    let t = ClassTable::new();
     let n = rows_size(&t, s);
     if out.len() < 45 + n {
-        return Written::Refused {
-            number: Refusals::NO_ROOM,
-            place: 0,
-        };
+        return Err(Refusal::NoRoom.at(0));
     }
     let a = put_title(out);
     let b = put_rows(&t, s, out, a);
-    Written::Done(b)
+    Ok(b)
 }
 
 // The listing of a stream that is too large.
 fn put_large(out: &mut [u8]) -> Written
     ensures { Served (writes (title ++ end_line listing_most too_large)) out.old out.new result }
 {
-    let n = end_size(Limits::LISTING, Refusals::TOO_LARGE);
+    let n = end_size(Limits::LISTING, Refusal::TooLarge as u32);
     if out.len() < 45 + n {
-        return Written::Refused {
-            number: Refusals::NO_ROOM,
-            place: 0,
-        };
+        return Err(Refusal::NoRoom.at(0));
     }
     let a = put_title(out);
-    let b = put_end(out, a, Limits::LISTING, Refusals::TOO_LARGE);
-    Written::Done(b)
+    let b = put_end(out, a, Limits::LISTING, Refusal::TooLarge as u32);
+    Ok(b)
 }
 
 // The listing of a stream; 13 at 0 where it does not fit, and nothing is written then.

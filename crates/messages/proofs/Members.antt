@@ -1,6 +1,7 @@
 -- The members of a list, as the code steps through them.
 use Prim.Native.Nat.{ℕ, suc, ◌+◌, ◌-◌, ◌<◌, ◌≤◌}
 use mathlib.Core.Path.{◌≡◌, refl, sym, ap, ap₂, ◌∙◌}
+use mathlib.Core.Logic.{⊎_elim}
 use mathlib.Core.Bool.{Bool, true, false}
 use mathlib.Core.List.{List, [], ◌∷◌, ◌++◌, map}
 use native.Mathlib.Nat.{add-sub_cancel_left}
@@ -11,7 +12,7 @@ use lib.ListN.{length, get_or, take, drop, length-drop, length-take, drop_of_len
 use lib.Seq.{take_all, take-take, take-nil, drop-drop, split_at}
 use Rattle.octets.specs.Class.{is_blank}
 use Rattle.octets.specs.Text.{span_len, all, is_other, lower_of, same_text, trim_back}
-use Rattle.octets.proofs.Kit.{and_split}
+use Rattle.octets.proofs.Kit.{and_split, split}
 use Rattle.octets.proofs.Texts.{drop-take, other_at, span-within, span-next, all-take-span, span-full, same-sym}
 use Rattle.messages.specs.Connection.{comma, members, trimmed_end, trimmed, is_member, any_member, MemberFrom}
 use Rattle.messages.specs.declared.Member.{Member}
@@ -108,10 +109,6 @@ module _ {v : List ℕ} {from : ℕ} {m : Member} (f : MemberFrom v from m) wher
 
 module _ (n : List ℕ) {v : List ℕ} {from : ℕ} {m : Member} (f : MemberFrom v from m) {w : Bool} (inv : w ≡ any_member n (members (drop from v)))
     {r : Bool} (e : r ≡ same_text (map lower_of (take m.len (drop m.start v))) n) where
-  pub any_found : m.end < length v → r ≡ true → true ≡ w
-  unfolding any_member
-  any_found h t = sym (inv ∙ rw (from_on f h, is-member f n, ← e, t))
-
   pub any-more : m.end < length v → r ≡ false → w ≡ any_member n (members (drop (m.end + 1) v))
   unfolding any_member
   any-more h t = inv ∙ rw (from_on f h, is-member f n, ← e, t)
@@ -119,3 +116,10 @@ module _ (n : List ℕ) {v : List ℕ} {from : ℕ} {m : Member} (f : MemberFrom
   pub any_last : length v ≤ m.end → r ≡ w
   unfolding any_member
   any_last h = sym (inv ∙ rw (from_last f h, is-member f n, ← e) (pick-itself r))
+
+  pub any_found : r ≡ true → true ≡ w
+  unfolding any_member
+  any_found t = ⊎_elim before (λ (h : length v ≤ m.end). sym t ∙ any_last h) (split m.end (length v))
+    where
+      before : m.end < length v → true ≡ w
+      before h = sym (inv ∙ rw (from_on f h, is-member f n, ← e, t))

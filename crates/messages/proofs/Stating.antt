@@ -7,6 +7,7 @@ use native.Mathlib.Omega.{arith}
 use borrow.Author.Tests.{eq-eqb, not-true, le-leb, leb-true, ltb-true}
 use lib.Dec.{leb, eqb, lit≤}
 use lib.ListN.{length, get_or}
+use Rattle.std.proofs.Common.{Option, Some, None}
 use Rattle.octets.specs.Ascii.{ascii}
 use Rattle.octets.specs.Class.{is_token, is_value, is_path, is_authority, class_of, has_class, value, is_blank}
 use Rattle.octets.specs.Limits.{lines_most, stated_most}
@@ -27,8 +28,6 @@ use Rattle.messages.specs.declared.Framing.{Framing}
 use Rattle.messages.specs.declared.Framing.TheVariants.{Unstated, Stated}
 use Rattle.messages.specs.declared.Kind.{Kind}
 use Rattle.messages.specs.declared.Kind.TheVariants as kind
-use Rattle.messages.specs.declared.StatedLength.{StatedLength}
-use Rattle.messages.specs.declared.StatedLength.TheVariants.{Missing, Of}
 use Rattle.messages.specs.declared.Told.{Told}
 use Rattle.messages.proofs.Valid.{first-ok}
 use Rattle.messages.proofs.ValidLines.{said, no_lengths, no-codings}
@@ -122,7 +121,7 @@ pub record StatedOk (n : ℕ) (m : Meaning) : Type 0 where
   pub none : valid_body false m.content m.trailers ≡ true
   pub few : length m.headers < lines_most
 
-pub stated-ok : (n : ℕ) (m : Meaning) → valid_stated (Of n) m ≡ true → StatedOk n m
+pub stated-ok : (n : ℕ) (m : Meaning) → valid_stated (Some n) m ≡ true → StatedOk n m
 unfolding valid_stated
 stated-ok n m v =
     let a : Bool = may_state_length m.control in
@@ -134,43 +133,43 @@ stated-ok n m v =
     record { may = v3.0; small = leb-true n stated_most v3.1; none = v2.1; few = ltb-true (length m.headers) lines_most v1.1 }
 
 -- no request states one
-pub never-stated : (x : StatedLength) (m : Meaning) → may_state_length m.control ≡ false → valid_stated x m ≡ true → x ≡ Missing
-never-stated Missing m e v = refl
-never-stated (Of n) m e v = let o = stated-ok n m v in let z : ◌≡◌ {A = ℕ} 0 1 = cc in absurd (omega arith)
+pub never-stated : (x : Option ℕ) (m : Meaning) → may_state_length m.control ≡ false → valid_stated x m ≡ true → x ≡ None
+never-stated None m e v = refl
+never-stated (Some n) m e v = let o = stated-ok n m v in let z : ◌≡◌ {A = ℕ} 0 1 = cc in absurd (omega arith)
 
 -- the lines of a header that it begins
-pub stated-lines : (x : StatedLength) (fs : List Field) → LinesOk fs → LinesOk (stated_fields x ++ fs)
-stated-lines Missing fs ok = ok
-stated-lines (Of n) fs ok = (length-line n, ok)
+pub stated-lines : (x : Option ℕ) (fs : List Field) → LinesOk fs → LinesOk (stated_fields x ++ fs)
+stated-lines None fs ok = ok
+stated-lines (Some n) fs ok = (length-line n, ok)
 
 pub stated-few : (m : Meaning) → length m.headers ≤ lines_most → valid_stated m.stated m ≡ true
     → length (stated_fields m.stated ++ m.headers) ≤ lines_most
 stated-few m few v = go m.stated v
   where
-    go : (x : StatedLength) → valid_stated x m ≡ true → length (stated_fields x ++ m.headers) ≤ lines_most
-    go Missing q = few
-    go (Of n) q = let o = (stated-ok n m q).few in omega arith
+    go : (x : Option ℕ) → valid_stated x m ≡ true → length (stated_fields x ++ m.headers) ≤ lines_most
+    go None q = few
+    go (Some n) q = let o = (stated-ok n m q).few in omega arith
 
 -- what a reader learns from it, where it stands at the place p
-abbrev pub framing_for : StatedLength → ℕ → Framing
-framing_for Missing p = Unstated
-framing_for (Of n) p = Stated n p
+abbrev pub framing_for : Option ℕ → ℕ → Framing
+framing_for None p = Unstated
+framing_for (Some n) p = Stated n p
 
 -- it fills the stated length, and passes the rule of responses that end at their head
-pub stated-back : (x : StatedLength) (p : ℕ) → length_in (framing_for x p) ≡ x
-stated-back Missing p = refl
-stated-back (Of n) p = refl
+pub stated-back : (x : Option ℕ) (p : ℕ) → length_in (framing_for x p) ≡ x
+stated-back None p = refl
+stated-back (Some n) p = refl
 
-pub bodyless-good : (t : Told) (n end : ℕ) (x : StatedLength) (p : ℕ) (hs : List Informational) (m : Meaning)
+pub bodyless-good : (t : Told) (n end : ℕ) (x : Option ℕ) (p : ℕ) (hs : List Informational) (m : Meaning)
     → m.control ≡ response hs n → valid_stated x m ≡ true
     → bodyless_rule t n end (framing_for x p) ≡ good (Sized 0)
 unfolding bodyless_rule nothing_stated length_alone valid_stated
-bodyless-good t n end Missing p hs m c v = go (eqb n 204)
+bodyless-good t n end None p hs m c v = go (eqb n 204)
   where
     go : (b : Bool) → cond b (good (Sized 0)) (good (Sized 0)) ≡ good (Sized 0)
     go true = refl
     go false = refl
-bodyless-good t n end (Of k) p hs m c v =
+bodyless-good t n end (Some k) p hs m c v =
     let o = stated-ok k m v in
     let q : eqb n 204 ≡ false = not-true (eqb n 204) (rw c at o.may) in
     rw (q, le-leb k stated_most o.small)
@@ -180,11 +179,11 @@ bodyless-good t n end (Of k) p hs m c v =
 -- one that ends at its head has neither content nor trailers, another has no stated length
 pub record Suited (t : Told) (n : ℕ) (m : Meaning) : Type 0 where
   pub body : valid_body (not (ends_at_head t n)) m.content m.trailers ≡ true
-  pub missing : ends_at_head t n ≡ false → m.stated ≡ Missing
+  pub missing : ends_at_head t n ≡ false → m.stated ≡ None
 
-is-missing : (x : StatedLength) → is_missing x ≡ true → x ≡ Missing
-is-missing Missing e = refl
-is-missing (Of n) e = let z : ◌≡◌ {A = ℕ} 0 1 = cc in absurd (omega arith)
+is-missing : (x : Option ℕ) → is_missing x ≡ true → x ≡ None
+is-missing None e = refl
+is-missing (Some n) e = let z : ◌≡◌ {A = ℕ} 0 1 = cc in absurd (omega arith)
 
 pub suited : (t : Told) (m : Meaning) (hs : List Informational) (n : ℕ) → m.control ≡ response hs n → suits t m ≡ true → Suited t n m
 unfolding suits valid_body

@@ -2,7 +2,7 @@
 ghost use Rattle.std.specs.Prelude.{◌≡◌};
 ghost use Rattle.messages.specs.Told.{is_yes, is_edition, ending_of, plain as told_plain};
 
-use crate::{Ending, Told};
+use crate::Told;
 
 // What a yes or no says that a call is told.
 pub fn is_yes(n: u32) -> bool
@@ -32,11 +32,11 @@ pub fn is_edition(n: u32) -> bool
 }
 
 // Where a stream of n octets ends, as told.
-pub fn ending_of(told: Told, n: usize) -> Ending
+pub fn ending_of(told: Told, n: usize) -> Option<usize>
     ensures { result ≡ ending_of told n }
 {
     if is_yes(told.closed) {
-        return Ending::Closed(n);
+        return Some(n);
     }
-    Ending::Open
+    None
 }

@@ -36,13 +36,14 @@ pub fn has_member(value: &[u8], name: &[u8]) -> bool
     ensures { result ≡ any_member name.now (members value.now) }
 {
     let mut from = 0;
-    let mut m = member_at(value, from);
-    while m.end < value.len() {
+    loop {
+        let m = member_at(value, from);
         if is_at(value, m.start, m.len, name) {
             return true;
         }
+        if value.len() <= m.end {
+            return false;
+        }
         from = m.end + 1;
-        m = member_at(value, from);
     }
-    is_at(value, m.start, m.len, name)
 }

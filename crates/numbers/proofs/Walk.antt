@@ -9,10 +9,10 @@ use native.Mathlib.Omega.{arith}
 use borrow.Author.Tests.{ltb-true, ltb-false, lt-ltb, le-ltb}
 use lib.Dec.{ltb}
 use lib.ListN.{length, take}
-use Rattle.numbers.specs.Integer.{read_more, read_int, extra_of, long_of}
+use Rattle.std.proofs.Common.{Option, Some}
+use Rattle.numbers.specs.Integer.{read_more, read_int, extra_of, long_of, integer_of}
 use Rattle.numbers.specs.Walk.{big_endian, value_walked, walked, OneWalk}
 use Rattle.numbers.specs.declared.Integer.{Integer}
-use Rattle.numbers.specs.declared.Integer.TheVariants.{Value}
 
 -- the octets of a front that is there
 take-length : (n : ℕ) (s : List ℕ) → n ≤ length s → length (take n s) ≡ n
@@ -26,8 +26,8 @@ unfolding big_endian
 one-more n v b s h = rw (take-length n s h, pow-succ', add-mul, mul_assoc, add_assoc)
 
 -- a value with a place, of an integer of w octets
-abbrev value_at : ℕ → ℕ → ℕ → Integer
-value_at w v at = Value v at (long_of w v)
+abbrev value_at : ℕ → ℕ → ℕ → Option Integer
+value_at w v at = Some (integer_of v at (long_of w v))
 
 walk-value : (w n v at : ℕ) (s : List ℕ) → read_more w n v at s ≡ walked w n v at s
 unfolding read_more walked value_walked big_endian

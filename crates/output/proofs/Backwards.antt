@@ -20,14 +20,14 @@ to_put sign base at k w o = splice o at (push sign base k w [])
 
 module _ (sign : ℕ → ℕ) (base at : ℕ) {z : List ℕ} where
   pub put-place : (k w : ℕ) (o : List ℕ) {x : ℕ} → 0 < k → x ≡ sign (w % base) → to_put sign base at k w o ≡ z
-      → to_put sign base at (k - 1) (w / base) (set o (at + k - 1) x) ≡ z
+      → to_put sign base at (k - 1) (w / base) (set o (at + (k - 1)) x) ≡ z
   unfolding to_put push
   put-place zero w o h ex e = absurd (omega arith)
   put-place (suc k) w o {x} h ex e =
       let a = push sign base k (w / base) [] in
-      let i : at + suc k - 1 ≡ at + length a = rw (push-length sign base k (w / base) []) (omega arith) in
+      let i : at + (suc k - 1) ≡ at + length a = rw (push-length sign base k (w / base) []) (omega arith) in
       let m : suc k - 1 ≡ k = omega arith in
-      rw (m, i, ex) (splice-before o at a (sign (w % base) ∷ []) ∙ ap (splice o at) (sym (push-append sign base k (w / base) (sign (w % base) ∷ []))) ∙ e)
+      rw (i, m, ex) (splice-before o at a (sign (w % base) ∷ []) ∙ ap (splice o at) (sym (push-append sign base k (w / base) (sign (w % base) ∷ []))) ∙ e)
 
   pub put_last : (k w : ℕ) (o : List ℕ) → k ≤ 0 → to_put sign base at k w o ≡ z → o ≡ z
   unfolding to_put push

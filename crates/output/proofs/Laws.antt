@@ -2,13 +2,14 @@
 -- Assumes nothing.
 use mathlib.Core.Logic.{◌≢◌}
 use mathlib.Core.Path.{◌≡◌, refl, sym, ap, ◌∙◌}
-use mathlib.Core.List.{List, [], ◌∷◌, ◌++◌}
+use mathlib.Core.List.{List, [], ◌∷◌, ◌++◌, append_assoc}
+use borrow.Rule.Slice.PartMut.{put_mid}
 use Prim.Native.Nat.{ℕ, zero, suc, ◌+◌, ◌-◌, ◌≤◌, ◌<◌}
 use native.Mathlib.Nat.{add-zero}
 use native.Mathlib.Numerals.{add-one}
 use native.Mathlib.Omega.{arith}
 use lib.ListN.{length, get_or, set, take, drop, length-set, length-append, take-append-drop}
-use lib.Seq.{drop-cons, take-length, drop-set-add, take-set-le, set_comm, sets, sets-eq}
+use lib.Seq.{drop-cons, drop-drop, take-length, drop-set-add, take-set-le, set_comm, sets, sets-eq}
 use Rattle.output.specs.Splice.{splice, elements, part, Put, Left}
 
 pub splice-length : (o : List ℕ) (at : ℕ) (bs : List ℕ) → length (splice o at bs) ≡ length o
@@ -33,12 +34,6 @@ module _ {A : Type 0} (d : A) where
       let e : n - i ≡ suc (n - (i + 1)) = omega arith in
       let a : from + (i + 1) ≡ from + i + 1 = omega arith in
       rw (e, a)
-
-  -- the same from the place i on
-  pub elements-more₀ : (l : List A) (i n : ℕ) → i < n → elements d l i (n - i) ≡ get_or l i d ∷ elements d l (i + 1) (n - (i + 1))
-  elements-more₀ l i n h =
-      let e : n - i ≡ suc (n - (i + 1)) = omega arith in
-      rw e
 
   -- where none is left
   pub elements-none : (l : List A) (from i n : ℕ) → n ≤ i → elements d l from (n - i) ≡ []
@@ -144,6 +139,20 @@ splice-sets o at (b ∷ bs) = rw add-one (splice-sets (set o at b) (suc at) bs)
 -- what a splice is, said by its parts
 pub splice-is : (o : List ℕ) (at : ℕ) (bs : List ℕ) → at + length bs ≤ length o → splice o at bs ≡ take at o ++ bs ++ drop (at + length bs) o
 splice-is o at bs h = splice-sets o at bs ∙ sets-eq bs o at h
+
+-- a part that is written over, whole
+pub over-part : (o w : List ℕ) (at k n : ℕ) → length w ≡ n → at + n ≤ length o → k ≡ n → put_mid at k o w ≡ splice o at w
+over-part o w at k n l h e =
+    let d : at + length w ≡ at + k = omega arith in
+    sym (splice-is o at w (omega arith) ∙ append_assoc (take at o) w (drop (at + length w) o)
+    ∙ ap (λ (r : List ℕ). take at o ++ (w ++ r)) (ap (λ (j : ℕ). drop j o) d ∙ sym (drop-drop k at o)))
+
+-- a part of a source, copied over a part
+pub copied : (o s w : List ℕ) (at from n k m : ℕ) → at + n ≤ length o → from + n ≤ length s → k ≡ n → m ≡ n → w ≡ take m (drop from s)
+    → put_mid at k o w ≡ splice o at (part s from n)
+copied o s w at from n k m h g ek em e =
+    let b : w ≡ part s from n = rw em at e ∙ sym (elements-take 0 s from n g) in
+    rw b (over-part o (part s from n) at k n (elements-length 0 s from n) h ek)
 
 -- nothing is written
 pub put-none : (o : List ℕ) (at : ℕ) → Put o at [] 0 o at

@@ -2,3 +2,4 @@ pub mod Laws
 pub mod Room
 pub mod Serve
 pub mod Backwards
+pub mod Copies

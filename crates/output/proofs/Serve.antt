@@ -2,7 +2,7 @@
 -- Assumes nothing.
 use mathlib.Core.Path.{◌≡◌, refl, ◌∙◌}
 use mathlib.Core.Bool.{Bool, true, false, cond}
-use mathlib.Core.List.{List, [], ◌++◌, append-nil}
+use mathlib.Core.List.{List, ◌++◌, append-nil}
 use Prim.Native.Nat.{ℕ, ◌+◌, ◌-◌, ◌≤◌, ◌<◌}
 use native.Mathlib.Omega.{arith}
 use lib.Dec.{leb}
@@ -12,21 +12,20 @@ use borrow.Rule.Slice.PartMut.{put_mid}
 use native.Mathlib.Nat.{add-zero}
 use Rattle.output.proofs.Laws.{splice-lend}
 use borrow.Author.Tests.{le-leb, lt-leb, leb-true, leb-false}
-use Rattle.octets.specs.Refusals.{no_room}
+use Rattle.octets.specs.Refusals.{no_room, refused_at}
 use Rattle.output.specs.Splice.{splice, Put}
-use Rattle.output.specs.Reply.{Reply, writes, refuses, written_of, lent_after, Served, lent_after_at, ServedAt}
-use Rattle.output.specs.declared.Written.{Written}
-use Rattle.output.specs.declared.Written.TheVariants.{Done, Refused}
+use Rattle.output.specs.Reply.{Reply, writes, refuses, written_of, lent_after, Served, lent_after_at, ServedAt, Written}
+use Rattle.std.proofs.Common.{Ok, Err}
 
-pub serve-wrong : (o : List ℕ) (k p : ℕ) → Served (refuses k p) o o (Refused k p)
+pub serve-wrong : (o : List ℕ) (k p : ℕ) → Served (refuses k p) o o (Err (refused_at k p))
 unfolding written_of lent_after
 serve-wrong o k p = record { answer = refl; after = refl }
 
-pub serve-small : {o bs : List ℕ} → length o < length bs → Served (writes bs) o o (Refused no_room 0)
+pub serve-small : {o bs : List ℕ} → length o < length bs → Served (writes bs) o o (Err (refused_at no_room 0))
 unfolding written_of lent_after
 serve-small {o} {bs} h = record { answer = simp (lt-leb _ _ h); after = simp (lt-leb _ _ h) }
 
-pub serve-done : {o bs o' : List ℕ} {n r : ℕ} → n ≤ length o → Put o 0 bs n o' r → Served (writes bs) o o' (Done r)
+pub serve-done : {o bs o' : List ℕ} {n r : ℕ} → n ≤ length o → Put o 0 bs n o' r → Served (writes bs) o o' (Ok r)
 unfolding written_of lent_after
 serve-done {o} {bs} {o'} {n} {r} h p =
     let k : length bs ≤ length o = omega (arith, p.size) in

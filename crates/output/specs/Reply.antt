@@ -1,10 +1,13 @@
 -- What a public writer answers, and what it leaves in the octets that it was lent (01, "Numbers a call answers with": a refusal writes
 -- nothing; success gives the length written, and all behind it stays).
-use Rattle.std.specs.Prelude.{◌≡◌, cond, List, ℕ, ◌+◌, ◌-◌, leb, length}
-use Rattle.octets.specs.Refusals.{no_room}
+use Rattle.std.specs.Prelude.{◌≡◌, cond, List, ℕ, ◌+◌, ◌-◌, leb, length, Result, Ok, Err}
+use Rattle.octets.specs.Refusals.{no_room, refused_at}
 use Rattle.output.specs.Splice.{splice}
-use Rattle.output.specs.declared.Written.{Written}
-use Rattle.output.specs.declared.Written.TheVariants.{Done, Refused}
+use Rattle.octets.specs.declared.Refused.{Refused}
+
+-- what a writer answers: how many octets it wrote, or the refusal
+abbrev pub Written : Type 0
+Written = Result ℕ Refused
 
 -- what is to be written, whatever the room: octets, or a refusal with its number and its place
 pub data Reply : Type 0 where
@@ -13,8 +16,8 @@ pub data Reply : Type 0 where
 
 -- the answer where there is room for so many octets
 unfoldable pub written_of : Reply → ℕ → Written
-written_of (writes bs) room = cond (leb (length bs) room) (Done (length bs)) (Refused no_room 0)
-written_of (refuses number place) room = Refused number place
+written_of (writes bs) room = cond (leb (length bs) room) (Ok (length bs)) (Err (refused_at no_room 0))
+written_of (refuses number place) room = Err (refused_at number place)
 
 -- the lent octets afterwards
 unfoldable pub lent_after : Reply → List ℕ → List ℕ
@@ -38,10 +41,10 @@ pub record ServedAt (y : Reply) (k : ℕ) (o o' : List ℕ) (r : Written) : Type
 
 -- 01's number for each case of a writer's answer
 abbrev pub written_number : Written → ℕ
-written_number (Done n) = 0
-written_number (Refused number place) = number
+written_number (Ok n) = 0
+written_number (Err e) = e.number
 
 -- the length written, or the refusal's place
 abbrev pub written_place : Written → ℕ
-written_place (Done n) = n
-written_place (Refused number place) = place
+written_place (Ok n) = n
+written_place (Err e) = e.place

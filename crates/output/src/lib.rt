@@ -8,14 +8,10 @@ ghost use Rattle.numbers.specs.Digits.{char_of, count_of, digits};
 ghost use Rattle.output.specs.Splice.{part, lies_within, may_copy, Put, PutIf};
 
 use numbers::{digit_count, int_len, int_tag};
-use octets::lower;
+use octets::{Refused, lower};
 
 // What a public writer answers: so many octets are written, or nothing is.
-#[derive(Clone, Copy)]
-pub enum Written {
-    Done(usize),
-    Refused { number: u32, place: usize },
-}
+pub type Written = Result<usize, Refused>;
 
 // The digit of a value below 16.
 fn digit_char(d: usize) -> u8
@@ -35,11 +31,7 @@ fn copy_part(out: &mut [u8], at: usize, src: &[u8], from: usize, len: usize) -> 
     requires len_in_bounds_2 { from + len ≤ length src.now }
     ensures { Put out.old at (part src.now from len) len out.new result }
 {
-    let mut i = 0;
-    while i < len {
-        out[at + i] = src[from + i];
-        i += 1;
-    }
+    out[at..at + len].copy_from_slice(&src[from..from + len]);
     at + len
 }
 
@@ -49,10 +41,8 @@ fn copy_lower(out: &mut [u8], at: usize, src: &[u8], from: usize, len: usize) ->
     requires len_in_bounds_2 { from + len ≤ length src.now }
     ensures { Put out.old at (map lower_of (part src.now from len)) len out.new result }
 {
-    let mut i = 0;
-    while i < len {
+    for i in 0..len {
         out[at + i] = lower(src[from + i]);
-        i += 1;
     }
     at + len
 }
@@ -63,11 +53,9 @@ fn lay_int(out: &mut [u8], at: usize, v: usize, n: usize) -> usize
     ensures { Put out.old at (int_bytes v) (int_len v) out.new result }
 {
     let mut w = v + int_tag(v);
-    let mut k = n;
-    while 0 < k {
-        out[at + k - 1] = (w % 256) as u8;
-        w = w / 256;
-        k -= 1;
+    for k in (0..n).rev() {
+        out[at + k] = (w % 256) as u8;
+        w /= 256;
     }
     at + n
 }
@@ -78,11 +66,9 @@ fn lay_digits(out: &mut [u8], at: usize, n: usize, base: usize, k: usize) -> usi
     ensures { Put out.old at (digits base n) (count_of base n) out.new result }
 {
     let mut w = n;
-    let mut j = k;
-    while 0 < j {
-        out[at + j - 1] = digit_char(w % base);
-        w = w / base;
-        j -= 1;
+    for j in (0..k).rev() {
+        out[at + j] = digit_char(w % base);
+        w /= base;
     }
     at + k
 }
@@ -104,10 +90,7 @@ fn put_digits(out: &mut [u8], at: usize, n: usize, base: usize) -> usize
 fn lies_within(size: usize, at: usize, n: usize) -> bool
     ensures { result ≡ leb (at + n) size }
 {
-    if at <= size {
-        return n <= size - at;
-    }
-    false
+    at <= size && n <= size - at
 }
 
 // One octet.
@@ -126,10 +109,8 @@ pub fn put_part(out: &mut [u8], at: usize, src: &[u8], from: usize, len: usize) 
     ensures { PutIf (may_copy src.now from len out.old at) out.old at
         (part src.now from len) len out.new result }
 {
-    if lies_within(src.len(), from, len) {
-        if lies_within(out.len(), at, len) {
-            return copy_part(out, at, src, from, len);
-        }
+    if lies_within(src.len(), from, len) && lies_within(out.len(), at, len) {
+        return copy_part(out, at, src, from, len);
     }
     at
 }
@@ -139,10 +120,8 @@ pub fn put_lower(out: &mut [u8], at: usize, src: &[u8], from: usize, len: usize)
     ensures { PutIf (may_copy src.now from len out.old at) out.old at
         (map lower_of (part src.now from len)) len out.new result }
 {
-    if lies_within(src.len(), from, len) {
-        if lies_within(out.len(), at, len) {
-            return copy_lower(out, at, src, from, len);
-        }
+    if lies_within(src.len(), from, len) && lies_within(out.len(), at, len) {
+        return copy_lower(out, at, src, from, len);
     }
     at
 }

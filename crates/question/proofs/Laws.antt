@@ -2,7 +2,6 @@
 use Prim.Native.Nat.{ℕ, ◌+◌, ◌-◌, ◌*◌, ◌<◌, ◌≤◌}
 use mathlib.Core.Path.{◌≡◌, refl, sym, ap, ◌∙◌}
 use mathlib.Core.Bool.{Bool, true, false, cond}
-use mathlib.Core.Option.{Option, none, some}
 use mathlib.Core.List.{List, [], ◌∷◌, map}
 use native.Mathlib.Nat.{add-sub_cancel_left}
 use native.Mathlib.Omega.{arith}
@@ -17,8 +16,9 @@ use Rattle.messages.specs.declared.Told.{Told}
 use Rattle.messages.specs.Names.{kept}
 use Rattle.messages.specs.Answers.{record_from, record_of, informational_in}
 use Rattle.messages.specs.declared.Record.{Record}
-use Rattle.messages.specs.declared.Outcome.{Outcome}
-use Rattle.messages.specs.declared.Outcome.TheVariants as outcome
+use Rattle.messages.specs.Answers.{Outcome}
+use Rattle.std.proofs.Common.{Ok, Err}
+use Rattle.messages.specs.declared.Stop.{Stop}
 use Rattle.sound.specs.Placed.{Each, OfLine, Lying}
 use Rattle.sound.specs.Sound.{Sound}
 use Rattle.sound.proofs.Each.{each-kept}
@@ -30,11 +30,10 @@ use Rattle.ranges.specs.Ranges.{Outcomed, Held}
 use Rattle.ranges.specs.Entries.{entry_of, field_in, fields_in, fields_before, EntryWithin}
 use Rattle.ranges.proofs.Entries.{FieldsAt, lies-is, fields-are, fields-more, fields-none, held-parts, held-within}
 use Rattle.ranges.proofs.Outcomes.{IsHeld, given-refusal, given-more}
-use Rattle.turn.specs.Question.{first_of, Question, question_of, value_or, request_question, response_question, binary_question}
-use Rattle.question.specs.Asking.{found_of, asked_of, value_part, found_in, OutcomeWithin, asked_from, octets_or, points_to, FoundWithin, Answered}
-use Rattle.question.specs.declared.Found.{Found}
-use Rattle.question.specs.declared.Found.TheVariants as found
-use Rattle.question.specs.declared.Asked.{Asked}
+use Rattle.turn.specs.Question.{first_of, Question, found_part, lent_number, lent_place, question_of, value_or, request_question, response_question, binary_question}
+use Rattle.question.specs.Asking.{Asked, found_of, asked_of, value_part, found_in, OutcomeWithin, asked_from, octets_or, points_to, FoundWithin, Answered}
+use Rattle.messages.specs.declared.Span.{Span}
+use Rattle.std.proofs.Common.{Option, None, Some}
 
 -- ---- the entries of ranges
 
@@ -48,7 +47,7 @@ module _ (s ranges name : List ℕ) where
 
   -- a loop over entries: the name stands in the next, it does not, and none is left
   pub found_here : (k i n : ℕ) → i < n → true ≡ same_text (map lower_of (field_in s ranges (k + i)).name.text) name
-      → found_in name s ranges (k + i) (n - i) ≡ value_part ranges (k + i)
+      → found_in name s ranges (k + i) (n - i) ≡ Some (value_part ranges (k + i))
   unfolding found_in first_of
   found_here k i n h e = rw (fields-more s ranges k i n h, sym e, elements-length 0 s (get_or ranges ((k + i) * 4 + 2) 0) (get_or ranges ((k + i) * 4 + 3) 0))
 
@@ -57,7 +56,7 @@ module _ (s ranges name : List ℕ) where
   unfolding found_in first_of
   found-behind k i n h e = rw (fields-more s ranges k i n h, sym e)
 
-  pub found_none : (k i n : ℕ) → n ≤ i → found_in name s ranges (k + i) (n - i) ≡ found.Nothing
+  pub found_none : (k i n : ℕ) → n ≤ i → found_in name s ranges (k + i) (n - i) ≡ None
   unfolding found_in first_of
   found_none k i n h = rw (fields-none s ranges (k + i) i n h)
 
@@ -70,8 +69,8 @@ module _ (s ranges name : List ℕ) where
 pub asked-when : (name s hs ns : List ℕ) {o p : Outcome} → o ≡ p → asked_from name s p hs ns ≡ asked_from name s o hs ns
 asked-when name s hs ns e = ap (λ (y : Outcome). asked_from name s y hs ns) (sym e)
 
-pub asked-message : (name s hs ns : List ℕ) (r : Record) {o : Outcome} {f : Found} {k : ℕ} → o ≡ outcome.Message r → k ≡ fields_before ns r.informational
-    → f ≡ found_in name s hs k r.headers → record { found = f; number = 0; place = 0 } ≡ asked_from name s o hs ns
+pub asked-message : (name s hs ns : List ℕ) (r : Record) {o : Outcome} {f : Option Span} {k : ℕ} → o ≡ Ok r → k ≡ fields_before ns r.informational
+    → f ≡ found_in name s hs k r.headers → Ok f ≡ asked_from name s o hs ns
 asked-message name s hs ns r e q h = rw (e, h, q)
 
 -- the first value does not hang on where lines begin
@@ -91,7 +90,7 @@ module _ {s : List ℕ} {n : ℕ} {m : Message} {r : Record} {hs ns cs ts : List
       go (request_start a b c d) p = fields-are s hs (fields_before ns 0) (kept false m.lines) p
       go (response_start is c) p = fields-are s hs (fields_before ns (length is)) (kept true m.lines) p
 
-module _ {x : Answer Message} {o : Outcome} (s : List ℕ) {hs ns cs ts : List ℕ} (held : (r : Record) → o ≡ outcome.Message r → IsHeld x s r hs ns cs ts) where
+module _ {x : Answer Message} {o : Outcome} (s : List ℕ) {hs ns cs ts : List ℕ} (held : (r : Record) → o ≡ Ok r → IsHeld x s r hs ns cs ts) where
   pub outcome-within : OutcomeWithin s o hs ns
   outcome-within = record {
     message = λ r e.
@@ -106,25 +105,26 @@ module _ {x : Answer Message} {o : Outcome} (s : List ℕ) {hs ns cs ts : List �
   asked_is name h = go o refl
     where
       go : (y : Outcome) → o ≡ y → asked_from name s y hs ns ≡ asked_of (question_of name (length s) x)
-      go (outcome.Message r) e = rw ((held r e).2, held-headers (held r e).3, first_entry name _)
-      go (outcome.Refusal k p) e = rw (given-refusal h k p e)
-      go outcome.More e = rw (given-more h e)
+      go (Ok r) e = rw ((held r e).2, held-headers (held r e).3, first_entry name _)
+      go (Err (Stop.Refused r)) e = rw (given-refusal h r.number r.place e)
+      go (Err Stop.More) e = rw (given-more h e)
 
 -- ---- an answer as a slice: the part is cut out of s, or the default is given
 
-module _ (s default : List ℕ) (m d : ℕ × ℕ) {f : Found} where
-  pub cut-part : {a n : ℕ} → f ≡ found.Part a n → a + n ≤ length s → (take (a + n - a) (drop a s) ≡ octets_or s default f) × ((m.0, a + m.1) ≡ points_to f m d)
-  cut-part {a} {n} e h = (rw (e, add-sub_cancel_left a n) (sym (elements-take 0 s a n h)), rw e)
+module _ (s default : List ℕ) (m d : ℕ × ℕ) {f : Option Span} where
+  pub cut-part : {w : Span} → f ≡ Some w → w.start + w.len ≤ length s
+      → (take (w.start + w.len - w.start) (drop w.start s) ≡ octets_or s default f) × ((m.0, w.start + m.1) ≡ points_to f m d)
+  cut-part {w} e h = (rw (e, add-sub_cancel_left w.start w.len) (sym (elements-take 0 s w.start w.len h)), rw e)
 
-  pub cut-nothing : f ≡ found.Nothing → (default ≡ octets_or s default f) × (d ≡ points_to f m d)
+  pub cut-nothing : f ≡ None → (default ≡ octets_or s default f) × (d ≡ points_to f m d)
   cut-nothing e = (rw e, rw e)
 
 -- ---- what is found is a part of the message
 
 -- the octets of a part stand at its place in s
 abbrev pub LiesIn : List ℕ → Option Piece → Type 0
-LiesIn s none = Unit {0}
-LiesIn s (some w) = Lying s w
+LiesIn s None = Unit {0}
+LiesIn s (Some w) = Lying s w
 
 module _ (s name : List ℕ) where
   first-lies : (fs : List FieldRead) → Each (OfLine (Lying s)) fs → LiesIn s (first_of name fs)
@@ -132,53 +132,56 @@ module _ (s name : List ℕ) where
   first-lies [] h = tt
   first-lies (f ∷ fs) h = go (same_text (map lower_of f.name.text) name) (first-lies fs h.1)
     where
-      go : (b : Bool) → LiesIn s (first_of name fs) → LiesIn s (cond b (some f.value) (first_of name fs))
+      go : (b : Bool) → LiesIn s (first_of name fs) → LiesIn s (cond b (Some f.value) (first_of name fs))
       go true ih = h.0.value
       go false ih = ih
 
-  question-lies : (n : ℕ) (x : Answer Message) → ((k : ℕ) (m : Message) → x ≡ accepted k m → Sound s m) → LiesIn s (question_of name n x).found
+  question-lies : (n : ℕ) (x : Answer Message) → ((k : ℕ) (m : Message) → x ≡ accepted k m → Sound s m) → LiesIn s (found_part (question_of name n x))
   question-lies n (accepted k m) sound =
       first-lies (kept (is_response m.start) m.lines) (each-kept (OfLine (Lying s)) (is_response m.start) m.lines (sound k m refl).placed.lines)
   question-lies n (refused k p) sound = tt
   question-lies n more sound = tt
 
-  pub request-lies : (t : Told) → LiesIn s (request_question t name s).found
+  pub request-lies : (t : Told) → LiesIn s (found_part (request_question t name s))
   unfolding request_question
   request-lies t = question-lies (length s) (read_request t s) (λ n m e. (request-sound t s n m e).sound)
 
-  pub response-lies : (t : Told) → LiesIn s (response_question t name s).found
+  pub response-lies : (t : Told) → LiesIn s (found_part (response_question t name s))
   unfolding response_question
   response-lies t = question-lies (length s) (read_response t s) (λ n m e. (response-sound t s n m e).sound)
 
-  pub binary-lies : (t : Told) → LiesIn s (binary_question t name s).found
+  pub binary-lies : (t : Told) → LiesIn s (found_part (binary_question t name s))
   unfolding binary_question
   binary-lies t = question-lies (length s) (read_binary t s) (λ n m e. (binary-sound t s n m e).sound)
 
-module _ (s : List ℕ) {a : Asked} (q : Question) (e : a ≡ asked_of q) (l : LiesIn s q.found) where
-  found-is : a.found ≡ found_of q.found
+module _ (s : List ℕ) {a : Asked} (q : Question) (e : a ≡ asked_of q) (l : LiesIn s (found_part q)) where
+  parts : (found_part a ≡ found_of (found_part q)) × (lent_number a ≡ lent_number q) × (lent_place a ≡ lent_place q)
   unfolding asked_of
-  found-is = rw e
-
-  pub found_within : FoundWithin s a.found
-  found_within = record { part = λ i n h. go q.found l i n (sym found-is ∙ h) }
+  parts = rw e (go q)
     where
-      go : (f : Option Piece) → LiesIn s f → (i n : ℕ) → found_of f ≡ found.Part i n → i + n ≤ length s
-      go none y i n h = let z : ◌≡◌ {A = ℕ} 0 1 = cc in absurd (omega arith)
-      go (some w) y i n h =
-          let u : w.place ≡ i = cc in
-          let v : length w.text ≡ n = cc in
-          omega (arith, lies_in y, u, v)
+      go : (x : Question) → (found_part (asked_of x) ≡ found_of (found_part x)) × (lent_number (asked_of x) ≡ lent_number x) × (lent_place (asked_of x) ≡ lent_place x)
+      go (Ok f) = (refl, refl, refl)
+      go (Err k) = (refl, refl, refl)
 
-  pub answered : {default octets : List ℕ} {message-at default-at at : ℕ × ℕ} {n p : ℕ} → octets ≡ octets_or s default a.found
-      → at ≡ points_to a.found message-at default-at → n ≡ a.number → p ≡ a.place → Answered q default message-at default-at octets at n p
-  unfolding asked_of
+  pub found_within : FoundWithin s (found_part a)
+  found_within = record { part = λ w h. go (found_part q) l w (sym parts.0 ∙ h) }
+    where
+      go : (f : Option Piece) → LiesIn s f → (w : Span) → found_of f ≡ Some w → w.start + w.len ≤ length s
+      go None y w h = let z : ◌≡◌ {A = ℕ} 0 1 = cc in absurd (omega arith)
+      go (Some v) y w h =
+          let u : v.place ≡ w.start = cc in
+          let n : length v.text ≡ w.len = cc in
+          omega (arith, lies_in y, u, n)
+
+  pub answered : {default octets : List ℕ} {message-at default-at at : ℕ × ℕ} {n p : ℕ} → octets ≡ octets_or s default (found_part a)
+      → at ≡ points_to (found_part a) message-at default-at → n ≡ lent_number a → p ≡ lent_place a → Answered q default message-at default-at octets at n p
   answered {default} v w n p = record {
-    value = v ∙ ap (octets_or s default) found-is ∙ go q.found l;
-    slice = rw found-is at w;
-    number = n ∙ rw e;
-    place = p ∙ rw e;
+    value = v ∙ ap (octets_or s default) parts.0 ∙ go (found_part q) l;
+    slice = rw parts.0 at w;
+    number = n ∙ parts.1;
+    place = p ∙ parts.2;
   }
     where
       go : (f : Option Piece) → LiesIn s f → octets_or s default (found_of f) ≡ value_or default f
-      go none y = refl
-      go (some z) y = lies-is y
+      go None y = refl
+      go (Some z) y = lies-is y

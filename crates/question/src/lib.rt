@@ -4,30 +4,18 @@
 ghost use Rattle.std.specs.Prelude.{◌≡◌, map, ◌+◌, ◌*◌, ◌≤◌, length};
 ghost use Rattle.octets.specs.Text.{lower_of, same_text};
 ghost use Rattle.ranges.specs.Entries.{field_in, EntryWithin, FieldsWithin};
-ghost use Rattle.turn.specs.Question.{request_question, response_question, binary_question};
+ghost use Rattle.turn.specs.Question.{found_part, lent_number, lent_place, request_question, response_question, binary_question};
 ghost use Rattle.question.specs.Asking.{asked_of, value_part, found_in, OutcomeWithin, asked_from, octets_or, points_to, FoundWithin, Answered};
 
 use binary_reader::whole::binary_in;
 use http1_reader::request::request_in;
 use http1_reader::response::response_in;
-use messages::{Outcome, Told};
-use octets::{Refusals, class_table, same};
+use messages::{Outcome, Span, Stop, Told};
+use octets::{ClassTable, Refusal, Refused, same};
 use ranges::{fields_before, number_at};
 
-// A value that was found, as a part of the message, or nothing: the default is meant then.
-#[derive(Clone, Copy)]
-pub enum Found {
-    Part { start: usize, len: usize },
-    Nothing,
-}
-
-// An answer: what was found, and the message's refusal or 0 and 0.
-#[derive(Clone, Copy)]
-pub struct Asked {
-    pub found: Found,
-    pub number: u32,
-    pub place: usize,
-}
+// An answer: the value that was found, as a part of the message, or nothing: the default is meant then; or the message's refusal.
+pub type Asked = Result<Option<Span>, Refused>;
 
 // Whether the field of the entry k has the name.
 fn is_named(s: &[u8], ranges: &[u32], k: usize, name: &[u8]) -> bool
@@ -40,29 +28,26 @@ fn is_named(s: &[u8], ranges: &[u32], k: usize, name: &[u8]) -> bool
 }
 
 // The value of the entry k.
-fn value_of(ranges: &[u32], k: usize) -> Found
+fn value_of(ranges: &[u32], k: usize) -> Span
     requires { k * 4 + 4 ≤ length ranges.now }
     ensures { result ≡ value_part ranges.now k }
 {
     let start = number_at(ranges, k * 4 + 2);
     let len = number_at(ranges, k * 4 + 3);
-    Found::Part { start, len }
+    Span { start, len }
 }
 
 // The first value of the name among n fields from the entry k on.
-fn first_in(s: &[u8], ranges: &[u32], k: usize, n: usize, name: &[u8]) -> Found
+fn first_in(s: &[u8], ranges: &[u32], k: usize, n: usize, name: &[u8]) -> Option<Span>
     requires { FieldsWithin (length s.now) ranges.now k n }
     ensures { result ≡ found_in name.now s.now ranges.now k n }
 {
-    let mut i = 0;
-    while i < n {
+    for i in 0..n {
         if is_named(s, ranges, k + i, name) {
-            return value_of(ranges, k + i);
-        } else {
-            i += 1;
+            return Some(value_of(ranges, k + i));
         }
     }
-    Found::Nothing
+    None
 }
 
 // The answer from a reader's outcome and the ranges that it left.
@@ -71,24 +56,11 @@ fn asked_from(s: &[u8], o: Outcome, headers: &[u32], heads: &[u32], name: &[u8])
     ensures { result ≡ asked_from name.now s.now o headers.now heads.now }
 {
     match o {
-        Outcome::More => return Asked {
-            found: Found::Nothing,
-            number: Refusals::MORE_NEEDED,
-            place: s.len(),
-        },
-        Outcome::Refusal { number, place } => return Asked {
-            found: Found::Nothing,
-            number,
-            place,
-        },
-        Outcome::Message(r) => {
+        Err(Stop::More) => Err(Refusal::MoreNeeded.at(s.len())),
+        Err(Stop::Refused(refused)) => Err(refused),
+        Ok(r) => {
             let k = fields_before(heads, r.informational);
-            let found = first_in(s, headers, k, r.headers, name);
-            return Asked {
-                found,
-                number: 0,
-                place: 0,
-            };
+            Ok(first_in(s, headers, k, r.headers, name))
         }
     }
 }
@@ -97,7 +69,7 @@ fn asked_from(s: &[u8], o: Outcome, headers: &[u32], heads: &[u32], name: &[u8])
 pub fn request_found(s: &[u8], told: Told, name: &[u8]) -> Asked
     ensures { result ≡ asked_of (request_question told name.now s.now) }
 {
-    let t = class_table();
+    let t = ClassTable::new();
     let heads = [0u32; 8];
     let mut headers = [0u32; 256];
     let mut chunks = [0u32; 512];
@@ -110,7 +82,7 @@ pub fn request_found(s: &[u8], told: Told, name: &[u8]) -> Asked
 pub fn response_found(s: &[u8], told: Told, name: &[u8]) -> Asked
     ensures { result ≡ asked_of (response_question told name.now s.now) }
 {
-    let t = class_table();
+    let t = ClassTable::new();
     let mut headers = [0u32; 1280];
     let mut heads = [0u32; 8];
     let mut chunks = [0u32; 512];
@@ -131,7 +103,7 @@ pub fn response_found(s: &[u8], told: Told, name: &[u8]) -> Asked
 pub fn binary_found(s: &[u8], told: Told, name: &[u8]) -> Asked
     ensures { result ≡ asked_of (binary_question told name.now s.now) }
 {
-    let t = class_table();
+    let t = ClassTable::new();
     let mut headers = [0u32; 1280];
     let mut heads = [0u32; 8];
     let mut chunks = [0u32; 512];
@@ -156,18 +128,26 @@ fn field_or<'a>(
     number: &mut u32,
     place: &mut usize,
 ) -> &'a [u8]
-    requires { FoundWithin s.now a.found }
-    ensures result_value { result.now ≡ octets_or s.now «default».now a.found }
-    ensures ref_ptr_value { result.ref_ptr ≡ points_to a.found s.entry.ref_ptr «default».entry.ref_ptr }
-    ensures number_after { number.new ≡ a.number }
-    ensures place_after { place.new ≡ a.place }
+    requires { FoundWithin s.now (found_part a) }
+    ensures result_value { result.now ≡ octets_or s.now «default».now (found_part a) }
+    ensures ref_ptr_value { result.ref_ptr ≡ points_to (found_part a) s.entry.ref_ptr «default».entry.ref_ptr }
+    ensures number_after { number.new ≡ lent_number a }
+    ensures place_after { place.new ≡ lent_place a }
 {
-    *number = a.number;
-    *place = a.place;
-    let found = a.found;
-    match found {
-        Found::Part { start, len } => &s[start..start + len],
-        Found::Nothing => default,
+    match a {
+        Ok(found) => {
+            *number = 0;
+            *place = 0;
+            match found {
+                Some(part) => &s[part.start..part.start + part.len],
+                None => default,
+            }
+        }
+        Err(e) => {
+            *number = e.number;
+            *place = e.place;
+            default
+        }
     }
 }
 

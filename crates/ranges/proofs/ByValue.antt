@@ -14,8 +14,8 @@ use Rattle.messages.specs.Message.{FieldRead, InformationalRead, Start, request_
 use Rattle.messages.specs.Names.{kept, kept_trailers}
 use Rattle.messages.specs.Answers.{chunks_numbers, informational_numbers, informational_lines, informational_in, padded, ranges_of, record_of, reading_of}
 use Rattle.messages.specs.declared.Ranges.{Ranges}
-use Rattle.messages.specs.declared.Outcome.{Outcome}
-use Rattle.messages.specs.declared.Outcome.TheVariants as outcome
+use Rattle.messages.specs.Answers.{Outcome}
+use Rattle.std.proofs.Common.{Ok}
 use Rattle.sound.specs.Sound.{Sound, GoodHeads}
 use Rattle.ranges.specs.Entries.{fields_before}
 use Rattle.ranges.specs.Ranges.{Stores, head_numbers, trailer_numbers, OutcomeSays, Outcomed, InformationalSays, Responded, ranges_with, CountsWithin, cleared_from, reading_from}
@@ -81,7 +81,7 @@ module _ (s : List ℕ) (n : ℕ) (m : Message) (k : Sound s m) {ns' : List ℕ}
       let fs : List FieldRead = kept (is_response m.start) m.lines in
       omega (arith, before, record-headers n m, numbers-length (informational_lines is ++ fs), length-append (informational_lines is) fs)
 
-  counts : CountsWithin (outcome.Message (record_of n m)) ns'
+  counts : CountsWithin (Ok (record_of n m)) ns'
   counts = (
     sound-small s n m k,
     omega (arith, ap length i, splice-length (replicate 8 0) 0 (informational_numbers is), length-replicate {A = ℕ} 8 0),
@@ -111,7 +111,7 @@ module _ {x : Answer Message} {hs' ns' cs' ts' : List ℕ} {o : Outcome} (s : Li
       go (accepted n m) q i z =
           let k = z n m refl in
           ap (λ (w : Outcome). reading_from w ns' hs' ts' cs') q.0
-          ∙ ap (λ (r : Ranges). record { outcome = outcome.Message (record_of n m); ranges = r })
+          ∙ ap (λ (r : Ranges). record { outcome = Ok (record_of n m); ranges = r })
           (ranges-are m (zeros-padded 8 _ (informational-small k) i) (cleared-padded 1280 _ _ q.1 (length-replicate {A = ℕ} 1280 0) (fields-counted s n m k i))
           (cleared-padded 256 _ _ q.3 (length-replicate {A = ℕ} 256 0) (trailers-counted n m)) (zeros-padded 512 _ (chunks-small k) q.2))
       go (refused k p) q i z = ap (λ (w : Outcome). reading_from w ns' hs' ts' cs') q

@@ -14,8 +14,7 @@ use Rattle.script.specs.Script.{Lies}
 use Rattle.script.specs.Do.{Piece}
 use Rattle.script.proofs.Places.{lies-part, lies_at, lies_in}
 use Rattle.output.specs.Splice.{part, Puts, Put}
-use Rattle.output.specs.Reply.{Reply, Served}
-use Rattle.output.specs.declared.Written.{Written}
+use Rattle.output.specs.Reply.{Reply, Served, Written}
 use Rattle.output.proofs.Laws.{elements-take}
 use Rattle.messages.specs.Message.{FieldRead, InformationalRead, Start, request_start, response_start, is_response, Message, prefix_octets}
 use Rattle.messages.specs.Names.{kept, kept_trailers}

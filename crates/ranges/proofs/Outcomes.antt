@@ -14,10 +14,11 @@ use Rattle.messages.specs.Message.{InformationalRead, Start, request_start, resp
 use Rattle.messages.specs.Names.{kept, kept_trailers}
 use Rattle.messages.specs.Meaning.{content_of, meaning}
 use Rattle.messages.specs.Valid.{valid}
-use Rattle.messages.specs.Answers.{fields_numbers, chunks_numbers, informational_numbers, informational_lines, informational_in, record_from, record_of}
+use Rattle.messages.specs.Answers.{fields_numbers, chunks_numbers, informational_numbers, informational_lines, informational_in, record_from, record_of, Outcome, number_of, place_of}
 use Rattle.messages.specs.declared.Record.{Record}
-use Rattle.messages.specs.declared.Outcome.{Outcome}
-use Rattle.messages.specs.declared.Outcome.TheVariants as outcome
+use Rattle.std.proofs.Common.{Ok, Err}
+use Rattle.messages.specs.declared.Stop.{Stop}
+use Rattle.octets.specs.Refusals.{refused_at}
 use Rattle.messages.proofs.Noting.{kept-few, trailers-few}
 use Rattle.messages.proofs.Valid.{meaning-ok}
 use Rattle.sound.specs.Placed.{Each}
@@ -43,37 +44,41 @@ pub record Given (x : Answer Message) (hs hs' cs cs' ts ts' : List ℕ) (r : Rec
   pub pieces : cs' ≡ splice cs 0 (chunks_numbers message.chunks)
   pub trailers : Stores ts 0 (trailer_numbers message) ts'
 
-no-message : {A : Type 0} {k p : ℕ} {r : Record} → outcome.Refusal k p ≡ outcome.Message r → A
+no-message : {A : Type 0} {k p : ℕ} {r : Record} → Err (Stop.Refused (refused_at k p)) ≡ Ok r → A
 no-message e = let z : ◌≡◌ {A = ℕ} 0 1 = cc in absurd (omega arith)
 
-no_more : {A : Type 0} {r : Record} → outcome.More ≡ outcome.Message r → A
+no_more : {A : Type 0} {r : Record} → Err Stop.More ≡ Ok r → A
 no_more e = let z : ◌≡◌ {A = ℕ} 0 1 = cc in absurd (omega arith)
 
 module _ {x : Answer Message} {hs hs' cs cs' ts ts' : List ℕ} {o : Outcome} (h : Outcomed x hs hs' cs cs' ts ts' o) where
-  pub given-message : (r : Record) → o ≡ outcome.Message r → Given x hs hs' cs cs' ts ts' r
+  pub given-message : (r : Record) → o ≡ Ok r → Given x hs hs' cs cs' ts ts' r
   given-message r e = go x h.says
     where
       go : (y : Answer Message) → OutcomeSays y hs hs' cs cs' ts ts' o → Given y hs hs' cs cs' ts ts' r
       go (accepted n m) q =
-          let z : outcome.Message r ≡ outcome.Message (record_of n m) = sym e ∙ q.0 in
+          let z : Ok r ≡ Ok (record_of n m) = sym e ∙ q.0 in
           record { long = n; message = m; taken = refl; numbers = cc; fields = q.1; pieces = q.2; trailers = q.3 }
       go (refused k p) q = no-message (sym q ∙ e)
       go more q = no_more (sym q ∙ e)
 
-  pub given-refusal : (k p : ℕ) → o ≡ outcome.Refusal k p → x ≡ refused k p
+  pub given-refusal : (k p : ℕ) → o ≡ Err (Stop.Refused (refused_at k p)) → x ≡ refused k p
   given-refusal k p e = go x h.says
     where
       go : (y : Answer Message) → OutcomeSays y hs hs' cs cs' ts ts' o → y ≡ refused k p
       go (accepted n m) q = no-message (sym e ∙ q.0)
-      go (refused i j) q = let z : outcome.Refusal i j ≡ outcome.Refusal k p = sym q ∙ e in cc
-      go more q = let z : outcome.More ≡ outcome.Refusal k p = sym q ∙ e in cc
+      go (refused i j) q =
+          let z : ◌≡◌ {A = Outcome} (Err (Stop.Refused (refused_at i j))) (Err (Stop.Refused (refused_at k p))) = sym q ∙ e in
+          let a : i ≡ k = ap number_of z in
+          let b : j ≡ p = ap (place_of 0) z in
+          cc
+      go more q = let z : ◌≡◌ {A = Outcome} (Err Stop.More) (Err (Stop.Refused (refused_at k p))) = sym q ∙ e in cc
 
-  pub given-more : o ≡ outcome.More → x ≡ more
+  pub given-more : o ≡ Err Stop.More → x ≡ more
   given-more e = go x h.says
     where
       go : (y : Answer Message) → OutcomeSays y hs hs' cs cs' ts ts' o → y ≡ more
       go (accepted n m) q = no_more (sym e ∙ q.0)
-      go (refused i j) q = let z : outcome.Refusal i j ≡ outcome.More = sym q ∙ e in cc
+      go (refused i j) q = let z : ◌≡◌ {A = Outcome} (Err (Stop.Refused (refused_at i j))) (Err Stop.More) = sym q ∙ e in cc
       go more q = refl
 
 -- the outcome, without the informational heads
@@ -214,7 +219,7 @@ IsHeld x s r hs ns cs ts = (n : ℕ) × (m : Message) × (x ≡ accepted n m) ×
 
 module _ {x : Answer Message} {hs hs' cs cs' ts ts' : List ℕ} {o : Outcome} {r : Record} (s : List ℕ) where
   -- from a reader that may have read a response
-  pub held : {ns ns' : List ℕ} → Responded x hs hs' ns ns' cs cs' ts ts' o → o ≡ outcome.Message r → ((n : ℕ) (m : Message) → x ≡ accepted n m → Sound s m)
+  pub held : {ns ns' : List ℕ} → Responded x hs hs' ns ns' cs cs' ts ts' o → o ≡ Ok r → ((n : ℕ) (m : Message) → x ≡ accepted n m → Sound s m)
       → 1280 ≤ length hs → 8 ≤ length ns → 512 ≤ length cs → 256 ≤ length ts → IsHeld x s r hs' ns' cs' ts'
   held {ns} {ns'} h e sound a b c d = go x h.says h.informational sound
     where
@@ -222,7 +227,7 @@ module _ {x : Answer Message} {hs hs' cs cs' ts ts' : List ℕ} {o : Outcome} {r
           → IsHeld y s r hs' ns' cs' ts'
       go (accepted n m) q i z =
           let k = z n m refl in
-          let f : outcome.Message r ≡ outcome.Message (record_of n m) = sym e ∙ q.0 in (
+          let f : Ok r ≡ Ok (record_of n m) = sym e ∙ q.0 in (
             n,
             m,
             refl,
@@ -239,7 +244,7 @@ module _ {x : Answer Message} {hs hs' cs cs' ts ts' : List ℕ} {o : Outcome} {r
       go more q i z = no_more (sym q ∙ e)
 
   -- from a reader of requests; ns may be anything
-  pub held-request : (ns : List ℕ) → Outcomed x hs hs' cs cs' ts ts' o → o ≡ outcome.Message r
+  pub held-request : (ns : List ℕ) → Outcomed x hs hs' cs cs' ts ts' o → o ≡ Ok r
       → ((n : ℕ) (m : Message) → x ≡ accepted n m → Sound s m × (is_response m.start ≡ false))
       → 256 ≤ length hs → 512 ≤ length cs → 256 ≤ length ts → IsHeld x s r hs' ns cs' ts'
   held-request ns h e sound a c d = go x h.says sound
@@ -248,7 +253,7 @@ module _ {x : Answer Message} {hs hs' cs cs' ts ts' : List ℕ} {o : Outcome} {r
           → ((n : ℕ) (m : Message) → y ≡ accepted n m → Sound s m × (is_response m.start ≡ false)) → IsHeld y s r hs' ns cs' ts'
       go (accepted n m) q z =
           let k = (z n m refl).0 in
-          let f : outcome.Message r ≡ outcome.Message (record_of n m) = sym e ∙ q.0 in (
+          let f : Ok r ≡ Ok (record_of n m) = sym e ∙ q.0 in (
             n,
             m,
             refl,

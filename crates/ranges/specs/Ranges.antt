@@ -4,15 +4,16 @@ use Rattle.std.specs.Prelude.{ℕ, ◌+◌, ◌-◌, ◌*◌, ◌≤◌, ◌<◌
 use Rattle.octets.specs.Limits.{lines_most, chunks_most, content_most, informational_most, binary_most}
 use Rattle.script.specs.Script.{Answer, accepted, refused, more, Lies}
 use Rattle.output.specs.Splice.{splice}
-use Rattle.output.specs.Reply.{Reply, Served}
-use Rattle.output.specs.declared.Written.{Written}
+use Rattle.output.specs.Reply.{Reply, Served, Written}
 use Rattle.messages.specs.Message.{InformationalRead, is_response, Message}
 use Rattle.messages.specs.Meaning.{Meaning, meaning}
 use Rattle.messages.specs.Names.{kept, kept_trailers}
 use Rattle.messages.specs.Room.{informational_room}
 use Rattle.messages.specs.Answers.{fields_numbers, chunks_numbers, informational_numbers, informational_lines, informational_in, record_of, reading_of}
-use Rattle.messages.specs.declared.Outcome.{Outcome}
-use Rattle.messages.specs.declared.Outcome.TheVariants as outcome
+use Rattle.messages.specs.Answers.{Outcome}
+use Rattle.std.specs.Prelude.{Ok, Err}
+use Rattle.messages.specs.declared.Stop.{Stop}
+use Rattle.octets.specs.Refusals.{refused_at}
 use Rattle.messages.specs.declared.Record.{Record}
 use Rattle.messages.specs.declared.Ranges.{Ranges}
 use Rattle.messages.specs.declared.Reading.{Reading}
@@ -51,10 +52,10 @@ trailer_numbers m = fields_numbers (kept_trailers m.trailers)
 -- an answer, and the ranges of an accepted message in the lent space: hs of header fields, cs of chunks, ts of trailer fields
 abbrev pub OutcomeSays : Answer Message → List ℕ → List ℕ → List ℕ → List ℕ → List ℕ → List ℕ → Outcome → Type 0
 OutcomeSays (accepted n m) hs hs' cs cs' ts ts' r =
-    (r ≡ outcome.Message (record_of n m)) × Stores hs 0 (head_numbers m) hs' × (cs' ≡ splice cs 0 (chunks_numbers m.chunks))
+    (r ≡ Ok (record_of n m)) × Stores hs 0 (head_numbers m) hs' × (cs' ≡ splice cs 0 (chunks_numbers m.chunks))
     × Stores ts 0 (trailer_numbers m) ts'
-OutcomeSays (refused k p) hs hs' cs cs' ts ts' r = r ≡ outcome.Refusal k p
-OutcomeSays more hs hs' cs cs' ts ts' r = r ≡ outcome.More
+OutcomeSays (refused k p) hs hs' cs cs' ts ts' r = r ≡ Err (Stop.Refused (refused_at k p))
+OutcomeSays more hs hs' cs cs' ts ts' r = r ≡ Err Stop.More
 
 -- the promise of a reader of requests, which was lent hs, cs and ts
 pub record Outcomed (x : Answer Message) (hs hs' cs cs' ts ts' : List ℕ) (r : Outcome) : Type 0 where
@@ -98,9 +99,8 @@ pub record SmallRecord (r : Record) : Type 0 where
 
 -- the counts of a message are within the ranges ns of informational heads that a reader left, and within the sizes; only a message has counts
 abbrev pub CountsWithin : Outcome → List ℕ → Type 0
-CountsWithin (outcome.Message r) ns = SmallRecord r × (informational_room ≤ length ns) × (fields_before ns r.informational ≤ informational_most * lines_most)
-CountsWithin (outcome.Refusal k p) ns = Unit {0}
-CountsWithin outcome.More ns = Unit {0}
+CountsWithin (Ok r) ns = SmallRecord r × (informational_room ≤ length ns) × (fields_before ns r.informational ≤ informational_most * lines_most)
+CountsWithin (Err e) ns = Unit {0}
 
 -- o with zeros from the place n on
 abbrev pub cleared_from : ℕ → List ℕ → List ℕ
@@ -108,13 +108,13 @@ cleared_from n o = take n o ++ replicate (length o - n) 0
 
 -- a reader's answer by value, from its outcome and the ranges that it left: informational heads, header fields, trailer fields, chunks
 abbrev pub reading_from : Outcome → List ℕ → List ℕ → List ℕ → List ℕ → Reading
-reading_from (outcome.Message r) ns hs ts cs =
+reading_from (Ok r) ns hs ts cs =
     record {
-      outcome = outcome.Message r;
+      outcome = Ok r;
       ranges = ranges_with ns (cleared_from ((fields_before ns r.informational + r.headers) * 4) hs) (cleared_from (r.trailers * 4) ts) cs;
     }
-reading_from (outcome.Refusal k p) ns hs ts cs = reading_of (refused k p)
-reading_from outcome.More ns hs ts cs = reading_of more
+reading_from (Err (Stop.Refused e)) ns hs ts cs = reading_of (refused e.number e.place)
+reading_from (Err Stop.More) ns hs ts cs = reading_of more
 
 -- ---- what a writer finds
 

@@ -16,32 +16,25 @@ ghost use Rattle.messages.specs.declared.Kind.TheVariants.{Connection};
 
 use messages::answers::{more, refusal};
 use messages::parts::prefix_len;
-use messages::{Kind, Outcome, Part, PathPrefix, Ranges, Reading};
+use messages::{Kind, Outcome, Part, PathPrefix, Ranges, Reading, Stop};
 use octets::Limits;
 use output::{put_octet, put_part};
 
-// Two numbers are stored as the entry k: start and length of a chunk, or status and number of kept fields of an informational head.
-pub fn store(out: &mut [u32], k: usize, a: u32, b: u32)
-    requires { k * 2 + 2 ≤ length out.old }
-    ensures { out.new ≡ splice out.old (k * 2) (a ∷ b ∷ []) }
+// Numbers are stored as the entry k of as many: start and length of a chunk, status and number of kept fields of an informational head, and the like.
+pub fn store<const N: usize>(out: &mut [u32], k: usize, numbers: [u32; N])
+    requires { k * N + N ≤ length out.old }
+    ensures { out.new ≡ splice out.old (k * N) numbers.entry }
 {
-    let at = k * 2;
-    out[at] = a;
-    out[at + 1] = b;
+    let at = k * N;
+    out[at..at + N].copy_from_slice(&numbers);
 }
 
 // Whether a line is a Connection line.
+#[tactic(auto, unfolding(messages::specs::Names::same_kind))]
 fn is_connection(kind: Kind) -> bool
     ensures { result ≡ same_kind kind Connection }
 {
-    match kind {
-        Kind::Ordinary => false,
-        Kind::HopByHop => false,
-        Kind::Host => false,
-        Kind::ContentLength => false,
-        Kind::TransferEncoding => false,
-        Kind::Connection => true,
-    }
+    matches!(kind, Kind::Connection)
 }
 
 // A line of a section behind `base` fields, n Connection lines before it: where it is one too, start and length of its value are stored.
@@ -51,7 +44,7 @@ pub fn store_connection(out: &mut [u32], base: usize, n: usize, kind: Kind, star
 {
     if is_connection(kind) {
         let entry = (base + Limits::LINES) * 2 - (n + 1);
-        return store(out, entry, start, len);
+        return store(out, entry, [start, len]);
     }
 }
 
@@ -69,11 +62,7 @@ pub fn keep(
     ensures { StoredIf keeps k (name ∷ nlen ∷ value ∷ vlen ∷ []) out.old out.new result }
 {
     if keeps {
-        let at = k * 4;
-        out[at] = name;
-        out[at + 1] = nlen;
-        out[at + 1 + 1] = value;
-        out[at + 1 + 1 + 1] = vlen;
+        store(out, k, [name, nlen, value, vlen]);
         return k + 1;
     }
     k
@@ -83,17 +72,9 @@ pub fn keep(
 fn clear_from(out: &mut [u32], from: usize)
     ensures { out.new ≡ cleared_from from out.old }
 {
-    let mut i = from;
-    while i < out.len() {
-        out[i] = 0;
-        i += 1;
+    if from < out.len() {
+        out[from..].fill(0);
     }
-}
-
-fn wide(n: u32) -> usize
-    ensures { (result ≡ n) × (result < places_end) }
-{
-    n as usize
 }
 
 // The number at the place i of ranges.
@@ -101,7 +82,7 @@ pub fn number_at(ranges: &[u32], i: usize) -> usize
     requires { i < length ranges.now }
     ensures { (result ≡ get_or ranges.now i 0) × (result < places_end) }
 {
-    wide(ranges[i])
+    ranges[i] as usize
 }
 
 // How many fields the first n informational heads have: the fields of the head behind them begin at that entry.
@@ -109,11 +90,9 @@ pub fn fields_before(heads: &[u32], n: usize) -> usize
     requires { (n * 2 ≤ length heads.now) × (n ≤ informational_most) }
     ensures { result ≡ fields_before heads.now n }
 {
-    let mut i = 0;
     let mut k = 0;
-    while i < n {
+    for i in 0..n {
         k += number_at(heads, i * 2 + 1);
-        i += 1;
     }
     k
 }
@@ -130,9 +109,9 @@ pub fn reading(
     ensures { result ≡ reading_from o informational headers trailers chunks }
 {
     match o {
-        Outcome::More => return more(),
-        Outcome::Refusal { number, place } => return refusal(number, place),
-        Outcome::Message(record) => {
+        Err(Stop::More) => return more(),
+        Err(Stop::Refused(e)) => return refusal(e.number, e.place),
+        Ok(record) => {
             let mut hs = headers;
             let mut ts = trailers;
             let fields = fields_before(&informational, record.informational) + record.headers;
@@ -145,7 +124,7 @@ pub fn reading(
                 chunks,
             };
             return Reading {
-                outcome: Outcome::Message(record),
+                outcome: Ok(record),
                 ranges,
             };
         }
@@ -158,13 +137,11 @@ pub fn put_chunks(out: &mut [u8], at: usize, s: &[u8], chunks: &[u32], n: usize)
     ensures { Put out.old at (content_in s.now chunks.now n)
         (length (content_in s.now chunks.now n)) out.new result }
 {
-    let mut i = 0;
     let mut a = at;
-    while i < n {
+    for i in 0..n {
         let start = number_at(chunks, i * 2);
         let len = number_at(chunks, i * 2 + 1);
         a = put_part(out, a, s, start, len);
-        i += 1;
     }
     a
 }

@@ -47,14 +47,10 @@ fn drop_member(s: &[u8], out: &mut [u32], base: usize, count: usize, name: &[u8]
     ensures { Dropped s.now base count
         (without_name name.now (fields_in s.now out.old base (count - base))) out.old out.new result }
 {
-    let mut i = base;
     let mut k = base;
-    while i < count {
-        if has_name(s, out, i, name) {
-            i += 1;
-        } else {
+    for i in base..count {
+        if !has_name(s, out, i, name) {
             k = move_entry(out, k, i);
-            i += 1;
         }
     }
     k
@@ -88,13 +84,11 @@ fn drop_values(s: &[u8], out: &mut [u32], base: usize, count: usize, connections
         out.old out.new result }
 {
     let mut k = count;
-    let mut i = 0;
-    while i < connections {
+    for i in 0..connections {
         let at = base * 4 + (Limits::LINES * 4 - (i + 1) * 2);
         let start = number_at(out, at);
         let end = start + number_at(out, at + 1);
         k = drop_members(s, out, base, k, &s[start..end]);
-        i += 1;
     }
     k
 }

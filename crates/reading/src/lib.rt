@@ -1,5 +1,7 @@
-// Reads into a lent array.
+// Reads into a lent array; and the files that a program's arguments name.
 #![tactic(auto)]
+
+pub mod arguments; // arguments.rt: the files that a program's arguments name
 
 ghost use Rattle.std.specs.Prelude.{◌≤◌, ◌<◌, length, take, IfOk};
 ghost use Rattle.std.specs.Io.KnownBytes.{Consumes, IsAtEnd};

@@ -9,22 +9,21 @@ use borrow.Author.Tests.{le-leb, lt-leb}
 use lib.Dec.{leb}
 use lib.ListN.{length, length-append, take, drop}
 use lib.Seq.{length-take-le, take_at}
-use Rattle.std.proofs.Common.{Option, None, Some, IfSome}
+use Rattle.std.proofs.Common.{Option, None, Some, IfSome, Ok, Err}
 use Rattle.std.specs.Io.KnownBytes.{Appends, Consumes, IsAtEnd}
 use Rattle.octets.proofs.Kit.{split}
 use Rattle.output.specs.Splice.{splice}
-use Rattle.output.specs.Reply.{writes, written_of, lent_after, Served}
-use Rattle.output.specs.declared.Written.{Written}
-use Rattle.output.specs.declared.Written.TheVariants.{Done, Refused}
+use Rattle.output.specs.Reply.{writes, written_of, lent_after, Served, Written}
 use Rattle.output.proofs.Laws.{splice-is, splice-length}
 use Rattle.salvaging.specs.Line.{input_most, line_most, salvage_line}
 use Rattle.salvaging.proofs.Laws.{salvage-most}
+use Rattle.octets.specs.declared.Refused.{Refused}
 
 module _ (s : List ℕ) {o o' : List ℕ} {w : Written} (room : line_most ≤ length o) (h : Served (writes (salvage_line s)) o o' w) where
   fits : leb (length (salvage_line s)) (length o) ≡ true
   fits = le-leb (length (salvage_line s)) (length o) (omega (arith, room, salvage-most s))
 
-  done : w ≡ Done (length (salvage_line s))
+  done : w ≡ Ok (length (salvage_line s))
   unfolding written_of
   done = h.answer ∙ rw fits
 
@@ -32,12 +31,12 @@ module _ (s : List ℕ) {o o' : List ℕ} {w : Written} (room : line_most ≤ le
   unfolding lent_after
   after = h.after ∙ rw fits
 
-  pub not-refused : {A : Type 0} (k p : ℕ) → w ≡ Refused k p → A
-  not-refused k p e = let z : ◌≡◌ {A = ℕ} 0 1 = (let q : Done (length (salvage_line s)) ≡ Refused k p = sym done ∙ e in cc) in absurd (omega arith)
+  pub not-refused : {A : Type 0} (x : Refused) → w ≡ Err x → A
+  not-refused x e = let z : ◌≡◌ {A = ℕ} 0 1 = (let q : Ok (length (salvage_line s)) ≡ Err x = sym done ∙ e in cc) in absurd (omega arith)
 
-  pub printed : {n : ℕ} → w ≡ Done n → (n ≤ length o') × (take n o' ≡ salvage_line s)
+  pub printed : {n : ℕ} → w ≡ Ok n → (n ≤ length o') × (take n o' ≡ salvage_line s)
   printed {n} e =
-      let q : Done n ≡ Done (length (salvage_line s)) = sym e ∙ done in
+      let q : Ok n ≡ Ok (length (salvage_line s)) = sym e ∙ done in
       let l : n ≡ length (salvage_line s) = cc in
       let z : length o' ≡ length o = rw after (splice-length o 0 (salvage_line s)) in
       let k : n ≤ length o' = omega (arith, l, z, room, salvage-most s) in

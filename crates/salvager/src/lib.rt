@@ -5,7 +5,6 @@ ghost use Rattle.std.specs.Prelude.{◌≡◌, ◌≤◌, length, take, OnOk, If
 ghost use Rattle.std.specs.Io.KnownBytes.{Appends};
 ghost use Rattle.salvaging.specs.Line.{line_most, salvage_line};
 
-use output::Written;
 use reading::read_full;
 use salvaging::salvage_line;
 use std::io;
@@ -17,13 +16,9 @@ fn fill(input: &[u8], out: &mut [u8]) -> usize
     ensures in_bounds { result ≤ length out.new }
     ensures out_after { take result out.new ≡ salvage_line input.now }
 {
-    let w = salvage_line(input, out);
-    match w {
-        Written::Refused {
-            number: _,
-            place: _,
-        } => return 0,
-        Written::Done(n) => return n,
+    match salvage_line(input, out) {
+        Ok(n) => n,
+        Err(_) => 0,
     }
 }
 

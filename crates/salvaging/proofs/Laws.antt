@@ -11,8 +11,7 @@ use lib.Seq.{length-take-le}
 use Rattle.octets.specs.Refusals.{no_room}
 use Rattle.numbers.proofs.DigitLaws.{digits-length, count_most}
 use Rattle.output.specs.Splice.{part, may_copy, PutIf}
-use Rattle.output.specs.Reply.{writes, lent_after, Served}
-use Rattle.output.specs.declared.Written.{Written}
+use Rattle.output.specs.Reply.{writes, lent_after, Served, Written}
 use Rattle.output.proofs.Laws.{elements-take}
 use Rattle.output.proofs.Room.{put_of}
 use Rattle.bundle.specs.Bundle.{walk}

@@ -10,7 +10,7 @@ ghost use Rattle.salvaging.specs.Line.{labelled, labelled_size, line_of, line_si
 
 use bundle::reader::read_bundle;
 use numbers::digit_count;
-use octets::Refusals;
+use octets::Refusal;
 use output::{Written, put_decimal, put_octet, put_part, put_text};
 
 // The input of the program: so many octets at most.
@@ -62,7 +62,7 @@ pub fn salvage(s: &[u8], out: &mut [u8]) -> Salvaged
     let f = find_front(s);
     if out.len() < f.kept {
         return Salvaged {
-            number: Refusals::NO_ROOM,
+            number: Refusal::NoRoom as u32,
             place: 0,
             entries: 0,
             kept: 0,
@@ -115,12 +115,9 @@ fn write_line(f: Front, out: &mut [u8]) -> Written
     ensures { Served (writes (line_of f)) out.old out.new result }
 {
     if out.len() < line_size(f) {
-        return Written::Refused {
-            number: Refusals::NO_ROOM,
-            place: 0,
-        };
+        return Err(Refusal::NoRoom.at(0));
     }
-    Written::Done(put_line(out, f))
+    Ok(put_line(out, f))
 }
 
 // The line that the program prints for an input.
@@ -135,7 +132,7 @@ pub fn salvage_line(s: &[u8], out: &mut [u8]) -> Written
             entries: 0,
             kept: 0,
             left: Input::MOST,
-            stop: Refusals::TOO_LARGE,
+            stop: Refusal::TooLarge as u32,
         },
         out,
     )

@@ -11,7 +11,7 @@ use Rattle.octets.specs.Text.{is_empty}
 use Rattle.octets.specs.Limits.{lines_most, chunks_most, content_most, informational_most, binary_most}
 use Rattle.script.specs.Script.{Lies}
 use Rattle.script.specs.Do.{Piece, piece}
-use Rattle.messages.specs.Control.{method_verdict, is_options, path_verdict, is_host, status_verdict, is_informational}
+use Rattle.messages.specs.Control.{method_verdict, is_options, path_verdict, is_host, status_verdict, is_informational, passed}
 use Rattle.messages.specs.Message.{FieldRead, InformationalRead, Start, request_start, response_start, is_response, Message}
 use Rattle.messages.specs.Names.{kept_trailers, are_trailers}
 use Rattle.messages.specs.Meaning.{field_means, informational_means, request, response, control_means, content_of, meaning}
@@ -86,7 +86,7 @@ chunks-one s at w y l = go (eqb (length w) 0) refl
 
 -- ---- control data
 
-pub request-valid : (m a p : List ℕ) (s : ℕ) → method_verdict m ≡ 0 → is_scheme s ≡ true → is_host a ≡ true → path_verdict (is_options m) p ≡ 0 → valid_control (request m s a p) ≡ true
+pub request-valid : (m a p : List ℕ) (s : ℕ) → method_verdict m ≡ passed → is_scheme s ≡ true → is_host a ≡ true → path_verdict (is_options m) p ≡ passed → valid_control (request m s a p) ≡ true
 unfolding valid_control
 request-valid m a p s e f g h = rw (e, f, g, h)
 
@@ -99,7 +99,7 @@ pub record HeadsAt (s : List ℕ) (hs : List InformationalRead) : Type 0 where
   pub each : Each (HeadAt s) hs
   pub few : length hs ≤ informational_most
 
-pub head_at : (s : List ℕ) (n : ℕ) (fs : List FieldRead) → status_verdict n ≡ 0 → is_informational n ≡ true → SectionAt s fs → HeadAt s (record { status = n; lines = fs })
+pub head_at : (s : List ℕ) (n : ℕ) (fs : List FieldRead) → status_verdict n ≡ passed → is_informational n ≡ true → SectionAt s fs → HeadAt s (record { status = n; lines = fs })
 head_at s n fs v i h = record { good = record { verdict = v; early = i; section = section-good s fs h }; lies = section-lies s fs h }
 
 pub heads-snoc : (s : List ℕ) (hs : List InformationalRead) (h : InformationalRead) → HeadsAt s hs → HeadAt s h → length hs < informational_most → HeadsAt s (hs ++ h ∷ [])
@@ -114,7 +114,7 @@ heads-lie s hs a = each_map (HeadAt s) (λ h. Each (OfLine (Lying s)) h.lines) (
 pub heads-good : (s : List ℕ) (hs : List InformationalRead) → HeadsAt s hs → Each (λ h. GoodSection h.lines) hs × (length hs ≤ informational_most)
 heads-good s hs a = (each_map (HeadAt s) (λ h. GoodSection h.lines) (λ h g. g.good.section) hs a.each, a.few)
 
-pub response-valid : (s : List ℕ) (hs : List InformationalRead) (n : ℕ) → HeadsAt s hs → status_verdict n ≡ 0 → is_informational n ≡ false
+pub response-valid : (s : List ℕ) (hs : List InformationalRead) (n : ℕ) → HeadsAt s hs → status_verdict n ≡ passed → is_informational n ≡ false
     → valid_control (response (map informational_means hs) n) ≡ true
 unfolding valid_control
 response-valid s hs n a v i =

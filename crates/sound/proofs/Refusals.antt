@@ -1,41 +1,39 @@
 -- What the rules of both forms refuse with.
+use Rattle.std.proofs.Common.{Ok, Err}
 use Prim.Native.Nat.{ℕ, ◌-◌, ◌≤◌}
 use mathlib.Core.Path.{◌≡◌, refl, subst}
 use mathlib.Core.Bool.{Bool, true, false, cond}
-use mathlib.Core.Logic.{◌⊎◌, inl, inr}
-use mathlib.Core.Option.{Option, none, some}
+use mathlib.Core.Logic.{◌⊎◌}
 use mathlib.Core.List.{List, [], ◌∷◌, map}
 use native.Mathlib.Omega.{arith}
 use borrow.Author.Tests.{eqb-true}
 use lib.Dec.{ltb, leb, eqb}
 use lib.ListN.{length, get_or}
+use Rattle.std.proofs.Common.{Option, Some, None}
 use Rattle.octets.specs.Ascii.{ascii}
 use Rattle.octets.specs.Class.{has_class, token, path, authority}
 use Rattle.octets.specs.Limits.{method_most, path_most, content_most, stated_most}
-use Rattle.octets.specs.Refusals.{bad_syntax, not_supported, bad_status, bad_host, bad_length, too_large}
+use Rattle.octets.specs.Refusals.{bad_syntax, not_supported, bad_status, bad_host, bad_length, too_large, refusal_number}
 use Rattle.octets.specs.Text.{all, lower_of, same_text, is_empty}
 use Rattle.octets.proofs.Kit.{either}
 use Rattle.numbers.specs.Digits.{num_of}
-use Rattle.numbers.specs.declared.Number.{Number}
-use Rattle.numbers.specs.declared.Number.TheVariants.{Is, Not}
 use Rattle.script.specs.Do.{Piece, piece, Judged, good, wrong}
 use Rattle.script.proofs.Refusals.{Judges}
 use Rattle.messages.specs.Message.{FieldRead}
-use Rattle.messages.specs.Control.{is_unsupported, method_verdict, asterisk_verdict, path_verdict, authority_verdict, status_verdict, ends_at_head}
+use Rattle.messages.specs.Control.{is_unsupported, method_verdict, asterisk_verdict, path_verdict, authority_verdict, status_verdict, ends_at_head, Verdict}
 use Rattle.messages.specs.Names.{lines_of}
 use Rattle.messages.specs.Rules.{authority_from, or_bad_host, authority_in, host_once, target_authority, length_stated, framing_from, framing_of, binary_framing_of, request_body, nothing_stated, length_alone}
 use Rattle.messages.specs.Rules.{bodyless_rule, unmeasured_body, content_body, response_body, may_state}
 use Rattle.messages.specs.Told.{is_yes}
 use Rattle.messages.specs.declared.Told.{Told}
 use Rattle.messages.specs.declared.Body.TheVariants.{Sized}
-use Rattle.messages.specs.declared.Ending.{Ending}
-use Rattle.messages.specs.declared.Ending.TheVariants.{Open, Closed}
 use Rattle.messages.specs.declared.Framing.{Framing}
 use Rattle.messages.specs.declared.Framing.TheVariants.{Unstated, Stated, Chunked, Clashing}
 use Rattle.messages.specs.declared.Kind.TheVariants as kind
 use Rattle.sound.specs.Placed.{Each}
 use Rattle.sound.specs.Refusal.{is_one_of, Refusal}
 use Rattle.sound.proofs.Each.{each_of}
+use Rattle.octets.specs.declared.Refusal.{Refusal as Reason}
 
 -- ---- sets of numbers
 
@@ -69,54 +67,49 @@ Common n = is_one_of common_numbers n ≡ true
 abbrev pub status_numbers : List ℕ
 status_numbers = bad_status ∷ not_supported ∷ []
 
--- a verdict is good, or one of these numbers
-abbrev pub VerdictOf : List ℕ → ℕ → Type 0
-VerdictOf ns v = (v ≡ 0) ⊎ (is_one_of ns v ≡ true)
+-- a verdict is good, or a refusal with one of these numbers
+abbrev pub VerdictOf : List ℕ → Verdict → Type 0
+VerdictOf ns (Ok u) = Unit {0}
+VerdictOf ns (Err r) = is_one_of ns (refusal_number r) ≡ true
 
-abbrev pub Verdict : ℕ → Type 0
-Verdict v = VerdictOf common_numbers v
+abbrev pub CommonVerdict : Verdict → Type 0
+CommonVerdict v = VerdictOf common_numbers v
 
-verdict-if : (ns : List ℕ) (t : Bool) {x y : ℕ} → VerdictOf ns x → VerdictOf ns y → VerdictOf ns (cond t x y)
-verdict-if ns t {x} {y} f g = either (VerdictOf ns) t x y (λ a. f) (λ a. g)
+verdict-if : (ns : List ℕ) (t : Bool) (x y : Verdict) → VerdictOf ns x → VerdictOf ns y → VerdictOf ns (cond t x y)
+verdict-if ns t x y f g = either (VerdictOf ns) t x y (λ a. f) (λ a. g)
 
-bad-syntax : Verdict bad_syntax
-bad-syntax = inr refl
+common-if : (t : Bool) (x y : Verdict) → CommonVerdict x → CommonVerdict y → CommonVerdict (cond t x y)
+common-if = verdict-if common_numbers
 
-not-supported : Verdict not_supported
-not-supported = inr refl
-
-too-large : Verdict too_large
-too-large = inr refl
-
-pub method-verdict : (m : List ℕ) → Verdict (method_verdict m)
+pub method-verdict : (m : List ℕ) → CommonVerdict (method_verdict m)
 unfolding method_verdict
 method-verdict m =
-    verdict-if common_numbers (is_empty m) bad-syntax
-    (verdict-if common_numbers (all (has_class token) m)
-    (verdict-if common_numbers (leb (length m) method_most) (verdict-if common_numbers (is_unsupported m) not-supported (inl refl)) too-large)
-    bad-syntax)
+    common-if (is_empty m) _ _ refl
+    (common-if (all (has_class token) m) _ _
+    (common-if (leb (length m) method_most) _ _ (common-if (is_unsupported m) _ _ refl tt) refl)
+    refl)
 
-pub path-verdict : (options : Bool) (p : List ℕ) → Verdict (path_verdict options p)
+pub path-verdict : (options : Bool) (p : List ℕ) → CommonVerdict (path_verdict options p)
 unfolding path_verdict asterisk_verdict
 path-verdict options p =
-    verdict-if common_numbers (is_empty p) bad-syntax
-    (verdict-if common_numbers (eqb (get_or p 0 0) 47)
-    (verdict-if common_numbers (all (has_class path) p) (verdict-if common_numbers (leb (length p) path_most) (inl refl) too-large) bad-syntax)
-    (verdict-if common_numbers options (verdict-if common_numbers (same_text p (ascii "*")) (inl refl) not-supported) not-supported))
+    common-if (is_empty p) _ _ refl
+    (common-if (eqb (get_or p 0 0) 47) _ _
+    (common-if (all (has_class path) p) _ _ (common-if (leb (length p) path_most) _ _ tt refl) refl)
+    (common-if options _ _ (common-if (same_text p (ascii "*")) _ _ tt refl) refl))
 
-pub authority-verdict : (a : List ℕ) → Verdict (authority_verdict a)
+pub authority-verdict : (a : List ℕ) → CommonVerdict (authority_verdict a)
 unfolding authority_verdict
-authority-verdict a = verdict-if common_numbers (all (has_class authority) a) (inl refl) bad-syntax
+authority-verdict a = common-if (all (has_class authority) a) _ _ tt refl
 
 pub status-verdict : (n : ℕ) → VerdictOf status_numbers (status_verdict n)
 unfolding status_verdict
 status-verdict n =
-    verdict-if status_numbers (ltb n 100) (inr refl) (verdict-if status_numbers (ltb 599 n) (inr refl) (verdict-if status_numbers (eqb n 101) (inr refl) (inl refl)))
+    verdict-if status_numbers (ltb n 100) _ _ refl
+    (verdict-if status_numbers (ltb 599 n) _ _ refl (verdict-if status_numbers (eqb n 101) _ _ refl tt))
 
--- a verdict that is not 0
-pub not_good : (ns : List ℕ) {v : ℕ} → VerdictOf ns v → (v ≡ 0 → ⊥) → is_one_of ns v ≡ true
-not_good ns (inl e) h = absurd (h e)
-not_good ns (inr g) h = g
+-- a verdict that refuses
+pub not_good : (ns : List ℕ) {v : Verdict} → VerdictOf ns v → {r : Reason} → v ≡ Err r → is_one_of ns (refusal_number r) ≡ true
+not_good ns h e = subst (VerdictOf ns) e h
 
 -- ---- the place that a head's length has: that of its line
 
@@ -129,9 +122,9 @@ StatedIn e Clashing = Unit {0}
 abbrev pub NamedIn : ℕ → FieldRead → Type 0
 NamedIn e f = f.place ≤ e
 
-length-in : (e p : ℕ) (n : Number) → p ≤ e → StatedIn e (length_stated p n)
-length-in e p (Is n) h = h
-length-in e p Not h = tt
+length-in : (e p : ℕ) (n : Option ℕ) → p ≤ e → StatedIn e (length_stated p n)
+length-in e p (Some n) h = h
+length-in e p None h = tt
 
 framing-from : (e : ℕ) (fs cs : List FieldRead) → Each (NamedIn e) fs → StatedIn e (framing_from fs cs)
 unfolding framing_from
@@ -169,8 +162,8 @@ module _ (ns s : List ℕ) (wide : Among common_numbers ns) (end : ℕ) (inside 
   authority-judged host a fs = on (authority_from a (lines_of kind.Host fs))
     where
       on : (o : Option Piece) → Refuses ns s (or_bad_host end o)
-      on none = record { of_form = host; inside = inside }
-      on (some x) = tt
+      on None = record { of_form = host; inside = inside }
+      on (Some x) = tt
 
   pub target-judged : is_one_of ns bad_host ≡ true → (a : Piece) (fs : List FieldRead) → Refuses ns s (target_authority end a fs)
   unfolding target_authority host_once
@@ -201,13 +194,13 @@ module _ (ns s : List ℕ) (wide : Among common_numbers ns) (end : ℕ) (inside 
   request-judged Chunked h = tt
   request-judged Clashing h = bad-length
 
-  unmeasured-judged : (e : Ending) → Refuses ns s (unmeasured_body e end)
+  unmeasured-judged : (e : Option ℕ) → Refuses ns s (unmeasured_body e end)
   unfolding unmeasured_body
-  unmeasured-judged Open = tt
-  unmeasured-judged (Closed n) =
+  unmeasured-judged None = tt
+  unmeasured-judged (Some n) =
       either (Refuses ns s) (leb (n - end) content_most) (good (Sized (n - end))) (wrong too_large end) (λ a. tt) (λ a. refusal wide refl inside)
 
-  content-judged : (e : Ending) (f : Framing) → StatedIn (length s) f → Refuses ns s (content_body e end f)
+  content-judged : (e : Option ℕ) (f : Framing) → StatedIn (length s) f → Refuses ns s (content_body e end f)
   unfolding content_body
   content-judged e Unstated h = unmeasured-judged e
   content-judged e (Stated n p) h = request-judged (Stated n p) h
@@ -227,7 +220,7 @@ module _ (ns s : List ℕ) (wide : Among common_numbers ns) (end : ℕ) (inside 
   bodyless-judged t n f h =
       either (Refuses ns s) (eqb n 204) (nothing_stated end f) (length_alone t end f) (λ a. nothing-judged f) (λ a. alone-judged t f h)
 
-  pub response-judged : (t : Told) (e : Ending) (n : ℕ) (f : Framing) → StatedIn (length s) f → Refuses ns s (response_body t e n end f)
+  pub response-judged : (t : Told) (e : Option ℕ) (n : ℕ) (f : Framing) → StatedIn (length s) f → Refuses ns s (response_body t e n end f)
   unfolding response_body
   response-judged t e n f h =
       either (Refuses ns s) (ends_at_head t n) (bodyless_rule t n end f) (content_body e end f) (λ a. bodyless-judged t n f h) (λ a. content-judged e f h)

@@ -2,10 +2,10 @@
 use Prim.Native.Nat.{ℕ, ◌≤◌}
 use mathlib.Core.Path.{◌≡◌, refl, sym, subst}
 use mathlib.Core.Bool.{Bool, true, false, cond}
-use mathlib.Core.Option.{none, some}
 use mathlib.Core.List.{List, [], ◌∷◌}
 use native.Mathlib.Omega.{arith}
 use lib.ListN.{length}
+use Rattle.std.proofs.Common.{Some, None}
 use Rattle.octets.specs.Text.{same_text, is_empty}
 use Rattle.octets.proofs.Texts.{same-eq}
 use Rattle.script.specs.Do.{Piece, good}
@@ -46,26 +46,26 @@ pub authority-is : (end : ℕ) (q : Piece) (fs : List FieldRead) (a : Piece) →
 unfolding authority_in authority_from
 authority-is end q fs a e = go (lines_of kind.Host fs) refl e
   where
-    none-line : lines_of kind.Host fs ≡ [] → (b : Bool) → or_bad_host end (cond b none (some q)) ≡ good a → AuthorityIs b q fs a
+    none-line : lines_of kind.Host fs ≡ [] → (b : Bool) → or_bad_host end (cond b None (Some q)) ≡ good a → AuthorityIs b q fs a
     none-line l true g = let z : ◌≡◌ {A = ℕ} 0 1 = cc in absurd (omega arith)
     none-line l false g = let z : q ≡ a = cc in record { same = sym z; equal = rw l tt; few = rw l (omega arith) }
 
     from-line : (f : FieldRead) → lines_of kind.Host fs ≡ f ∷ [] → (b : Bool) → is_host f.value.text ≡ b
-        → or_bad_host end (cond b (some f.value) none) ≡ good a → HostIs fs a
+        → or_bad_host end (cond b (Some f.value) None) ≡ good a → HostIs fs a
     from-line f l true p g =
         let z : f.value ≡ a = cc in
         record { line = f; one = l; same = sym z; good = subst (λ (x : Piece). is_host x.text ≡ true) z p }
     from-line f l false p g = let z : ◌≡◌ {A = ℕ} 0 1 = cc in absurd (omega arith)
 
     both : (f : FieldRead) → lines_of kind.Host fs ≡ f ∷ [] → (b : Bool) → same_text f.value.text q.text ≡ b
-        → or_bad_host end (cond b (some q) none) ≡ good a → Given q fs a
+        → or_bad_host end (cond b (Some q) None) ≡ good a → Given q fs a
     both f l true p g =
         let z : q ≡ a = cc in
         record { same = sym z; equal = rw l (same-eq f.value.text q.text p, tt); few = rw l (omega arith) }
     both f l false p g = let z : ◌≡◌ {A = ℕ} 0 1 = cc in absurd (omega arith)
 
     one_line : (f : FieldRead) → lines_of kind.Host fs ≡ f ∷ [] → (b : Bool)
-        → or_bad_host end (cond b (cond (is_host f.value.text) (some f.value) none) (cond (same_text f.value.text q.text) (some q) none)) ≡ good a
+        → or_bad_host end (cond b (cond (is_host f.value.text) (Some f.value) None) (cond (same_text f.value.text q.text) (Some q) None)) ≡ good a
         → AuthorityIs b q fs a
     one_line f l true g = from-line f l (is_host f.value.text) refl g
     one_line f l false g = both f l (same_text f.value.text q.text) refl g

@@ -7,7 +7,7 @@ use borrow.Author.Tests.{le-leb}
 use lib.ListN.{length, length-map}
 use Rattle.octets.specs.Limits.{lines_most}
 use Rattle.messages.specs.Message.{FieldRead, InformationalRead}
-use Rattle.messages.specs.Control.{status_verdict, is_informational}
+use Rattle.messages.specs.Control.{status_verdict, is_informational, passed}
 use Rattle.messages.specs.Names.{line_kind, is_end_to_end, end_to_end, connection_values, kept, kept_of}
 use Rattle.messages.proofs.Noting.{kept-of-few}
 use Rattle.messages.specs.Meaning.{field_means, informational_means}
@@ -53,7 +53,7 @@ section-valid headers host fs h =
 
 -- an informational head
 pub record GoodHead (h : InformationalRead) : Type 0 where
-  pub verdict : status_verdict h.status ≡ 0
+  pub verdict : status_verdict h.status ≡ passed
   pub early : is_informational h.status ≡ true
   pub section : GoodSection h.lines
 

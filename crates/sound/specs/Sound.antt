@@ -1,6 +1,6 @@
 -- What holds of every message that is accepted, in either form (00, demand 2; 01, "HTTP/1.1 as we take it", "Binary HTTP as we take it", "Sizes";
 -- its last sentence: chunk lengths add up to the content's length; 02, item 5).
-use Rattle.std.specs.Prelude.{ℕ, ◌+◌, ◌<◌, ◌≤◌, ◌≡◌, true, false, List, [], ◌∷◌, map, eqb, length}
+use Rattle.std.specs.Prelude.{ℕ, ◌+◌, ◌<◌, ◌≤◌, ◌≡◌, true, false, List, [], ◌∷◌, map, eqb, length, None}
 use Rattle.octets.specs.Limits.{lines_most, chunks_most, informational_most, binary_most}
 use Rattle.octets.specs.Text.{lower_of}
 use Rattle.script.specs.Do.{Piece}
@@ -11,7 +11,6 @@ use Rattle.messages.specs.Rules.{agrees, stated_in}
 use Rattle.messages.specs.Notes.{is_clashing}
 use Rattle.messages.specs.declared.Framing.{Framing}
 use Rattle.messages.specs.declared.Framing.TheVariants.{Unstated}
-use Rattle.messages.specs.declared.StatedLength.TheVariants.{Missing}
 use Rattle.messages.specs.declared.Told.{Told}
 use Rattle.messages.specs.Meaning.{content_of, meaning}
 use Rattle.messages.specs.Valid.{valid}
@@ -56,7 +55,7 @@ pub record ResponseLength (t : Told) (n : ℕ) (f : Framing) (m : Message) : Typ
 
 -- by the control data: a request has no stated length
 abbrev pub StatesLength : Told → Start → Framing → Message → Type 0
-StatesLength t (request_start method s authority path) f m = LengthAgrees f m × (m.stated ≡ Missing)
+StatesLength t (request_start method s authority path) f m = LengthAgrees f m × (m.stated ≡ None)
 StatesLength t (response_start hs n) f m = ResponseLength t n f m
 
 -- a message m that is accepted from the input s

@@ -1,14 +1,15 @@
 -- The entries of a text: as the code finds them, and what they count of the lines that they were kept of.
-use Prim.Native.Nat.{ℕ, zero, suc, ◌+◌, ◌-◌, ◌≤◌, ◌<◌}
+use Rattle.std.proofs.Common.{Some}
+use Prim.Native.Nat.{ℕ, suc, ◌+◌, ◌-◌, ◌≤◌, ◌<◌}
 use mathlib.Core.Path.{◌≡◌, refl, sym, ap, ap₂, ◌∙◌}
 use mathlib.Core.Bool.{Bool, true, false, cond, not, ◌&&◌}
 use mathlib.Core.Logic.{⊎_elim}
 use mathlib.Core.List.{List, [], ◌∷◌, ◌++◌, map, append_assoc, append-nil}
 use native.Mathlib.Omega.{arith}
-use native.Mathlib.Numerals.{add-one}
-use borrow.Author.Tests.{eqb-true, eqb-false, eq-eqb, ne_eqb, not-true, not-false}
+use borrow.Author.Tests.{eq-eqb, ne_eqb, not-true}
 use lib.Dec.{eqb}
-use lib.ListN.{length, get_or, take, drop, length-append, drop_of_length-le, length-drop, length-map}
+use mir.Val.{bool_byte}
+use lib.ListN.{length, get_or, take, drop, drop_of_length-le, length-drop, length-map}
 use lib.Seq.{drop-drop, take_all, split_at, length-take-le}
 use Rattle.octets.specs.Class.{has_class, token, is_token}
 use Rattle.octets.proofs.Classes.{token-class}
@@ -16,14 +17,12 @@ use Rattle.octets.specs.Text.{span_len, all, is_other, lower_of}
 use Rattle.octets.proofs.Kit.{and_split, no_true, split}
 use Rattle.octets.proofs.Texts.{lower-all, all-implied, other_at, other-is, all-take-span, span-next, span-full, span-within, all_take, all_drop}
 use Rattle.script.specs.Script.{free}
-use Rattle.script.specs.Do.{Piece}
 use Rattle.messages.specs.Message.{FieldRead}
-use Rattle.messages.specs.Connection.{in_front, members, any_member, is_named}
+use Rattle.messages.specs.Connection.{members, any_member, is_named}
 use Rattle.messages.specs.Names.{line_kind, same_kind, lines_of, is_end_to_end, end_to_end, connection_values, unnamed, kept}
 use Rattle.messages.specs.declared.Kind.{Kind}
 use Rattle.messages.specs.declared.Kind.TheVariants as kind
-use Rattle.http1_lines.specs.Lines.{field_lens}
-use Rattle.http1_lines.specs.declared.FieldLine.TheVariants as field
+use Rattle.http1_lines.specs.Lines.{field_lens, field_parts}
 use Rattle.http1_lines.proofs.Views.{field-view}
 use Rattle.step_lines.proofs.Fields.{field_at}
 use Rattle.step_lines.specs.Entries.{host_mark, connection_mark, kept_text, text_of, entries, names_it, named_in, is_name, worth, count_in, PlainLine, AllPlain}
@@ -140,18 +139,20 @@ name-some [] h x y = absurd (h refl)
 name-some (b ∷ v) h x y = rw (ne_eqb b connection_mark x, ne_eqb b host_mark y)
 
 module _ (es : List (List ℕ)) (e : List ℕ) {p : Bool} (i : p ≡ is_name e) where
-  pub worth-none : p ≡ false → 0 ≡ worth es e
+  pub worth-not : p ≡ false → {r : Bool} {n : ℕ} → r ≡ p → n ≡ bool_byte r → (n ≡ worth es e) × (n ≤ 1)
   unfolding worth
-  worth-none x = rw (← i, x)
+  worth-not x {r} {n} er en =
+      let z : n ≡ 0 = en ∙ ap bool_byte (er ∙ x) in
+      (z ∙ rw (← i, x), omega (arith, z))
 
-  module _ (x : p ≡ true) {q : Bool} (y : q ≡ named_in es e) where
-    pub worth-named : q ≡ true → 0 ≡ worth es e
-    unfolding worth
-    worth-named z = rw (← i, x, ← y, z)
-
-    pub worth-one : q ≡ false → 1 ≡ worth es e
-    unfolding worth
-    worth-one z = rw (← i, x, ← y, z)
+  pub worth-by : p ≡ true → (q : Bool) → q ≡ named_in es e → {r : Bool} {n : ℕ} → r ≡ not q → n ≡ bool_byte r → (n ≡ worth es e) × (n ≤ 1)
+  unfolding worth
+  worth-by x true y {r} {n} er en =
+      let z : n ≡ 0 = en ∙ ap bool_byte er in
+      (z ∙ rw (← i, x, ← y), omega (arith, z))
+  worth-by x false y {r} {n} er en =
+      let z : n ≡ 1 = en ∙ ap bool_byte er in
+      (z ∙ rw (← i, x, ← y), omega (arith, z))
 
 -- ---- what they count
 
@@ -278,7 +279,7 @@ free_part l c w h = free_other (take l (drop c w)) ∙ all_take (is_other 10) l 
 pub free-take : (l : ℕ) (w : List ℕ) → free 10 w ≡ true → free 10 (take l w) ≡ true
 free-take l w h = free_other (take l w) ∙ all_take (is_other 10) l w (sym (free_other w) ∙ h)
 
-pub plain-field : (at : ℕ) (v : List ℕ) (m c l : ℕ) → field_lens v ≡ field.Of m c l → free 10 v ≡ true → PlainLine (field_at at v m c l)
+pub plain-field : (at : ℕ) (v : List ℕ) (m c l : ℕ) → field_lens v ≡ Some (field_parts m c l) → free 10 v ≡ true → PlainLine (field_at at v m c l)
 plain-field at v m c l e h =
     let g = field-view v m c l e in
     record {

@@ -1,7 +1,8 @@
 -- A field line that is whole, in a section: what the section's script is behind it.
-use Prim.Native.Nat.{ℕ, zero, suc, ◌+◌, ◌-◌, ◌<◌, ◌≤◌}
-use mathlib.Core.Path.{◌≡◌, refl, sym, ap, ◌∙◌}
-use mathlib.Core.Bool.{Bool, true, false, cond}
+use Rattle.std.proofs.Common.{None, Some}
+use Prim.Native.Nat.{ℕ, suc, ◌+◌, ◌-◌, ◌<◌, ◌≤◌}
+use mathlib.Core.Path.{◌≡◌, refl, ap, ◌∙◌}
+use mathlib.Core.Bool.{cond}
 use mathlib.Core.List.{List, [], ◌∷◌, ◌++◌}
 use native.Mathlib.Omega.{arith}
 use borrow.Author.Tests.{eq-eqb, ne_eqb, lt-leb, le-leb}
@@ -15,9 +16,8 @@ use Rattle.script.specs.Do.{◌>>=◌, piece, tell}
 use Rattle.script.specs.Feed.{failed, after}
 use Rattle.script.proofs.Feeding.{after_stop}
 use Rattle.messages.specs.Message.{FieldRead}
-use Rattle.http1_lines.specs.Lines.{field_lens, field_of}
+use Rattle.http1_lines.specs.Lines.{field_lens, field_of, field_parts}
 use Rattle.http1_lines.specs.Read.{Lines, less, field_lines}
-use Rattle.http1_lines.specs.declared.FieldLine.TheVariants as field
 use Rattle.step_lines.specs.Stepping.{so_far, line_text, LineOpen}
 use Rattle.step_lines.specs.declared.Present.{Present}
 use Rattle.step_lines.proofs.Opening.{whole, some-octet, text-long, none_left}
@@ -63,12 +63,12 @@ module _ {A : Type 0} (sc : Script A) (k : Lines → Script A) (lines : ℕ) (fs
         by-script (stop too_large l.at) (rw (ne_eqb (length (line_text l room)) 0 some, le-leb lines_most (length fs) (rw count e)) refl) ∙ after_stop _ _ _ _
 
     module _ (few : lines < lines_most) where
-      pub no-field-line : field_lens (line_text l room) ≡ field.Bad → after sc 0 (s ++ b ∷ []) ≡ failed bad_syntax l.at
+      pub no-field-line : field_lens (line_text l room) ≡ None → after sc 0 (s ++ b ∷ []) ≡ failed bad_syntax l.at
       unfolding is_empty field_of ◌>>=◌
       no-field-line e =
           by-script (stop bad_syntax l.at) (rw (ne_eqb (length (line_text l room)) 0 some, lt-leb lines_most (length fs) (rw count few), e) refl) ∙ after_stop _ _ _ _
 
-      module _ (m c n : ℕ) (e : field_lens (line_text l room) ≡ field.Of m c n) where
+      module _ (m c n : ℕ) (e : field_lens (line_text l room) ≡ Some (field_parts m c n)) where
         -- a field line, and the section goes on
         pub field-line-in : after sc 0 (s ++ b ∷ [])
             ≡ after (field_lines (suc (lines_most - (lines + 1))) (l.left - (l.have + 1)) (fs ++ field_at l.at (line_text l room) m c n ∷ []) >>= k) (l.at + (l.have + 1)) []

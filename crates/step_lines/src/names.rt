@@ -8,13 +8,10 @@ use messages::lists::has_member;
 fn does_name(entry: &[u8], name: &[u8]) -> bool
     ensures { result ≡ names_it name.now entry.now }
 {
-    if entry.len() == 0 {
-        return false;
+    match entry {
+        [b',', list @ ..] => has_member(list, name),
+        _ => false,
     }
-    if entry[0] == b',' {
-        return has_member(&entry[1..], name);
-    }
-    false
 }
 
 // Whether one of the entries of a text does.
@@ -36,29 +33,17 @@ fn is_named(text: &[u8], name: &[u8]) -> bool
 fn is_name(entry: &[u8]) -> bool
     ensures { result ≡ is_name entry.now }
 {
-    if entry.len() == 0 {
-        return false;
+    match entry {
+        [] | [b',', ..] | [b':', ..] => false,
+        _ => true,
     }
-    if entry[0] == b',' {
-        return false;
-    }
-    if entry[0] == b':' {
-        return false;
-    }
-    true
 }
 
 // One for a name that no entry of the text names.
 fn worth_of(text: &[u8], entry: &[u8]) -> usize
     ensures { (result ≡ worth (entries text.now) entry.now) × (result ≤ 1) }
 {
-    if is_name(entry) {
-        if is_named(text, entry) {
-            return 0;
-        }
-        return 1;
-    }
-    0
+    usize::from(is_name(entry) && !is_named(text, entry))
 }
 
 // How many names of a text none of its entries names.

@@ -6,19 +6,19 @@ ghost use Rattle.step_lines.specs.Stepping.{line_step};
 use crate::LineStep;
 
 // What is known of a line with an octet more that is no LF.
+#[tactic(auto, using(std::proofs::lemmas::Bool::Decides::nat_tests), unfolding(script::specs::Script::cr_state))]
 fn after_octet(cr: u32, b: u8) -> u32
     ensures { result ≡ cr_state cr b }
 {
-    if cr == 0 {
-        if b == b'\r' {
-            return 1;
-        }
-        return 0;
+    match (cr, b) {
+        (0, b'\r') => 1,
+        (0, _) => 0,
+        _ => 2,
     }
-    2
 }
 
 // An octet more of a line of which `have` octets are in and at most `left` may come.
+#[tactic(auto, using(std::proofs::lemmas::Bool::Decides::nat_tests), unfolding(crate::specs::Stepping::line_step))]
 pub fn line_step(have: usize, left: usize, cr: u32, b: u8) -> LineStep
     ensures { result ≡ line_step have left cr b }
 {
@@ -28,12 +28,8 @@ pub fn line_step(have: usize, left: usize, cr: u32, b: u8) -> LineStep
         }
         return LineStep::Bad;
     }
-    if have < left {
-        if 1 < left - have {
-            let c = after_octet(cr, b);
-            return LineStep::Goes(c);
-        }
-        return LineStep::Long;
+    if have < left && 1 < left - have {
+        return LineStep::Goes(after_octet(cr, b));
     }
     LineStep::Long
 }

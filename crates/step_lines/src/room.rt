@@ -5,18 +5,13 @@ ghost use Rattle.output.specs.Splice.{splice};
 ghost use Rattle.step_lines.specs.Entries.{kept_text};
 
 use messages::Kind;
-use octets::lower;
 
 // So many octets from a place on, moved down.
 pub fn move_down(room: &mut [u8], to: usize, from: usize, n: usize)
     requires { (to ≤ from) × (from + n ≤ length room.old) }
     ensures { room.new ≡ splice room.old to (take n (drop from room.old)) }
 {
-    let mut i = 0;
-    while i < n {
-        room[to + i] = room[from + i];
-        i += 1;
-    }
+    room.copy_within(from..from + n, to);
 }
 
 // So many octets from a place on, put in lower case.
@@ -24,11 +19,7 @@ fn put_lower(room: &mut [u8], from: usize, n: usize)
     requires { from + n ≤ length room.old }
     ensures { room.new ≡ splice room.old from (map lower_of (take n (drop from room.old))) }
 {
-    let mut i = 0;
-    while i < n {
-        room[from + i] = lower(room[from + i]);
-        i += 1;
-    }
+    room[from..from + n].make_ascii_lowercase();
 }
 
 // A name of n octets stays where it stands, in lower case, with LF behind it.

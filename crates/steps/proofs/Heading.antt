@@ -1,19 +1,20 @@
 -- Field lines of the head, octet by octet: the names and values that are kept are those of the lines.
-use Prim.Native.Nat.{ℕ, zero, suc, ◌+◌, ◌-◌, ◌<◌, ◌≤◌}
+use Rattle.std.proofs.Common.{None, Option, Some}
+use Prim.Native.Nat.{ℕ, ◌+◌, ◌-◌, ◌<◌, ◌≤◌}
 use mathlib.Core.Path.{◌≡◌, refl, sym, ap, ap₂, ◌∙◌, subst}
-use mathlib.Core.Bool.{Bool, true, false, cond, not}
+use mathlib.Core.Bool.{Bool, true, false, cond}
 use mathlib.Core.List.{List, [], ◌∷◌, ◌++◌, append_assoc, append-nil, map}
 use native.Mathlib.Omega.{arith}
 use borrow.Author.Tests.{eqb-true, eqb-false, leb-true, leb-false}
 use lib.Dec.{eqb, leb}
 use lib.ListN.{length, take, drop, set, length-append, length-drop}
 use lib.Seq.{take-set-le, take-take, length-take-le, drop-drop, take_at}
-use Rattle.octets.specs.Text.{is_empty, lower_of}
+use Rattle.octets.specs.Text.{lower_of}
 use Rattle.octets.specs.Limits.{head_most, lines_most}
 use Rattle.octets.specs.Refusals.{bad_syntax, too_large}
 use Rattle.octets.proofs.Kit.{either, no_true}
-use Rattle.script.specs.Script.{Script, done, stop, need, free, cr_state}
-use Rattle.script.specs.Do.{◌>>=◌, Piece, piece}
+use Rattle.script.specs.Script.{free, cr_state}
+use Rattle.script.specs.Do.{◌>>=◌}
 use Rattle.script.specs.Feed.{failed, after}
 use Rattle.output.specs.Splice.{splice}
 use Rattle.output.proofs.Laws.{splice-length}
@@ -24,21 +25,20 @@ use Rattle.messages.specs.Notes.{notes_of, note_of}
 use Rattle.messages.proofs.Noting.{notes-more, lines_more}
 use Rattle.messages.specs.declared.Kind.{Kind}
 use Rattle.messages.specs.declared.Kind.TheVariants as kind
-use Rattle.http1_lines.specs.Lines.{field_lens}
+use Rattle.http1_lines.specs.Lines.{field_lens, field_parts}
 use Rattle.http1_lines.specs.Read.{field_lines, after_head, request}
 use Rattle.http1_lines.specs.declared.FieldLine.{FieldLine}
-use Rattle.http1_lines.specs.declared.FieldLine.TheVariants as field
 use Rattle.http1_lines.proofs.Views.{field-within}
-use Rattle.step_lines.specs.Stepping.{so_far, line_text, one_more, next_present, LineOpen}
-use Rattle.step_lines.specs.Entries.{host_mark, kept_text, text_of, AllPlain}
-use Rattle.step_lines.proofs.Opening.{line-open-more, goes_on, too_long, wrong-end, next-open, some-octet, text-long, text-clear}
-use Rattle.step_lines.proofs.Fields.{field_at, section-full, section-ends, lines-full, no-field-line, field-line-in, field-line-last}
+use Rattle.step_lines.specs.Stepping.{so_far, line_text, one_more, next_present}
+use Rattle.step_lines.specs.Entries.{host_mark, kept_text, text_of}
+use Rattle.step_lines.proofs.Opening.{line-open-more, goes_on, too_long, wrong-end, next-open, text-long, text-clear}
+use Rattle.step_lines.proofs.Fields.{field_at, lines-full, no-field-line, field-line-in, field-line-last}
 use Rattle.step_lines.proofs.Moving.{front_of}
 use Rattle.step_lines.proofs.Counting.{text-more, plain_more, plain-field, free-take}
-use Rattle.steps.specs.States.{Held, held, refuse, reading, in_section, with_control, begins, SaneCounts}
-use Rattle.steps.specs.Heads.{head_end, host_from, host_at, field_noted, field_held, on_field, field_in}
+use Rattle.steps.specs.States.{Held, held, refuse, reading, in_section, with_control, begins}
+use Rattle.steps.specs.Heads.{head_end, host_from, field_noted, field_held, on_field, field_in}
 use Rattle.steps.specs.Steps.{whole_by, line_octet}
-use Rattle.steps.specs.Standing.{Fronted, Reading, InHead, Stands, StandsIn}
+use Rattle.steps.specs.Standing.{Fronted, InHead, Stands}
 use Rattle.steps.specs.declared.Control.{Control}
 use Rattle.steps.specs.declared.Phase.{Phase}
 use Rattle.steps.specs.declared.Phase.TheVariants as phase
@@ -123,7 +123,7 @@ module _ (t : Told) (st : State) (room s : List ℕ) (r : InHead t st room s) (b
     clear : free 10 (line_text st.present room) ≡ true
     clear = subst (λ (l : List ℕ). free 10 l ≡ true) (text-clear st.present room s r.line b h) (free-take (st.present.have - 1) (so_far st.present room) r.line.line.clear)
 
-    module _ (some : st.present.have - 1 ≡ 0 → ⊥) (few : st.lines < lines_most) (m c l : ℕ) (y : field_lens (line_text st.present room) ≡ field.Of m c l) where
+    module _ (some : st.present.have - 1 ≡ 0 → ⊥) (few : st.lines < lines_most) (m c l : ℕ) (y : field_lens (line_text st.present room) ≡ Some (field_parts m c l)) where
       abbrev f : FieldRead
       f = field_at st.present.at (line_text st.present room) m c l
 
@@ -312,10 +312,10 @@ module _ (t : Told) (st : State) (room s : List ℕ) (r : InHead t st room s) (b
           (lines-full (request t) (after_head t r.q) st.lines r.fs r.count st.present room s r.line r.stands b e h (λ w. some (sym v-long ∙ w)) (leb-true lines_most st.lines z)))
           (λ z. by_field some (leb-false lines_most st.lines z) (field_lens (line_text st.present room)) refl))
         where
-          by_field : (st.present.have - 1 ≡ 0 → ⊥) → st.lines < lines_most → (y : FieldLine) → field_lens (line_text st.present room) ≡ y
+          by_field : (st.present.have - 1 ≡ 0 → ⊥) → st.lines < lines_most → (y : Option FieldLine) → field_lens (line_text st.present room) ≡ y
               → Stands t (on_field st room y).state (on_field st room y).room (s ++ b ∷ [])
-          by_field some few (field.Of m c l) y = field-stands some few m c l y p
-          by_field some few field.Bad y = refuses t st room (s ++ b ∷ []) bad_syntax st.present.at r.common.good
+          by_field some few (Some f) y = field-stands some few f.name f.value f.len y p
+          by_field some few None y = refuses t st room (s ++ b ∷ []) bad_syntax st.present.at r.common.good
               (no-field-line (request t) (after_head t r.q) st.lines r.fs r.count st.present room s r.line r.stands b e h (λ w. some (sym v-long ∙ w)) few y)
 
   -- one octet more of the head, where its end is told of

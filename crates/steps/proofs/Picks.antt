@@ -1,4 +1,5 @@
 -- The ways through the definitions of the code's functions, over plain variables.
+use Rattle.std.proofs.Common.{None, Option, Some, Err, Ok, Result}
 use Prim.Native.Nat.{ℕ, ◌+◌, ◌-◌, ◌<◌, ◌≤◌}
 use mathlib.Core.Path.{◌≡◌, refl, sym, ap, ap₂, ◌∙◌}
 use mathlib.Core.Bool.{Bool, true, false, cond}
@@ -6,7 +7,7 @@ use mathlib.Core.Logic.{◌⊎◌, inl, inr}
 use mathlib.Core.List.{List, map}
 use native.Mathlib.Omega.{arith}
 use borrow.Author.Tests.{leb-true, eq-eqb, ne_eqb, lt-leb, le-leb, lt-ltb, le-ltb}
-use lib.Dec.{leb, eqb}
+use lib.Dec.{leb}
 use lib.ListN.{length, take, drop, length-take}
 use Rattle.octets.specs.Text.{lower_of}
 use Rattle.octets.specs.Limits.{head_most, lines_most, chunks_most, content_most, chunk_line_most, trailer_most}
@@ -24,27 +25,24 @@ use Rattle.messages.specs.declared.Hosts.{Hosts}
 use Rattle.messages.specs.declared.Hosts.TheVariants.{Nothing, One, Several}
 use Rattle.messages.specs.declared.Body.{Body}
 use Rattle.messages.specs.declared.Body.TheVariants.{Sized, InChunks, UntilClosed}
-use Rattle.messages.specs.declared.BodyAnswer.{BodyAnswer}
-use Rattle.messages.specs.declared.BodyAnswer.TheVariants as body
-use Rattle.http1_lines.specs.Lines.{request_lens, field_lens, chunk_lens}
+use Rattle.octets.specs.declared.Refused.{Refused}
+use Rattle.http1_lines.specs.Lines.{request_lens, field_lens, chunk_lens, field_parts}
 use Rattle.http1_lines.specs.declared.Target.{Target}
 use Rattle.http1_lines.specs.declared.RequestLine.{RequestLine}
-use Rattle.http1_lines.specs.declared.RequestLine.TheVariants as request
 use Rattle.http1_lines.specs.declared.FieldLine.{FieldLine}
-use Rattle.http1_lines.specs.declared.FieldLine.TheVariants as field
-use Rattle.http1_lines.specs.declared.ChunkLine.TheVariants as chunk
 use Rattle.http1_lines.proofs.Views.{request-view, field-within}
 use Rattle.step_lines.specs.Stepping.{line_text, fresh, one_more, next_present}
 use Rattle.step_lines.specs.Entries.{kept_text, entries, count_in}
 use Rattle.step_lines.specs.declared.Present.{Present}
 use Rattle.steps.specs.States.{Held, held, Gives, refuse, finish, reading, in_section, with_control, with_tally, begins}
-use Rattle.steps.specs.Heads.{target_room, control_of, request_held, on_request, request_in, host_stands, hosted_by, kept_part, tally_of, host_behind, given_held, host_held, settle, content_from, on_body, head_end, host_from, host_at, field_noted, field_held, on_field, field_in}
-use Rattle.steps.specs.Bodies.{content_tally, content_octet, size_tally, chunk_tally, chunk_sized, chunk_in, data_cr, chunk_end, chunk_octet, trailer_tally, trailer_noted, trailer_held, trailers_end, trailer_in, on_trailer}
+use Rattle.steps.specs.Heads.{target_room, control_of, request_held, request_in, host_stands, hosted_by, kept_part, tally_of, host_behind, given_held, host_held, settle, content_from, on_body, head_end, host_from, host_at, field_noted, field_held, field_in}
+use Rattle.steps.specs.Bodies.{content_tally, content_octet, size_tally, chunk_tally, chunk_sized, chunk_in, data_cr, chunk_end, chunk_octet, trailer_tally, trailer_noted, trailer_held, trailers_end, trailer_in}
 use Rattle.steps.specs.declared.Control.{Control}
 use Rattle.steps.specs.declared.Tally.{Tally}
-use Rattle.steps.specs.declared.Phase.{Phase}
 use Rattle.steps.specs.declared.Phase.TheVariants as phase
 use Rattle.steps.specs.declared.State.{State}
+use Rattle.octets.specs.declared.Refusal.{Refusal}
+use Rattle.octets.specs.Refusals.{refusal_number}
 
 -- a state beside a room that stays
 pub gives-state : {r x : State} (o : List ℕ) → r ≡ x → Gives (held x o) r o
@@ -110,11 +108,11 @@ module _ (st : State) (n : ℕ) {r : State} where
       chunk-some e p q z f = f ∙ rw (p, z, q, ne_eqb n 0 some, lt-leb chunks_most st.tally.chunks few, le-ltb content_most (st.tally.content + n) e)
 
 module _ (st : State) (w : List ℕ) {r : State} where
-  pub chunk-good : (n : ℕ) → chunk_lens w ≡ chunk.Of n → r ≡ chunk_sized st n → r ≡ chunk_in st w
+  pub chunk-good : (n : ℕ) → chunk_lens w ≡ Some n → r ≡ chunk_sized st n → r ≡ chunk_in st w
   unfolding chunk_in
   chunk-good n e f = f ∙ rw e
 
-  pub chunk-bad : chunk_lens w ≡ chunk.Bad → r ≡ refuse st bad_syntax st.present.at → r ≡ chunk_in st w
+  pub chunk-bad : chunk_lens w ≡ None → r ≡ refuse st bad_syntax st.present.at → r ≡ chunk_in st w
   unfolding chunk_in
   chunk-bad e f = f ∙ rw e
 
@@ -175,11 +173,11 @@ module _ (st : State) (w : List ℕ) {n : ℕ} {r : State} (len : n ≡ st.prese
     trailer-many e f = f ∙ rw (ne_eqb (st.present.have - 1) 0 (some-text st len some), le-leb lines_most st.lines e)
 
     module _ (few : st.lines < lines_most) where
-      pub trailer-bad : field_lens w ≡ field.Bad → r ≡ refuse st bad_syntax st.present.at → r ≡ trailer_in st w
+      pub trailer-bad : field_lens w ≡ None → r ≡ refuse st bad_syntax st.present.at → r ≡ trailer_in st w
       unfolding trailer_in
       trailer-bad e f = f ∙ rw (ne_eqb (st.present.have - 1) 0 (some-text st len some), lt-leb lines_most st.lines few, e)
 
-      pub trailer-good : (m c l : ℕ) → field_lens w ≡ field.Of m c l → r ≡ trailer_held st w (kind_of (map lower_of (take m w))) c l → r ≡ trailer_in st w
+      pub trailer-good : (m c l : ℕ) → field_lens w ≡ Some (field_parts m c l) → r ≡ trailer_held st w (kind_of (map lower_of (take m w))) c l → r ≡ trailer_in st w
       unfolding trailer_in
       trailer-good m c l e f = f ∙ rw (ne_eqb (st.present.have - 1) 0 (some-text st len some), lt-leb lines_most st.lines few, e)
 
@@ -191,29 +189,31 @@ pub request-kept : (st : State) (room : List ℕ) (m : ℕ) (x : Target) {o : Li
 unfolding request_held
 request-kept st room m x a b c d e f g = record { state = g ∙ rw (f, e, d, c, b); room = a }
 
-module _ (st : State) (room : List ℕ) {n : ℕ} {y : RequestLine} (len : n ≡ st.present.have - 1)
+module _ (st : State) (room : List ℕ) {n : ℕ} {y : Result RequestLine Refusal} (len : n ≡ st.present.have - 1)
     (e : y ≡ request_lens st.control.scheme (take (st.present.from + n - st.present.from) (drop st.present.from room))) where
   judged : request_lens st.control.scheme (line_text st.present room) ≡ y
   judged = ap (request_lens st.control.scheme) (sym (line-part st.present room n len)) ∙ sym e
 
-  pub request-good : {r : State} {o : List ℕ} (m : ℕ) (x : Target) → y ≡ request.Of m x → Gives (request_held st room m x) r o → Gives (request_in st room) r o
+  pub request-good : {r : State} {o : List ℕ} (q : RequestLine) → y ≡ Ok q → Gives (request_held st room q.method q.target) r o → Gives (request_in st room) r o
   unfolding request_in
-  request-good m x h g = rw (judged, h) g
+  request-good q h g = rw (judged, h) g
 
-  pub request-bad : {r : State} {o : List ℕ} (k : ℕ) → y ≡ request.Bad k → o ≡ room → r ≡ refuse st k st.present.at → Gives (request_in st room) r o
+  pub request-bad : {r : State} {o : List ℕ} {k : ℕ} (z : Refusal) → y ≡ Err z → k ≡ refusal_number z → o ≡ room → r ≡ refuse st k st.present.at → Gives (request_in st room) r o
   unfolding request_in
-  request-bad k h q g = rw (judged, h) (record { state = g; room = q })
+  request-bad z h i q g = rw (judged, h) (record { state = rw i at g; room = q })
 
 -- the target lies in the line, as the judge's view of it says
-pub request-size : (st : State) (room : List ℕ) {n : ℕ} {y : RequestLine} (len : n ≡ st.present.have - 1) → head_most ≤ length room → st.present.from + st.present.have < head_most
-    → y ≡ request_lens st.control.scheme (take (st.present.from + n - st.present.from) (drop st.present.from room)) → (m : ℕ) (x : Target) → y ≡ request.Of m x
-    → (x.hostlen ≤ x.start) × (m + 1 + (x.start + x.len) ≤ st.present.have) × (m + 1 + (x.host + x.hostlen) ≤ st.present.have)
-request-size st room {n} {y} len space inside e m x h =
+pub request-size : (st : State) (room : List ℕ) {n : ℕ} {y : Result RequestLine Refusal} (len : n ≡ st.present.have - 1) → head_most ≤ length room → st.present.from + st.present.have < head_most
+    → y ≡ request_lens st.control.scheme (take (st.present.from + n - st.present.from) (drop st.present.from room)) → (q : RequestLine) → y ≡ Ok q
+    → (q.target.hostlen ≤ q.target.start) × (q.method + 1 + (q.target.start + q.target.len) ≤ st.present.have) × (q.method + 1 + (q.target.host + q.target.hostlen) ≤ st.present.have)
+request-size st room {n} {y} len space inside e q h =
+    let m : ℕ = q.method in
+    let x : Target = q.target in
     let v = request-view st.control.scheme _ m x (sym e ∙ h) in
     let l : length (take (st.present.from + n - st.present.from) (drop st.present.from room)) ≤ n = omega (arith, length-take (st.present.from + n - st.present.from) (drop st.present.from room)) in
     (by v.host, omega (arith, v.size, l, len), omega (arith, v.within, l, len))
   where
-    by : {P : Type 0} → (x.hostlen ≡ 0) ⊎ (P × (x.host + x.hostlen ≡ x.start)) → x.hostlen ≤ x.start
+    by : {P : Type 0} → (q.target.hostlen ≡ 0) ⊎ (P × (q.target.host + q.target.hostlen ≡ q.target.start)) → q.target.hostlen ≤ q.target.start
     by (inl z) = omega arith
     by (inr z) = omega (arith, z.1)
 
@@ -273,13 +273,13 @@ module _ (st : State) (room : List ℕ) where
     unfolding settle
     settled-host e a b c f = pick_no st.control.given (given_held st room) (host_held st room) e (record { state = f ∙ ap₂ with_tally (c ∙ ap (with_control st) b) tally-is; room = a })
 
-  module _ (end : ℕ) {y : BodyAnswer} (e : y ≡ body_answer (request_body end st.notes.framing)) where
-    pub body-read : {s r : State} {o : List ℕ} (b : Body) → y ≡ body.Read b → Gives (settle st room) s o → r ≡ content_from s end b
+  module _ (end : ℕ) {y : Result Body Refused} (e : y ≡ body_answer (request_body end st.notes.framing)) where
+    pub body-read : {s r : State} {o : List ℕ} (b : Body) → y ≡ Ok b → Gives (settle st room) s o → r ≡ content_from s end b
         → Gives (on_body st room end (body_answer (request_body end st.notes.framing))) r o
     body-read b h g f = rw (← e, h) (record { state = f ∙ ap (λ (x : State). content_from x end b) g.state; room = g.room })
 
-    pub body_refused : {r : State} (n p : ℕ) → y ≡ body.Refused n p → r ≡ refuse st n p → Gives (on_body st room end (body_answer (request_body end st.notes.framing))) r room
-    body_refused n p h f = rw (← e, h) (record { state = f; room = refl })
+    pub body_refused : {r : State} (x : Refused) → y ≡ Err x → r ≡ refuse st x.number x.place → Gives (on_body st room end (body_answer (request_body end st.notes.framing))) r room
+    body_refused x h f = rw (← e, h) (record { state = f; room = refl })
 
   module _ {y : Bool} (e : y ≡ hosted_by st.notes.hosts st room) where
     pub head-hosted : {r : State} {o : List ℕ} → y ≡ true
@@ -350,22 +350,22 @@ module _ (st : State) (room : List ℕ) {n : ℕ} (len : n ≡ st.present.have -
     unfolding field_in
     field-many e f = rw (ne_eqb (st.present.have - 1) 0 (some-text st len some), le-leb lines_most st.lines e) (record { state = f; room = refl })
 
-    module _ (few : st.lines < lines_most) {y : FieldLine} (e : y ≡ field_lens (take (st.present.from + n - st.present.from) (drop st.present.from room))) where
+    module _ (few : st.lines < lines_most) {y : Option FieldLine} (e : y ≡ field_lens (take (st.present.from + n - st.present.from) (drop st.present.from room))) where
       line-judged : field_lens (line_text st.present room) ≡ y
       line-judged = ap field_lens (sym (line-part st.present room n len)) ∙ sym e
 
-      pub field-bad : {r : State} → y ≡ field.Bad → r ≡ refuse st bad_syntax st.present.at → Gives (field_in st room) r room
+      pub field-bad : {r : State} → y ≡ None → r ≡ refuse st bad_syntax st.present.at → Gives (field_in st room) r room
       unfolding field_in
       field-bad h f = rw (ne_eqb (st.present.have - 1) 0 (some-text st len some), lt-leb lines_most st.lines few, line-judged, h) (record { state = f; room = refl })
 
-      pub field-good : {r : State} {o : List ℕ} (m c l : ℕ) → y ≡ field.Of m c l
+      pub field-good : {r : State} {o : List ℕ} (m c l : ℕ) → y ≡ Some (field_parts m c l)
           → Gives (field_held st room (kind_of (map lower_of (take m (drop st.present.from room)))) m c l) r o → Gives (field_in st room) r o
       unfolding field_in
       field-good m c l h g = rw (ne_eqb (st.present.have - 1) 0 (some-text st len some), lt-leb lines_most st.lines few, line-judged, h) g
 
 -- name and value lie in the line
-pub field-size : (st : State) (room : List ℕ) {n : ℕ} {y : FieldLine} → n ≡ st.present.have - 1 → (n ≡ 0 → ⊥)
-    → y ≡ field_lens (take (st.present.from + n - st.present.from) (drop st.present.from room)) → (m c l : ℕ) → y ≡ field.Of m c l → (m < c) × (c + l < st.present.have)
+pub field-size : (st : State) (room : List ℕ) {n : ℕ} {y : Option FieldLine} → n ≡ st.present.have - 1 → (n ≡ 0 → ⊥)
+    → y ≡ field_lens (take (st.present.from + n - st.present.from) (drop st.present.from room)) → (m c l : ℕ) → y ≡ Some (field_parts m c l) → (m < c) × (c + l < st.present.have)
 field-size st room {n} len some e m c l h =
     let v = field-within _ m c l (sym e ∙ h) in
     let k : length (take (st.present.from + n - st.present.from) (drop st.present.from room)) ≤ n = omega (arith, length-take (st.present.from + n - st.present.from) (drop st.present.from room)) in

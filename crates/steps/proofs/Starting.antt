@@ -1,27 +1,26 @@
 -- The request line: one octet more of it, and the head that begins behind it.
-use Prim.Native.Nat.{ℕ, zero, suc, ◌+◌, ◌-◌, ◌<◌, ◌≤◌}
+use Rattle.std.proofs.Common.{Err, Ok, Result}
+use Prim.Native.Nat.{ℕ, suc, ◌+◌, ◌-◌, ◌<◌, ◌≤◌}
 use mathlib.Core.Path.{◌≡◌, refl, sym, ap, ap₂, ◌∙◌, subst}
-use mathlib.Core.Bool.{Bool, true, false, cond, not}
+use mathlib.Core.Bool.{Bool, true, false, not}
 use mathlib.Core.Logic.{◌⊎◌, inl, inr}
 use mathlib.Core.List.{List, [], ◌∷◌, ◌++◌, append-nil}
 use native.Mathlib.Omega.{arith}
-use borrow.Author.Tests.{not-false, eqb-true, eqb-false, eq-eqb, ne_eqb, leb-true}
+use borrow.Author.Tests.{not-false, eqb-true, eqb-false, leb-true}
 use lib.Dec.{eqb, leb}
-use lib.ListN.{length, take, drop, set, length-append, length-drop}
-use lib.Seq.{take-set-le, take-take, length-take-le}
-use Rattle.octets.specs.Text.{is_empty, all}
-use Rattle.octets.specs.Class.{has_class, authority}
+use lib.ListN.{length, take, drop, length-append, length-drop}
+use lib.Seq.{take-take, length-take-le}
+use Rattle.octets.specs.Text.{is_empty}
+use Rattle.octets.specs.Class.{authority}
 use Rattle.octets.specs.Limits.{head_most, lines_most, method_most, authority_most, path_most}
 use Rattle.octets.specs.Refusals.{bad_syntax, too_large}
 use Rattle.octets.proofs.Kit.{either, into, past, no_true}
-use Rattle.script.specs.Script.{Script, done, stop, need}
-use Rattle.script.specs.Do.{◌>>=◌, Piece, piece, tell}
+use Rattle.script.specs.Do.{◌>>=◌, piece}
 use Rattle.script.specs.Feed.{failed, after}
 use Rattle.script.proofs.Feeding.{after_stop}
-use Rattle.output.specs.Splice.{splice}
 use Rattle.output.proofs.Laws.{splice-length}
 use Rattle.messages.specs.declared.Told.{Told}
-use Rattle.messages.specs.Message.{FieldRead, PathRead, Start, prefix_octets}
+use Rattle.messages.specs.Message.{FieldRead, Start, prefix_octets}
 use Rattle.messages.specs.Control.{is_host, is_options}
 use Rattle.messages.specs.Notes.{no_notes}
 use Rattle.messages.specs.Names.{lines_of}
@@ -29,25 +28,27 @@ use Rattle.messages.specs.declared.Kind.TheVariants as kind
 use Rattle.messages.proofs.Noting.{notes-none}
 use Rattle.messages.proofs.Verdicts.{method-rule, path-rule}
 use Rattle.http1_lines.specs.Lines.{RequestRead, request_lens, request_of}
-use Rattle.http1_lines.specs.Read.{line_within, less, field_lines, section, after_head, after_request_line, request}
+use Rattle.http1_lines.specs.Read.{field_lines, section, after_head, request}
 use Rattle.http1_lines.specs.declared.Target.{Target}
 use Rattle.http1_lines.specs.declared.RequestLine.{RequestLine}
-use Rattle.http1_lines.specs.declared.RequestLine.TheVariants as request-line
 use Rattle.http1_lines.proofs.Views.{request-view, RequestView}
-use Rattle.step_lines.specs.Stepping.{so_far, line_text, one_more, next_present, LineOpen}
+use Rattle.step_lines.specs.Stepping.{line_text, next_present}
 use Rattle.step_lines.specs.declared.Present.{Present}
 use Rattle.step_lines.specs.Entries.{text_of}
 use Rattle.step_lines.proofs.Opening.{line-open-more, goes_on, too_long, wrong-end, whole, next-open, some-octet, text-long}
 use Rattle.step_lines.proofs.Fields.{section-full}
-use Rattle.steps.specs.States.{Held, held, refuse, reading, in_section, with_control, begins, SaneCounts}
+use Rattle.steps.specs.States.{refuse, reading, in_section, with_control, begins, SaneCounts}
 use Rattle.steps.specs.Heads.{target_room, control_of, request_held, on_request, request_in}
 use Rattle.steps.specs.Steps.{whole_by, line_octet}
-use Rattle.steps.specs.Standing.{request_rest, Fronted, Reading, InRequestLine, InHead, HeadRead, Stands, StandsIn, control_most}
+use Rattle.steps.specs.Standing.{request_rest, InRequestLine, InHead, HeadRead, Stands, StandsIn}
 use Rattle.steps.specs.declared.Phase.{Phase}
 use Rattle.steps.specs.declared.Phase.TheVariants as phase
 use Rattle.steps.specs.declared.State.{State}
 use Rattle.steps.proofs.Rooms.{take-splice, put_first, put_second, line-part-is}
 use Rattle.steps.proofs.Lines.{refuses, line-ways}
+use Rattle.octets.specs.declared.Refusal.{Refusal}
+use Rattle.http1_lines.specs.Lines.{with_target}
+use Rattle.octets.specs.Refusals.{refusal_number}
 
 pub host-most : (a : List ℕ) → is_host a ≡ true → length a ≤ authority_most
 unfolding is_host
@@ -85,11 +86,11 @@ module _ (t : Told) (st : State) (room s : List ℕ) (r : InRequestLine t st roo
   rest-is e h = whole st.present room s r.line (request t) (request_rest t) r.stands b e h
 
   module _ (e : b ≡ 10) (h : st.present.cr ≡ 1) where
-    bad-is : (n : ℕ) → request_lens t.scheme (line_text st.present room) ≡ request-line.Bad n → after (request t) 0 (s ++ b ∷ []) ≡ failed n st.present.at
+    bad-is : (z : Refusal) → request_lens t.scheme (line_text st.present room) ≡ Err z → after (request t) 0 (s ++ b ∷ []) ≡ failed (refusal_number z) st.present.at
     unfolding request_of ◌>>=◌
-    bad-is n x = rest-is e h ∙ rw x (after_stop _ _ _ _)
+    bad-is z x = rest-is e h ∙ rw x (after_stop _ _ _ _)
 
-    module _ (m : ℕ) (x : Target) (y : request_lens t.scheme (line_text st.present room) ≡ request-line.Of m x) where
+    module _ (m : ℕ) (x : Target) (y : request_lens t.scheme (line_text st.present room) ≡ Ok (with_target m x)) where
       abbrev q : RequestRead
       q = record {
         method = piece st.present.at (take m (line_text st.present room));
@@ -263,9 +264,9 @@ module _ (t : Told) (st : State) (room s : List ℕ) (r : InRequestLine t st roo
     unfolding request_in
     line-in = by (request_lens st.control.scheme (line_text st.present room)) (ap (λ (k : ℕ). request_lens k (line_text st.present room)) (sym r.common.scheme))
       where
-        by : (y : RequestLine) → request_lens t.scheme (line_text st.present room) ≡ y → Stands t (on_request st room y).state (on_request st room y).room (s ++ b ∷ [])
-        by (request-line.Of m x) y = good-stands m x y
-        by (request-line.Bad n) y = refuses t st room (s ++ b ∷ []) n st.present.at r.common.good (bad-is n y)
+        by : (y : Result RequestLine Refusal) → request_lens t.scheme (line_text st.present room) ≡ y → Stands t (on_request st room y).state (on_request st room y).room (s ++ b ∷ [])
+        by (Ok l) y = good-stands l.method l.target y
+        by (Err z) y = refuses t st room (s ++ b ∷ []) (refusal_number z) st.present.at r.common.good (bad-is z y)
 
   -- one octet more of the request line
   pub request-line-takes : st.phase ≡ phase.RequestLine → Stands t (line_octet st room b).state (line_octet st room b).room (s ++ b ∷ [])

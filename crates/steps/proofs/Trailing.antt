@@ -1,47 +1,43 @@
 -- Chunk lines and trailer lines, octet by octet.
-use Prim.Native.Nat.{ℕ, zero, suc, ◌+◌, ◌-◌, ◌*◌, ◌<◌, ◌≤◌}
-use mathlib.Core.Path.{◌≡◌, refl, sym, ap, ap₂, ◌∙◌, subst}
+use Rattle.std.proofs.Common.{None, Option, Some}
+use Prim.Native.Nat.{ℕ, ◌+◌, ◌-◌, ◌*◌, ◌<◌, ◌≤◌}
+use mathlib.Core.Path.{◌≡◌, refl, sym, ap, ◌∙◌, subst}
 use mathlib.Core.Bool.{Bool, true, false, cond}
 use mathlib.Core.List.{List, [], ◌∷◌, ◌++◌, append-nil, map}
 use native.Mathlib.Omega.{arith}
 use borrow.Author.Tests.{eq-eqb, ne_eqb, le-leb, lt-leb, lt-ltb, le-ltb, eqb-true, eqb-false, leb-true, leb-false, ltb-true, ltb-false}
 use lib.Dec.{eqb, leb, ltb}
-use lib.ListN.{length, take, drop, set, length-append, length-set}
+use lib.ListN.{length, take, set, length-append, length-set}
 use lib.Seq.{take-set-le}
 use Rattle.octets.specs.Text.{lower_of}
-use Rattle.octets.specs.Limits.{head_most, lines_most, trailer_most, chunks_most, content_most, chunk_line_most}
+use Rattle.octets.specs.Limits.{lines_most, trailer_most, chunks_most, content_most}
 use Rattle.octets.specs.Refusals.{bad_syntax, bad_length, too_large}
 use Rattle.octets.proofs.Kit.{either}
-use Rattle.script.specs.Script.{Script, done, stop, need, cr_state}
-use Rattle.script.specs.Do.{◌>>=◌, Piece, piece, tell}
-use Rattle.script.specs.Feed.{ended, failed, after}
+use Rattle.script.specs.Script.{Script, stop, cr_state}
+use Rattle.script.specs.Do.{◌>>=◌}
+use Rattle.script.specs.Feed.{failed, after}
 use Rattle.script.proofs.Feeding.{after_stop, after-done}
 use Rattle.script.proofs.Do.{bind-bind}
 use Rattle.messages.specs.declared.Told.{Told}
-use Rattle.messages.specs.declared.Kind.{Kind}
 use Rattle.messages.specs.Message.{FieldRead, Start, Message, plain_message}
-use Rattle.messages.specs.Meaning.{content_of}
 use Rattle.messages.specs.Names.{kind_of, line_kind, is_end_to_end, end_to_end, kept_trailers, are_trailers}
-use Rattle.messages.specs.Notes.{no_notes, notes_of, note_of}
+use Rattle.messages.specs.Notes.{no_notes, note_of}
 use Rattle.messages.proofs.Noting.{notes-none, notes-more, trailers-noted, end-to-end-append, trailers-few}
-use Rattle.http1_lines.specs.Lines.{field_lens, chunk_lens, chunk_of}
+use Rattle.http1_lines.specs.Lines.{field_lens, chunk_lens, chunk_of, field_parts}
 use Rattle.http1_lines.specs.Read.{Lines, Content, section, field_lines, trailer_section, after_chunk_line, chunks_from, request}
 use Rattle.http1_lines.specs.declared.FieldLine.{FieldLine}
-use Rattle.http1_lines.specs.declared.FieldLine.TheVariants as field
-use Rattle.http1_lines.specs.declared.ChunkLine.{ChunkLine}
-use Rattle.http1_lines.specs.declared.ChunkLine.TheVariants as chunk
-use Rattle.step_lines.specs.Stepping.{so_far, line_text, fresh, one_more, next_present, LineOpen}
-use Rattle.step_lines.proofs.Opening.{line-open-more, goes_on, too_long, wrong-end, whole, next-open, some-octet, text-long, fresh-open}
+use Rattle.step_lines.specs.Stepping.{line_text, fresh, one_more, next_present}
+use Rattle.step_lines.proofs.Opening.{line-open-more, goes_on, too_long, wrong-end, whole, next-open, text-long, fresh-open}
 use Rattle.step_lines.proofs.Fields.{field_at, section-ends, lines-full, no-field-line, field-line-in, field-line-last}
-use Rattle.steps.specs.States.{Held, held, refuse, finish, reading, in_section, with_tally, begins, SaneCounts}
+use Rattle.steps.specs.States.{Held, refuse, finish, reading, in_section, with_tally, begins, SaneCounts}
 use Rattle.steps.specs.Bodies.{size_tally, chunk_sized, on_chunk, chunk_in, trailer_tally, trailer_noted, trailer_held, on_trailer, trailers_end, trailer_in}
 use Rattle.steps.specs.Steps.{whole_by, line_octet}
-use Rattle.steps.specs.Standing.{finishing, chunk_rest, trailer_end, Keeps, HeadRead, InChunkLine, InChunk, InTrailers, AtEnd, Stands, StandsIn}
+use Rattle.steps.specs.Standing.{finishing, chunk_rest, trailer_end, HeadRead, InChunkLine, InChunk, InTrailers, AtEnd, Stands}
 use Rattle.steps.specs.declared.Phase.{Phase}
 use Rattle.steps.specs.declared.Phase.TheVariants as phase
 use Rattle.steps.specs.declared.State.{State}
 use Rattle.steps.proofs.Lines.{refuses, line-ways, keeps-still}
-use Rattle.steps.proofs.Starting.{stands-in, head-still, counts-still}
+use Rattle.steps.proofs.Starting.{stands-in, counts-still}
 use Rattle.steps.proofs.Contents.{long-more}
 
 -- a head that is read, with one octet more of a line in the room
@@ -88,11 +84,11 @@ module _ (t : Told) (st : State) (room s : List ℕ) (r : InChunkLine t st room 
         (cond (leb chunks_most (length r.cs)) (stop too_large st.present.at)
         (cond (ltb content_most (st.tally.content + n)) (stop too_large st.present.at) (after_chunk_line (chunks_from (chunks_most - st.tally.chunks)) r.cs st.tally.content n)))
 
-    bad-is : chunk_lens (line_text st.present room) ≡ chunk.Bad → after (request t) 0 (s ++ b ∷ []) ≡ failed bad_syntax st.present.at
+    bad-is : chunk_lens (line_text st.present room) ≡ None → after (request t) 0 (s ++ b ∷ []) ≡ failed bad_syntax st.present.at
     unfolding ◌>>=◌ chunk_of
     bad-is y = whole st.present room s r.line (request t) (chunk_rest (chunks_most - st.tally.chunks) r.cs st.tally.content (finishing r.g r.ls)) r.stands b e h ∙ rw y (after_stop _ _ _ _)
 
-    module _ (n : ℕ) (y : chunk_lens (line_text st.present room) ≡ chunk.Of n) where
+    module _ (n : ℕ) (y : chunk_lens (line_text st.present room) ≡ Some n) where
       size_is : (z : Script Content) → sized n ≡ z → after (request t) 0 (s ++ b ∷ []) ≡ after (z >>= finishing r.g r.ls) (st.present.at + (st.present.have + 1)) []
       unfolding ◌>>=◌ chunk_of
       size_is z x = whole st.present room s r.line (request t) (chunk_rest (chunks_most - st.tally.chunks) r.cs st.tally.content (finishing r.g r.ls)) r.stands b e h ∙ rw y (ap (λ (w : Script Content). after (w >>= finishing r.g r.ls) (st.present.at + (st.present.have + 1)) []) x)
@@ -199,9 +195,9 @@ module _ (t : Told) (st : State) (room s : List ℕ) (r : InChunkLine t st room 
     unfolding chunk_in
     line-in = by (chunk_lens (line_text st.present room)) refl
       where
-        by : (y : ChunkLine) → chunk_lens (line_text st.present room) ≡ y → Stands t (on_chunk st y) room (s ++ b ∷ [])
-        by (chunk.Of n) y = size-stands n y
-        by chunk.Bad y = refuses t st room (s ++ b ∷ []) bad_syntax st.present.at r.head.common.good (bad-is y)
+        by : (y : Option ℕ) → chunk_lens (line_text st.present room) ≡ y → Stands t (on_chunk st y) room (s ++ b ∷ [])
+        by (Some n) y = size-stands n y
+        by None y = refuses t st room (s ++ b ∷ []) bad_syntax st.present.at r.head.common.good (bad-is y)
 
   pub chunk-line-takes : (p : st.phase ≡ phase.ChunkLine) → Stands t (line_octet st room b).state (line_octet st room b).room (s ++ b ∷ [])
   chunk-line-takes p = line-ways st room b (λ (z : Held). Stands t z.state z.room (s ++ b ∷ []))
@@ -285,7 +281,7 @@ module _ (t : Told) (st : State) (room s : List ℕ) (r : InTrailers t st room s
           (λ x. record { by = good-end x }) (λ x. refuses t st room (s ++ b ∷ []) bad_length (st.present.at + 2) r.head.common.good (bad-end x))
 
     -- a trailer line
-    module _ (some : length (line_text st.present room) ≡ 0 → ⊥) (few : st.lines < lines_most) (m c l : ℕ) (y : field_lens (line_text st.present room) ≡ field.Of m c l) where
+    module _ (some : length (line_text st.present room) ≡ 0 → ⊥) (few : st.lines < lines_most) (m c l : ℕ) (y : field_lens (line_text st.present room) ≡ Some (field_parts m c l)) where
       abbrev f : FieldRead
       f = field_at st.present.at (line_text st.present room) m c l
 
@@ -359,10 +355,10 @@ module _ (t : Told) (st : State) (room s : List ℕ) (r : InTrailers t st room s
         (lines-full (request t) k st.lines r.fs r.count st.present room s r.line r.stands b e h (λ w. some (sym v-long ∙ w)) (leb-true lines_most st.lines z)))
         (λ z. by_field (λ w. some (sym v-long ∙ w)) (leb-false lines_most st.lines z) (field_lens (line_text st.present room)) refl))
       where
-        by_field : (length (line_text st.present room) ≡ 0 → ⊥) → st.lines < lines_most → (y : FieldLine) → field_lens (line_text st.present room) ≡ y
+        by_field : (length (line_text st.present room) ≡ 0 → ⊥) → st.lines < lines_most → (y : Option FieldLine) → field_lens (line_text st.present room) ≡ y
             → Stands t (on_trailer st (line_text st.present room) y) room (s ++ b ∷ [])
-        by_field some few (field.Of m c l) y = held-stands some few m c l y p
-        by_field some few field.Bad y = refuses t st room (s ++ b ∷ []) bad_syntax st.present.at r.head.common.good
+        by_field some few (Some f) y = held-stands some few f.name f.value f.len y p
+        by_field some few None y = refuses t st room (s ++ b ∷ []) bad_syntax st.present.at r.head.common.good
             (no-field-line (request t) k st.lines r.fs r.count st.present room s r.line r.stands b e h some few y)
 
   pub trailer-takes : (p : st.phase ≡ phase.TrailerLine) → Stands t (line_octet st room b).state (line_octet st room b).room (s ++ b ∷ [])

@@ -2,6 +2,7 @@
 use Prim.Native.Nat.{ℕ, ◌+◌, ◌-◌, ◌<◌, ◌≤◌}
 use mathlib.Core.Path.{◌≡◌, refl, sym, ap, subst, ◌∙◌}
 use mathlib.Core.Bool.{Bool, true, false, cond}
+use mathlib.Core.Logic.{◌⊎◌, inl, inr}
 use mathlib.Core.List.{List}
 use native.Mathlib.Omega.{arith}
 use borrow.Author.Tests.{lt-ltb, le-ltb, ltb-true, leb-true}
@@ -22,6 +23,7 @@ use Rattle.steps.specs.Steps.{whole_by, on_octet, line_octet, line_taken, data_b
 use Rattle.steps.specs.declared.Answer.{Answer}
 use Rattle.steps.specs.declared.Answer.TheVariants as says
 use Rattle.steps.specs.declared.Phase.{Phase}
+use Rattle.steps.specs.declared.Phase.TheVariants as phase
 use Rattle.steps.specs.declared.State.{State}
 use Rattle.steps.proofs.Picks.{line-part}
 
@@ -121,6 +123,25 @@ module _ (st : State) (room : List ℕ) (b : ℕ) where
   unfolding taken
   taken_as {r} {o} y e g = subst (λ (x : Phase). Gives (taken_by x st room b) r o) (sym e) g
 
+  pub taken-data : {r : State} → (st.phase ≡ phase.Content) ⊎ (st.phase ≡ phase.Chunk) → r ≡ data_taken st b → Gives (taken st room b) r room
+  taken-data (inl e) q = taken_as phase.Content e (record { state = q; room = refl })
+  taken-data (inr e) q = taken_as phase.Chunk e (record { state = q; room = refl })
+
+  pub taken-settled : (st.phase ≡ phase.Ended) ⊎ (st.phase ≡ phase.Refused) → Gives (taken st room b) st room
+  taken-settled (inl e) = taken_as phase.Ended e (record { state = refl; room = refl })
+  taken-settled (inr e) = taken_as phase.Refused e (record { state = refl; room = refl })
+
+  pub taken-line : {r : State} {o : List ℕ} (y : Phase) → st.phase ≡ y → (st.phase ≡ phase.Content → ⊥) → (st.phase ≡ phase.Chunk → ⊥) → (st.phase ≡ phase.Ended → ⊥)
+      → (st.phase ≡ phase.Refused → ⊥) → Gives (line_taken st room b) r o → Gives (taken st room b) r o
+  taken-line phase.RequestLine e c k n z g = taken_as phase.RequestLine e g
+  taken-line phase.FieldLine e c k n z g = taken_as phase.FieldLine e g
+  taken-line phase.Content e c k n z g = absurd (c e)
+  taken-line phase.ChunkLine e c k n z g = taken_as phase.ChunkLine e g
+  taken-line phase.Chunk e c k n z g = absurd (k e)
+  taken-line phase.TrailerLine e c k n z g = taken_as phase.TrailerLine e g
+  taken-line phase.Ended e c k n z g = absurd (n e)
+  taken-line phase.Refused e c k n z g = absurd (z e)
+
 module _ (st : State) (b : ℕ) where
   module _ {x : Bool} (p : x ≡ is_data st.present) where
     pub data-none : x ≡ false → st ≡ data_taken st b
@@ -142,6 +163,16 @@ module _ (st : State) (b : ℕ) where
 pub answer-as : (st : State) {a : Answer} (y : Phase) → st.phase ≡ y → a ≡ answer_by y st → a ≡ answer_in st
 unfolding answer_in
 answer-as st y e f = f ∙ sym (ap (λ (x : Phase). answer_by x st) e)
+
+pub answer-more : (st : State) (y : Phase) → st.phase ≡ y → (st.phase ≡ phase.Ended → ⊥) → (st.phase ≡ phase.Refused → ⊥) → says.More ≡ answer_in st
+answer-more st phase.RequestLine e n z = answer-as st phase.RequestLine e refl
+answer-more st phase.FieldLine e n z = answer-as st phase.FieldLine e refl
+answer-more st phase.Content e n z = answer-as st phase.Content e refl
+answer-more st phase.ChunkLine e n z = answer-as st phase.ChunkLine e refl
+answer-more st phase.Chunk e n z = answer-as st phase.Chunk e refl
+answer-more st phase.TrailerLine e n z = answer-as st phase.TrailerLine e refl
+answer-more st phase.Ended e n z = absurd (n e)
+answer-more st phase.Refused e n z = absurd (z e)
 
 -- ---- beginning and step
 

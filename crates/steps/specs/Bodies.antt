@@ -1,5 +1,5 @@
 -- Content, chunks and trailers, as the code makes them (02, item 13). Of content no octet is kept.
-use Rattle.std.specs.Prelude.{ℕ, ◌+◌, ◌-◌, ◌≡◌, Bool, true, false, cond, List, [], ◌∷◌, map, leb, ltb, eqb, length, take, drop}
+use Rattle.std.specs.Prelude.{ℕ, ◌+◌, ◌-◌, ◌≡◌, Bool, true, false, cond, List, [], ◌∷◌, map, leb, ltb, eqb, length, take, drop, None, Option, Some}
 use Rattle.octets.specs.Text.{lower_of}
 use Rattle.octets.specs.Limits.{trailer_most, chunk_line_most, lines_most, chunks_most, content_most}
 use Rattle.octets.specs.Refusals.{bad_syntax, bad_length, too_large}
@@ -9,9 +9,6 @@ use Rattle.messages.specs.declared.Kind.{Kind}
 use Rattle.messages.specs.declared.Notes.{Notes}
 use Rattle.http1_lines.specs.Lines.{field_lens, chunk_lens}
 use Rattle.http1_lines.specs.declared.FieldLine.{FieldLine}
-use Rattle.http1_lines.specs.declared.FieldLine.TheVariants as field
-use Rattle.http1_lines.specs.declared.ChunkLine.{ChunkLine}
-use Rattle.http1_lines.specs.declared.ChunkLine.TheVariants as chunk
 use Rattle.step_lines.specs.Stepping.{line_text, fresh, one_more, next_present}
 use Rattle.step_lines.specs.declared.Present.{Present}
 use Rattle.steps.specs.States.{refuse, finish, reading, in_section, with_tally, begins}
@@ -53,9 +50,9 @@ chunk_sized st n =
     (refuse st too_large st.present.at)
     (reading (with_tally st (size_tally st.tally n)) phase.Chunk (fresh (st.present.at + (st.present.have + 1)) (n + 2) st.control.end))))
 
-abbrev pub on_chunk : State → ChunkLine → State
-on_chunk st (chunk.Of n) = chunk_sized st n
-on_chunk st chunk.Bad = refuse st bad_syntax st.present.at
+abbrev pub on_chunk : State → Option ℕ → State
+on_chunk st (Some n) = chunk_sized st n
+on_chunk st None = refuse st bad_syntax st.present.at
 
 -- behind a chunk line
 unfoldable pub chunk_in : State → List ℕ → State
@@ -96,9 +93,9 @@ trailer_noted st k n =
 unfoldable pub trailer_held : State → List ℕ → Kind → ℕ → ℕ → State
 trailer_held st w k c l = trailer_noted st k (note_of true st.notes k st.present.at (st.present.at + c) (take l (drop c w)))
 
-abbrev pub on_trailer : State → List ℕ → FieldLine → State
-on_trailer st w (field.Of m c l) = trailer_held st w (kind_of (map lower_of (take m w))) c l
-on_trailer st w field.Bad = refuse st bad_syntax st.present.at
+abbrev pub on_trailer : State → List ℕ → Option FieldLine → State
+on_trailer st w (Some f) = trailer_held st w (kind_of (map lower_of (take f.name w))) f.value f.len
+on_trailer st w None = refuse st bad_syntax st.present.at
 
 -- behind the empty line
 unfoldable pub trailers_end : State → State

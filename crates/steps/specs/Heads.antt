@@ -1,5 +1,5 @@
 -- The ends of a request line, of a field line and of the head, as the code makes them (02, item 13).
-use Rattle.std.specs.Prelude.{ℕ, ◌+◌, ◌-◌, ◌≡◌, Bool, true, false, cond, not, List, [], ◌∷◌, ◌++◌, map, leb, eqb, length, take, drop}
+use Rattle.std.specs.Prelude.{ℕ, ◌+◌, ◌-◌, ◌≡◌, Bool, true, false, cond, not, List, [], ◌∷◌, ◌++◌, map, leb, eqb, length, take, drop, None, Option, Some, Err, Ok, Result}
 use Rattle.octets.specs.Text.{lower_of}
 use Rattle.octets.specs.Limits.{head_most, lines_most, chunk_line_most}
 use Rattle.octets.specs.Refusals.{bad_syntax, bad_host, too_large}
@@ -15,14 +15,11 @@ use Rattle.messages.specs.declared.Hosts.{Hosts}
 use Rattle.messages.specs.declared.Hosts.TheVariants.{Nothing, One, Several}
 use Rattle.messages.specs.declared.Body.{Body}
 use Rattle.messages.specs.declared.Body.TheVariants.{Sized, InChunks, UntilClosed}
-use Rattle.messages.specs.declared.BodyAnswer.{BodyAnswer}
-use Rattle.messages.specs.declared.BodyAnswer.TheVariants as body
+use Rattle.octets.specs.declared.Refused.{Refused}
 use Rattle.http1_lines.specs.Lines.{request_lens, field_lens}
 use Rattle.http1_lines.specs.declared.Target.{Target}
 use Rattle.http1_lines.specs.declared.RequestLine.{RequestLine}
-use Rattle.http1_lines.specs.declared.RequestLine.TheVariants as request
 use Rattle.http1_lines.specs.declared.FieldLine.{FieldLine}
-use Rattle.http1_lines.specs.declared.FieldLine.TheVariants as field
 use Rattle.step_lines.specs.Stepping.{line_text, fresh, next_present}
 use Rattle.step_lines.specs.Entries.{kept_text, entries, count_in}
 use Rattle.steps.specs.States.{Held, held, refuse, finish, reading, in_section, with_control, with_tally, begins}
@@ -31,6 +28,9 @@ use Rattle.steps.specs.declared.Tally.{Tally}
 use Rattle.steps.specs.declared.Phase.{Phase}
 use Rattle.steps.specs.declared.Phase.TheVariants as phase
 use Rattle.steps.specs.declared.State.{State}
+use Rattle.octets.specs.declared.Refusal.{Refusal}
+use Rattle.http1_lines.specs.Lines.{with_target}
+use Rattle.octets.specs.Refusals.{refusal_number}
 
 -- ---- the request line
 
@@ -60,9 +60,9 @@ request_held st room m x =
     (next_present st.present (st.present.from + m + x.hostlen + x.len)) 0 no_notes))
     (target_room room (st.present.from + m) x)
 
-abbrev pub on_request : State → List ℕ → RequestLine → Held
-on_request st room (request.Of m x) = request_held st room m x
-on_request st room (request.Bad n) = held (refuse st n st.present.at) room
+abbrev pub on_request : State → List ℕ → Result RequestLine Refusal → Held
+on_request st room (Ok q) = request_held st room q.method q.target
+on_request st room (Err r) = held (refuse st (refusal_number r) st.present.at) room
 
 -- behind the request line
 unfoldable pub request_in : State → List ℕ → Held
@@ -132,9 +132,9 @@ content_from st end (Sized n) = cond (eqb n 0) (finish st end st.tally) (reading
 content_from st end InChunks = reading st phase.ChunkLine (fresh end chunk_line_most st.control.end)
 content_from st end UntilClosed = st
 
-abbrev pub on_body : State → List ℕ → ℕ → BodyAnswer → Held
-on_body st room end (body.Read b) = held (content_from (settle st room).state end b) (settle st room).room
-on_body st room end (body.Refused n p) = held (refuse st n p) room
+abbrev pub on_body : State → List ℕ → ℕ → Result Body Refused → Held
+on_body st room end (Ok b) = held (content_from (settle st room).state end b) (settle st room).room
+on_body st room end (Err e) = held (refuse st e.number e.place) room
 
 -- behind the empty line: the host rule, then what is stated of the length
 unfoldable pub head_end : State → List ℕ → Held
@@ -184,9 +184,9 @@ field_held st room k m c l =
     (st.present.from + length (kept_text k (take m (drop st.present.from room)) (take l (drop (st.present.from + c) room)))))
     (splice room st.present.from (kept_text k (take m (drop st.present.from room)) (take l (drop (st.present.from + c) room))))
 
-abbrev pub on_field : State → List ℕ → FieldLine → Held
-on_field st room (field.Of m c l) = field_held st room (kind_of (map lower_of (take m (drop st.present.from room)))) m c l
-on_field st room field.Bad = held (refuse st bad_syntax st.present.at) room
+abbrev pub on_field : State → List ℕ → Option FieldLine → Held
+on_field st room (Some f) = field_held st room (kind_of (map lower_of (take f.name (drop st.present.from room)))) f.name f.value f.len
+on_field st room None = held (refuse st bad_syntax st.present.at) room
 
 -- behind a line of the head
 unfoldable pub field_in : State → List ℕ → Held

@@ -1,10 +1,9 @@
 // Content, chunks and trailers. Of content no octet is kept.
-ghost use Rattle.std.specs.Prelude.{◌≡◌, true, false, map, ◌+◌, ◌-◌, ◌≤◌, ◌<◌, length, take, drop};
+ghost use Rattle.std.specs.Prelude.{◌≡◌, true, false, map, ◌+◌, ◌-◌, ◌≤◌, ◌<◌, length, take};
 ghost use Rattle.octets.specs.Limits.{lines_most, chunks_most, content_most};
 ghost use Rattle.octets.specs.Text.{lower_of};
 ghost use Rattle.numbers.specs.Digits.{most};
 ghost use Rattle.messages.specs.Names.{kind_of};
-ghost use Rattle.messages.specs.Notes.{note_of};
 ghost use Rattle.steps.specs.States.{SaneLine, SaneData, SaneCounts};
 ghost use Rattle.steps.specs.Bodies.{content_octet, chunk_sized, chunk_in, chunk_tally, trailer_tally, data_cr, chunk_end, chunk_octet, trailer_noted, trailer_held, trailers_end, trailer_in};
 
@@ -14,11 +13,10 @@ use crate::change::{
 };
 use crate::{Phase, State, Tally};
 use http1_lines::lines::{chunk_line, field_line};
-use http1_lines::{ChunkLine, FieldLine};
 use messages::parts::{is_end_to_end, kind_of};
 use messages::sections::{no_notes, note};
 use messages::{Kind, Notes};
-use octets::{Limits, Refusals};
+use octets::{Limits, Refusal};
 
 // An octet of content of a stated length: the last ends the message.
 pub(crate) fn content_octet(st: State) -> State
@@ -51,10 +49,10 @@ fn chunk_sized(st: State, n: usize) -> State
         return in_section(st, Phase::TrailerLine, l, 0, notes);
     }
     if Limits::CHUNKS <= st.tally.chunks {
-        return refused(st, Refusals::TOO_LARGE, at);
+        return refused(st, Refusal::TooLarge as u32, at);
     }
     if Limits::CONTENT < st.tally.content + n {
-        return refused(st, Refusals::TOO_LARGE, at);
+        return refused(st, Refusal::TooLarge as u32, at);
     }
     let l = fresh_word(next, n + 2, end);
     let mut t = st.tally;
@@ -69,10 +67,9 @@ pub(crate) fn chunk_in(st: State, w: &[u8]) -> State
     ensures { result ≡ chunk_in st w.now }
 {
     let t = octets::class_table();
-    let l = chunk_line(&t, w);
-    match l {
-        ChunkLine::Of { size } => chunk_sized(st, size),
-        ChunkLine::Bad => refused(st, Refusals::BAD_SYNTAX, st.present.at),
+    match chunk_line(&t, w) {
+        Some(size) => chunk_sized(st, size),
+        None => refused(st, Refusal::BadSyntax as u32, st.present.at),
     }
 }
 
@@ -95,11 +92,9 @@ fn with_chunk(t: Tally) -> Tally
     ensures { result ≡ chunk_tally t }
 {
     Tally {
-        headers: t.headers,
         chunks: t.chunks + 1,
         content: t.content + t.size,
-        size: t.size,
-        trailers: t.trailers,
+        ..t
     }
 }
 
@@ -109,16 +104,13 @@ fn chunk_end(st: State, b: u8) -> State
     ensures { result ≡ chunk_end st b }
 {
     let at = st.present.at;
-    if st.present.cr == 1 {
-        if b == b'\n' {
-            let l = fresh_word(at + st.present.left, Limits::CHUNK_LINE, st.control.end);
-            let t = with_chunk(st.tally);
-            let s = with_tally(st, t);
-            return onward(s, Phase::ChunkLine, l);
-        }
-        return refused(st, Refusals::BAD_SYNTAX, at + st.tally.size);
+    if st.present.cr == 1 && b == b'\n' {
+        let l = fresh_word(at + st.present.left, Limits::CHUNK_LINE, st.control.end);
+        let t = with_chunk(st.tally);
+        let s = with_tally(st, t);
+        return onward(s, Phase::ChunkLine, l);
     }
-    refused(st, Refusals::BAD_SYNTAX, at + st.tally.size)
+    refused(st, Refusal::BadSyntax as u32, at + st.tally.size)
 }
 
 // An octet of a chunk.
@@ -141,13 +133,13 @@ fn with_trailer(t: Tally, kept: bool) -> Tally
     requires { t.trailers ≤ lines_most }
     ensures { result ≡ trailer_tally t kept }
 {
-    let mut n = t;
     if kept {
-        let k = t.trailers + 1;
-        n.trailers = k;
-        return n;
+        return Tally {
+            trailers: t.trailers + 1,
+            ..t
+        };
     }
-    n
+    t
 }
 
 // Behind a trailer line of a kind, when this is noted of the section.
@@ -184,7 +176,7 @@ fn trailers_end(st: State) -> State
     if st.notes.trailers {
         return ended(st, place);
     }
-    refused(st, Refusals::BAD_LENGTH, place)
+    refused(st, Refusal::BadLength as u32, place)
 }
 
 // Behind a line of the trailer section, without its CR LF.
@@ -196,12 +188,11 @@ pub(crate) fn trailer_in(st: State, w: &[u8]) -> State
         return trailers_end(st);
     }
     if Limits::LINES <= st.lines {
-        return refused(st, Refusals::TOO_LARGE, st.present.at);
+        return refused(st, Refusal::TooLarge as u32, st.present.at);
     }
     let t = octets::class_table();
-    let f = field_line(&t, w);
-    match f {
-        FieldLine::Of { name, value, len } => trailer_held(st, w, name, value, len),
-        FieldLine::Bad => refused(st, Refusals::BAD_SYNTAX, st.present.at),
+    match field_line(&t, w) {
+        Some(f) => trailer_held(st, w, f.name, f.value, f.len),
+        None => refused(st, Refusal::BadSyntax as u32, st.present.at),
     }
 }

@@ -2,30 +2,22 @@
 ghost use Rattle.std.specs.Prelude.{◌≡◌, ◌+◌, ◌-◌, ◌<◌, ◌≤◌};
 ghost use Rattle.step_lines.specs.Stepping.{fresh, one_more, next_present};
 ghost use Rattle.step_lines.specs.declared.Present.{Present};
-ghost use Rattle.steps.specs.States.{refuse, finish, reading, in_section, with_control, with_tally, begins, SaneLine, SaneData, is_line, is_data, is_tally, is_counted, place_most};
+ghost use Rattle.steps.specs.States.{refuse, finish, reading, in_section, with_control, with_tally, begins, is_line, is_data, is_tally, is_counted, place_most};
 
 use crate::{Control, Phase, State, Tally};
 use messages::Notes;
-use octets::{Limits, Refusals};
+use octets::{Limits, Refusal};
 use step_lines::Present;
 
 // Refused with a number at a place.
 pub(crate) fn refused(st: State, number: u32, place: usize) -> State
     ensures { result ≡ refuse st number place }
 {
-    let present = st.present;
-    let notes = st.notes;
-    let control = st.control;
-    let tally = st.tally;
     State {
         phase: Phase::Refused,
-        present,
-        control,
-        lines: st.lines,
-        notes,
-        tally,
         number,
         place,
+        ..st
     }
 }
 
@@ -34,7 +26,7 @@ pub(crate) fn begin_line(st: State) -> State
     ensures { result ≡ begins st }
 {
     if st.present.left == 0 {
-        return refused(st, Refusals::TOO_LARGE, st.present.at);
+        return refused(st, Refusal::TooLarge as u32, st.present.at);
     }
     st
 }
@@ -58,11 +50,9 @@ pub(crate) fn one_more(l: Present, c: u32) -> Present
     ensures { result ≡ one_more l c }
 {
     Present {
-        at: l.at,
         have: l.have + 1,
-        left: l.left,
         cr: c,
-        from: l.from,
+        ..l
     }
 }
 
@@ -79,19 +69,10 @@ pub(crate) fn next_line(l: Present, from: usize) -> Present
 pub(crate) fn ended(st: State, place: usize) -> State
     ensures { result ≡ finish st place st.tally }
 {
-    let present = st.present;
-    let notes = st.notes;
-    let control = st.control;
-    let tally = st.tally;
     State {
         phase: Phase::Ended,
-        present,
-        control,
-        lines: st.lines,
-        notes,
-        tally,
-        number: st.number,
         place,
+        ..st
     }
 }
 
@@ -99,18 +80,10 @@ pub(crate) fn ended(st: State, place: usize) -> State
 pub(crate) fn onward(st: State, phase: Phase, l: Present) -> State
     ensures { result ≡ reading st phase l }
 {
-    let notes = st.notes;
-    let control = st.control;
-    let tally = st.tally;
     State {
         phase,
         present: l,
-        control,
-        lines: st.lines,
-        notes,
-        tally,
-        number: st.number,
-        place: st.place,
+        ..st
     }
 }
 
@@ -118,17 +91,12 @@ pub(crate) fn onward(st: State, phase: Phase, l: Present) -> State
 pub(crate) fn in_section(st: State, phase: Phase, l: Present, lines: usize, notes: Notes) -> State
     ensures { result ≡ in_section st phase l lines notes }
 {
-    let control = st.control;
-    let tally = st.tally;
     State {
         phase,
         present: l,
-        control,
         lines,
         notes,
-        tally,
-        number: st.number,
-        place: st.place,
+        ..st
     }
 }
 
@@ -136,28 +104,21 @@ pub(crate) fn in_section(st: State, phase: Phase, l: Present, lines: usize, note
 pub(crate) fn with_control(st: State, control: Control) -> State
     ensures { result ≡ with_control st control }
 {
-    let mut s = st;
-    s.control = control;
-    s
+    State { control, ..st }
 }
 
 // The same with other counts.
 pub(crate) fn with_tally(st: State, tally: Tally) -> State
     ensures { result ≡ with_tally st tally }
 {
-    let mut s = st;
-    s.tally = tally;
-    s
+    State { tally, ..st }
 }
 
 // How many octets of a whole line stand before its CR.
 pub(crate) fn text_len(l: Present) -> usize
     ensures { result ≡ l.have - 1 }
 {
-    if l.have == 0 {
-        return 0;
-    }
-    l.have - 1
+    l.have.saturating_sub(1)
 }
 
 // Whether the numbers are those of a line, behind control data that end at a place.

@@ -6,7 +6,7 @@ ghost use Rattle.octets.specs.Text.{lower_of};
 ghost use Rattle.messages.specs.Names.{kind_of};
 ghost use Rattle.messages.specs.Notes.{body_answer};
 ghost use Rattle.messages.specs.Rules.{request_body};
-ghost use Rattle.steps.specs.States.{Held, held, Gives, SaneLine, SaneCounts};
+ghost use Rattle.steps.specs.States.{Gives, SaneLine, SaneCounts};
 ghost use Rattle.steps.specs.Heads.{target_room, control_of, request_held, request_in, host_stands, hosted_by, host_behind, settle};
 ghost use Rattle.steps.specs.Heads.{content_from, on_body, head_end, host_from, host_at, field_noted, field_held, field_in};
 
@@ -15,12 +15,12 @@ use crate::change::{
     with_tally,
 };
 use crate::{Control, Phase, State};
+use http1_lines::Target;
 use http1_lines::lines::{field_line, request_line};
-use http1_lines::{FieldLine, RequestLine, Target};
 use messages::parts::{is_host, kind_of};
 use messages::sections::{no_notes, note, request_body};
-use messages::{Body, BodyAnswer, Hosts, Kind, Notes};
-use octets::{Limits, Refusals};
+use messages::{Body, Hosts, Kind, Notes};
+use octets::{Limits, Refusal};
 use step_lines::names::count;
 use step_lines::room::{keep, move_down};
 
@@ -82,10 +82,9 @@ pub(crate) fn request_in(st: State, room: &mut [u8]) -> State
     let from = l.from;
     let to = from + text_len(l);
     let t = octets::class_table();
-    let line = request_line(&t, st.control.scheme, &room[from..to]);
-    match line {
-        RequestLine::Of { method, target } => request_held(st, room, method, target),
-        RequestLine::Bad { number } => refused(st, number, l.at),
+    match request_line(&t, st.control.scheme, &room[from..to]) {
+        Ok(q) => request_held(st, room, q.method, q.target),
+        Err(r) => refused(st, r.number(), l.at),
     }
 }
 
@@ -114,13 +113,7 @@ fn is_hosted(t: &[u8; 256], st: State, room: &[u8]) -> bool
     requires { SaneLine st.present st.control.end × SaneCounts st × (head_most ≤ length room.now) }
     ensures { t.now ≡ classes → result ≡ hosted_by st.notes.hosts st room.now }
 {
-    let n = st.notes;
-    let h = n.hosts;
-    match h {
-        Hosts::Nothing => false,
-        Hosts::One { start: _, len: _ } => host_stands(t, st, room),
-        Hosts::Several => false,
-    }
+    matches!(st.notes.hosts, Hosts::One { .. }) && host_stands(t, st, room)
 }
 
 // Host's value as the authority, directly behind method and path.
@@ -128,18 +121,10 @@ fn host_behind(c: Control) -> Control
     requires { (c.end ≤ head_most) × (c.hostlen ≤ head_most) }
     ensures { result ≡ host_behind c }
 {
-    let end = c.end + c.hostlen;
-    let prefix = c.prefix;
     Control {
-        scheme: c.scheme,
-        given: c.given,
-        method: c.method,
         host: c.end,
-        hostlen: c.hostlen,
-        path: c.path,
-        pathlen: c.pathlen,
-        prefix,
-        end,
+        end: c.end + c.hostlen,
+        ..c
     }
 }
 
@@ -195,11 +180,11 @@ fn head_body(st: State, room: &mut [u8], end: usize) -> State
     let f = n.framing;
     let b = request_body(f, end);
     match b {
-        BodyAnswer::Read(body) => {
+        Ok(body) => {
             let s = settled(st, room);
             content_from(s, end, body)
         }
-        BodyAnswer::Refused { number, place } => refused(st, number, place),
+        Err(e) => refused(st, e.number, e.place),
     }
 }
 
@@ -213,7 +198,7 @@ fn head_end(st: State, room: &mut [u8]) -> State
     if is_hosted(&t, st, room) {
         return head_body(st, room, end);
     }
-    refused(st, Refusals::BAD_HOST, end)
+    refused(st, Refusal::BadHost as u32, end)
 }
 
 // A Host line's value stands at a place, where the target has no authority.
@@ -223,10 +208,11 @@ fn host_from(c: Control, host: usize, len: usize) -> Control
     if c.given {
         return c;
     }
-    let mut d = c;
-    d.host = host;
-    d.hostlen = len;
-    d
+    Control {
+        host,
+        hostlen: len,
+        ..c
+    }
 }
 
 // The same of a line of any kind.
@@ -234,12 +220,8 @@ fn host_at(kind: Kind, c: Control, host: usize, len: usize) -> Control
     ensures { result ≡ host_at kind c host len }
 {
     match kind {
-        Kind::Ordinary => c,
-        Kind::HopByHop => c,
         Kind::Host => host_from(c, host, len),
-        Kind::ContentLength => c,
-        Kind::TransferEncoding => c,
-        Kind::Connection => c,
+        _ => c,
     }
 }
 
@@ -287,13 +269,12 @@ pub(crate) fn field_in(st: State, room: &mut [u8]) -> State
         return head_end(st, room);
     }
     if Limits::LINES <= st.lines {
-        return refused(st, Refusals::TOO_LARGE, l.at);
+        return refused(st, Refusal::TooLarge as u32, l.at);
     }
     let to = from + n;
     let t = octets::class_table();
-    let f = field_line(&t, &room[from..to]);
-    match f {
-        FieldLine::Of { name, value, len } => field_held(st, room, name, value, len),
-        FieldLine::Bad => refused(st, Refusals::BAD_SYNTAX, l.at),
+    match field_line(&t, &room[from..to]) {
+        Some(f) => field_held(st, room, f.name, f.value, f.len),
+        None => refused(st, Refusal::BadSyntax as u32, l.at),
     }
 }

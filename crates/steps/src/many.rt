@@ -1,5 +1,5 @@
 // The steps of many octets, up to the first answer that asks for no more.
-ghost use Rattle.std.specs.Prelude.{◌≡◌, true, ◌+◌, ◌-◌, ◌≤◌, ◌<◌, min, length};
+ghost use Rattle.std.specs.Prelude.{◌≡◌, true, ◌+◌, ◌-◌, ◌≤◌, ◌<◌, min};
 ghost use Rattle.steps.specs.States.{is_data, is_counted, SaneData};
 ghost use Rattle.steps.specs.Runs.{is_settled, passed, MayPass, Runs};
 
@@ -13,26 +13,7 @@ use step_lines::Present;
 fn is_settled(st: State) -> bool
     ensures { result ≡ is_settled st.phase }
 {
-    let phase = st.phase;
-    match phase {
-        Phase::RequestLine => false,
-        Phase::FieldLine => false,
-        Phase::Content => false,
-        Phase::ChunkLine => false,
-        Phase::Chunk => false,
-        Phase::TrailerLine => false,
-        Phase::Ended => true,
-        Phase::Refused => true,
-    }
-}
-
-fn least(a: usize, b: usize) -> usize
-    ensures { result ≡ min a b }
-{
-    if a < b {
-        return a;
-    }
-    b
+    matches!(st.phase, Phase::Ended | Phase::Refused)
 }
 
 // How many octets of a content may be passed over: all but the last.
@@ -49,12 +30,7 @@ fn before_end(st: State) -> usize
     ensures { result ≡ min (st.tally.size - st.present.have) (st.present.left - st.present.have - 1) }
 {
     let k = before_last(st);
-    let have = st.present.have;
-    let size = st.tally.size;
-    if size < have {
-        return 0;
-    }
-    least(size - have, k)
+    st.tally.size.saturating_sub(st.present.have).min(k)
 }
 
 // As many of m octets as may be passed over.
@@ -62,22 +38,10 @@ fn pass_count(st: State, m: usize) -> usize
     requires { SaneData st.present × (is_data st.present ≡ true) × (is_counted st ≡ true) }
     ensures { MayPass st m result }
 {
-    let phase = st.phase;
-    match phase {
-        Phase::RequestLine => 0,
-        Phase::FieldLine => 0,
-        Phase::Content => {
-            let k = before_last(st);
-            least(k, m)
-        }
-        Phase::ChunkLine => 0,
-        Phase::Chunk => {
-            let j = before_end(st);
-            least(j, m)
-        }
-        Phase::TrailerLine => 0,
-        Phase::Ended => 0,
-        Phase::Refused => 0,
+    match st.phase {
+        Phase::Content => before_last(st).min(m),
+        Phase::Chunk => before_end(st).min(m),
+        _ => 0,
     }
 }
 
@@ -101,14 +65,10 @@ fn pass(st: State, n: usize) -> State
 {
     let p = st.present;
     let l = Present {
-        at: p.at,
         have: p.have + n,
-        left: p.left,
-        cr: p.cr,
-        from: p.from,
+        ..p
     };
-    let x = st.phase;
-    onward(st, x, l)
+    onward(st, st.phase, l)
 }
 
 // The place n octets further, which is not behind a length.

@@ -1,10 +1,10 @@
 // Beginning and step.
-ghost use Rattle.std.specs.Prelude.{◌≡◌, ◌-◌, ◌≤◌, ◌<◌, length, take, drop};
+ghost use Rattle.std.specs.Prelude.{◌≡◌, ◌-◌, ◌≤◌, ◌<◌, length};
 ghost use Rattle.octets.specs.Limits.{head_most};
 ghost use Rattle.step_lines.specs.Stepping.{line_text};
-ghost use Rattle.steps.specs.States.{Held, held, Gives, SaneLine, SaneData, SaneCounts};
+ghost use Rattle.steps.specs.States.{Gives, SaneLine, SaneData, SaneCounts};
 ghost use Rattle.steps.specs.Bodies.{chunk_in, trailer_in};
-ghost use Rattle.steps.specs.Steps.{whole_by, line_octet, line_taken, data_by, data_taken, taken, answer_in, no_control, no_tally, fresh₀, begun, Steps};
+ghost use Rattle.steps.specs.Steps.{whole_by, line_octet, line_taken, data_by, data_taken, taken, answer_in, fresh₀, begun, Steps};
 
 use crate::body::{chunk_in, chunk_octet, content_octet, trailer_in};
 use crate::change::{
@@ -15,7 +15,7 @@ use crate::{Answer, Control, Phase, State, Stepped, Tally};
 use messages::PathPrefix;
 use messages::parts::is_scheme;
 use messages::sections::no_notes;
-use octets::{Limits, Refusals};
+use octets::{Limits, Refusal};
 use step_lines::LineStep;
 use step_lines::octet::line_step;
 
@@ -46,16 +46,12 @@ fn whole_line(st: State, room: &mut [u8]) -> State
     requires { SaneLine st.present st.control.end × SaneCounts st × (head_most ≤ length room.old) }
     ensures { Gives (whole_by st.phase st room.old) result room.new }
 {
-    let phase = st.phase;
-    match phase {
+    match st.phase {
         Phase::RequestLine => request_in(st, room),
         Phase::FieldLine => field_in(st, room),
-        Phase::Content => st,
         Phase::ChunkLine => chunk_whole(st, room),
-        Phase::Chunk => st,
         Phase::TrailerLine => trailer_whole(st, room),
-        Phase::Ended => st,
-        Phase::Refused => st,
+        _ => st,
     }
 }
 
@@ -75,8 +71,8 @@ fn line_octet(st: State, room: &mut [u8], b: u8) -> State
             onward(st, x, p)
         }
         LineStep::Whole => whole_line(st, room),
-        LineStep::Bad => refused(st, Refusals::BAD_SYNTAX, l.at),
-        LineStep::Long => refused(st, Refusals::TOO_LARGE, l.at),
+        LineStep::Bad => refused(st, Refusal::BadSyntax as u32, l.at),
+        LineStep::Long => refused(st, Refusal::TooLarge as u32, l.at),
     }
 }
 
@@ -100,16 +96,10 @@ fn data_octet(st: State, b: u8) -> State
     requires { SaneData st.present × SaneCounts st }
     ensures { result ≡ data_by st.phase st b }
 {
-    let phase = st.phase;
-    match phase {
-        Phase::RequestLine => st,
-        Phase::FieldLine => st,
+    match st.phase {
         Phase::Content => content_octet(st),
-        Phase::ChunkLine => st,
         Phase::Chunk => chunk_octet(st, b),
-        Phase::TrailerLine => st,
-        Phase::Ended => st,
-        Phase::Refused => st,
+        _ => st,
     }
 }
 
@@ -131,16 +121,10 @@ pub(crate) fn take_octet(st: State, room: &mut [u8], b: u8) -> State
     requires { head_most ≤ length room.old }
     ensures { Gives (taken st room.old b) result room.new }
 {
-    let phase = st.phase;
-    match phase {
-        Phase::RequestLine => take_line(st, room, b),
-        Phase::FieldLine => take_line(st, room, b),
-        Phase::Content => take_data(st, b),
-        Phase::ChunkLine => take_line(st, room, b),
-        Phase::Chunk => take_data(st, b),
-        Phase::TrailerLine => take_line(st, room, b),
-        Phase::Ended => st,
-        Phase::Refused => st,
+    match st.phase {
+        Phase::Content | Phase::Chunk => take_data(st, b),
+        Phase::Ended | Phase::Refused => st,
+        _ => take_line(st, room, b),
     }
 }
 
@@ -148,14 +132,7 @@ pub(crate) fn take_octet(st: State, room: &mut [u8], b: u8) -> State
 pub fn answer(st: State) -> Answer
     ensures { result ≡ answer_in st }
 {
-    let phase = st.phase;
-    match phase {
-        Phase::RequestLine => Answer::More,
-        Phase::FieldLine => Answer::More,
-        Phase::Content => Answer::More,
-        Phase::ChunkLine => Answer::More,
-        Phase::Chunk => Answer::More,
-        Phase::TrailerLine => Answer::More,
+    match st.phase {
         Phase::Ended => Answer::End {
             length: st.place,
             headers: st.tally.headers,
@@ -166,6 +143,7 @@ pub fn answer(st: State) -> Answer
             number: st.number,
             place: st.place,
         },
+        _ => Answer::More,
     }
 }
 
@@ -173,33 +151,29 @@ pub fn answer(st: State) -> Answer
 fn first(scheme: u32) -> State
     ensures { result ≡ fresh₀ scheme }
 {
-    let control = Control {
-        scheme,
-        given: false,
-        method: 0,
-        host: 0,
-        hostlen: 0,
-        path: 0,
-        pathlen: 0,
-        prefix: PathPrefix::Nothing,
-        end: 0,
-    };
-    let tally = Tally {
-        headers: 0,
-        chunks: 0,
-        content: 0,
-        size: 0,
-        trailers: 0,
-    };
-    let present = fresh_word(0, Limits::HEAD, 0);
-    let notes = no_notes();
     State {
         phase: Phase::RequestLine,
-        present,
-        control,
+        present: fresh_word(0, Limits::HEAD, 0),
+        control: Control {
+            scheme,
+            given: false,
+            method: 0,
+            host: 0,
+            hostlen: 0,
+            path: 0,
+            pathlen: 0,
+            prefix: PathPrefix::Nothing,
+            end: 0,
+        },
         lines: 0,
-        notes,
-        tally,
+        notes: no_notes(),
+        tally: Tally {
+            headers: 0,
+            chunks: 0,
+            content: 0,
+            size: 0,
+            trailers: 0,
+        },
         number: 0,
         place: 0,
     }
@@ -216,7 +190,7 @@ pub fn begin(room: usize, scheme: u32) -> State
     if is_scheme(scheme) {
         return s;
     }
-    refused(s, Refusals::NOT_SUPPORTED, 0)
+    refused(s, Refusal::NotSupported as u32, 0)
 }
 
 // A step: one octet of the request. With less room than a head has it is 19 at 0, and counts as not taken.

@@ -1,6 +1,6 @@
 -- Turning each form into the other, and writing Binary anew (01, "The two forms and the meaning between them", "How we write"). The order of refusals in
 -- writing ("Numbers a call answers with"; 02, items 5 and 7): the reader's here, 14 and 8 at 0 in to_http1 and to_binary, 13 in output/specs/Reply.
-use Rattle.std.specs.Prelude.{ℕ, ◌≡◌, Bool, true, false, cond, List, [], ◌∷◌, length}
+use Rattle.std.specs.Prelude.{ℕ, ◌≡◌, cond, List, length, Ok, Err}
 use Rattle.octets.specs.Refusals.{more_needed, not_supported, bad_edition}
 use Rattle.script.specs.Script.{Answer, accepted, refused, more}
 use Rattle.messages.specs.declared.Told.{Told}
@@ -12,9 +12,7 @@ use Rattle.http1_lines.specs.Read.{read_request, read_response}
 use Rattle.binary.specs.Read.{read_binary}
 use Rattle.binary_writer.specs.Write.{to_binary}
 use Rattle.http1_writer.specs.Write.{to_http1}
-use Rattle.output.specs.Reply.{Reply, writes, refuses, Served}
-use Rattle.output.specs.declared.Written.{Written}
-use Rattle.output.specs.declared.Written.TheVariants.{Done, Refused}
+use Rattle.output.specs.Reply.{Reply, refuses, Served, Written}
 
 -- what is written of a reader's answer on an input of n octets: the reader's refusal goes first
 abbrev pub reply_from : ℕ → Answer Message → (Meaning → Reply) → Reply
@@ -24,8 +22,8 @@ reply_from n more write = refuses more_needed n
 
 -- how many octets of a stream are the message that was turned, by the reader's answer and the writer's: none where it was refused
 abbrev pub taken_from : Answer Message → Written → ℕ
-taken_from (accepted k m) (Done n) = k
-taken_from (accepted k m) (Refused number place) = 0
+taken_from (accepted k m) (Ok n) = k
+taken_from (accepted k m) (Err e) = 0
 taken_from (refused k p) w = 0
 taken_from more w = 0
 

@@ -1,6 +1,5 @@
 // Binary HTTP anew as Binary, and into HTTP/1.1.
-ghost use Rattle.std.specs.Prelude.{◌≡◌, ◌≤◌, length};
-ghost use Rattle.octets.specs.Table.{classes};
+ghost use Rattle.std.specs.Prelude.{◌≤◌, length};
 ghost use Rattle.messages.specs.Room.{section_room, heads_room, informational_room, chunks_room};
 ghost use Rattle.output.specs.Reply.{Served};
 ghost use Rattle.turn.specs.Turn.{binary_to_binary, binary_to_http1};
@@ -9,13 +8,13 @@ ghost use Rattle.turning.specs.Behind.{read_to_http1};
 use binary_reader::whole::binary_in;
 use messages::call::is_edition;
 use messages::parts::is_scheme;
-use messages::{Outcome, Told};
-use octets::{Refusals, class_table};
+use messages::{Stop, Told};
+use octets::{ClassTable, Refusal, Refused};
 use output::Written;
 
 // The message anew, through working space for the ranges.
 fn turn_anew(
-    t: &[u8; 256],
+    t: &ClassTable,
     input: &[u8],
     told: Told,
     out: &mut [u8],
@@ -24,18 +23,15 @@ fn turn_anew(
     chunks: &mut [u32],
     trailers: &mut [u32],
 ) -> Written
-    requires { (t.now ≡ classes) × (heads_room ≤ length headers.old)
+    requires { (heads_room ≤ length headers.old)
         × (informational_room ≤ length heads.old) × (chunks_room ≤ length chunks.old) × (section_room ≤ length trailers.old) }
     ensures { Served (binary_to_binary told input.now) out.old out.new result }
 {
     let o = binary_in(t, input, told, headers, heads, chunks, trailers);
     match o {
-        Outcome::More => return Written::Refused {
-            number: Refusals::MORE_NEEDED,
-            place: input.len(),
-        },
-        Outcome::Refusal { number, place } => return Written::Refused { number, place },
-        Outcome::Message(r) => return binary_writer::write_message(
+        Err(Stop::More) => return Err(Refusal::MoreNeeded.at(input.len())),
+        Err(Stop::Refused(refused)) => return Err(refused),
+        Ok(r) => return binary_writer::write_message(
             input, r, headers, heads, chunks, trailers, out,
         ),
     }
@@ -45,7 +41,7 @@ fn turn_anew(
 pub fn binary_to_binary(input: &[u8], told: Told, out: &mut [u8]) -> Written
     ensures { Served (binary_to_binary told input.now) out.old out.new result }
 {
-    let t = class_table();
+    let t = ClassTable::new();
     let mut headers = [0u32; 1280];
     let mut heads = [0u32; 8];
     let mut chunks = [0u32; 512];
@@ -64,7 +60,7 @@ pub fn binary_to_binary(input: &[u8], told: Told, out: &mut [u8]) -> Written
 
 // The message, as told, as HTTP/1.1 on a connection of the scheme told, through working space for the ranges.
 fn turn_http1(
-    t: &[u8; 256],
+    t: &ClassTable,
     input: &[u8],
     told: Told,
     out: &mut [u8],
@@ -73,18 +69,15 @@ fn turn_http1(
     chunks: &mut [u32],
     trailers: &mut [u32],
 ) -> Written
-    requires { (t.now ≡ classes) × (heads_room ≤ length headers.old)
+    requires { (heads_room ≤ length headers.old)
         × (informational_room ≤ length heads.old) × (chunks_room ≤ length chunks.old) × (section_room ≤ length trailers.old) }
     ensures { Served (read_to_http1 told input.now) out.old out.new result }
 {
     let o = binary_in(t, input, told, headers, heads, chunks, trailers);
     match o {
-        Outcome::More => return Written::Refused {
-            number: Refusals::MORE_NEEDED,
-            place: input.len(),
-        },
-        Outcome::Refusal { number, place } => return Written::Refused { number, place },
-        Outcome::Message(r) => return http1_writer::write_message(
+        Err(Stop::More) => return Err(Refusal::MoreNeeded.at(input.len())),
+        Err(Stop::Refused(refused)) => return Err(refused),
+        Ok(r) => return http1_writer::write_message(
             input, told, r, headers, heads, chunks, trailers, out,
         ),
     }
@@ -96,7 +89,7 @@ pub fn binary_to_http1(input: &[u8], told: Told, out: &mut [u8]) -> Written
 {
     if is_edition(told.edition) {
         if is_scheme(told.scheme) {
-            let t = class_table();
+            let t = ClassTable::new();
             let mut headers = [0u32; 1280];
             let mut heads = [0u32; 8];
             let mut chunks = [0u32; 512];
@@ -112,13 +105,7 @@ pub fn binary_to_http1(input: &[u8], told: Told, out: &mut [u8]) -> Written
                 &mut trailers,
             );
         }
-        return Written::Refused {
-            number: Refusals::NOT_SUPPORTED,
-            place: 0,
-        };
+        return Err(Refusal::NotSupported.at(0));
     }
-    Written::Refused {
-        number: Refusals::BAD_EDITION,
-        place: 0,
-    }
+    Err(Refusal::BadEdition.at(0))
 }

@@ -1,6 +1,5 @@
 // HTTP/1.1 into Binary HTTP.
 ghost use Rattle.std.specs.Prelude.{◌≡◌, ◌≤◌, length};
-ghost use Rattle.octets.specs.Table.{classes};
 ghost use Rattle.messages.specs.Room.{section_room, heads_room, informational_room, chunks_room};
 ghost use Rattle.http1_lines.specs.Read.{read_request, read_response};
 ghost use Rattle.turn.specs.Turn.{TakenServed, request_to_binary, response_to_binary};
@@ -9,8 +8,8 @@ ghost use Rattle.turning.specs.Behind.{taken_by};
 use binary_writer::write_message;
 use http1_reader::request::request_in;
 use http1_reader::response::response_in;
-use messages::{Outcome, Told};
-use octets::{Refusals, class_table};
+use messages::{Stop, Told};
+use octets::{ClassTable, Refusal, Refused};
 use output::Written;
 
 // How many octets a turning took that was answered so, of a message of a length: none where it was refused.
@@ -18,17 +17,14 @@ fn taken_by(w: Written, length: usize) -> usize
     ensures { result ≡ taken_by w length }
 {
     match w {
-        Written::Done(_) => length,
-        Written::Refused {
-            number: _,
-            place: _,
-        } => 0,
+        Ok(_) => length,
+        Err(_) => 0,
     }
 }
 
 // The same through working space for the ranges.
 fn turn_request(
-    t: &[u8; 256],
+    t: &ClassTable,
     input: &[u8],
     told: Told,
     out: &mut [u8],
@@ -37,25 +33,22 @@ fn turn_request(
     chunks: &mut [u32],
     trailers: &mut [u32],
 ) -> Written
-    requires { (t.now ≡ classes) × (section_room ≤ length headers.old)
+    requires { (section_room ≤ length headers.old)
         × (chunks_room ≤ length chunks.old) × (section_room ≤ length trailers.old) }
     ensures { TakenServed (read_request told input.now) (request_to_binary told input.now)
         out.old out.new taken.new result }
 {
     let o = request_in(t, input, told, headers, chunks, trailers);
     match o {
-        Outcome::More => {
+        Err(Stop::More) => {
             *taken = 0;
-            return Written::Refused {
-                number: Refusals::MORE_NEEDED,
-                place: input.len(),
-            };
+            return Err(Refusal::MoreNeeded.at(input.len()));
         }
-        Outcome::Refusal { number, place } => {
+        Err(Stop::Refused(refused)) => {
             *taken = 0;
-            return Written::Refused { number, place };
+            return Err(refused);
         }
-        Outcome::Message(r) => {
+        Ok(r) => {
             let none = [0u32; 8];
             let w = write_message(input, r, headers, &none, chunks, trailers, out);
             *taken = taken_by(w, r.length);
@@ -69,7 +62,7 @@ pub fn request_to_binary(input: &[u8], told: Told, out: &mut [u8], taken: &mut u
     ensures { TakenServed (read_request told input.now) (request_to_binary told input.now)
         out.old out.new taken.new result }
 {
-    let t = class_table();
+    let t = ClassTable::new();
     let mut headers = [0u32; 256];
     let mut chunks = [0u32; 512];
     let mut trailers = [0u32; 256];
@@ -87,7 +80,7 @@ pub fn request_to_binary(input: &[u8], told: Told, out: &mut [u8], taken: &mut u
 
 // The same through working space for the ranges.
 fn turn_response(
-    t: &[u8; 256],
+    t: &ClassTable,
     input: &[u8],
     told: Told,
     out: &mut [u8],
@@ -97,25 +90,22 @@ fn turn_response(
     chunks: &mut [u32],
     trailers: &mut [u32],
 ) -> Written
-    requires { (t.now ≡ classes) × (heads_room ≤ length headers.old)
+    requires { (heads_room ≤ length headers.old)
         × (informational_room ≤ length heads.old) × (chunks_room ≤ length chunks.old) × (section_room ≤ length trailers.old) }
     ensures { TakenServed (read_response told input.now) (response_to_binary told input.now)
         out.old out.new taken.new result }
 {
     let o = response_in(t, input, told, headers, heads, chunks, trailers);
     match o {
-        Outcome::More => {
+        Err(Stop::More) => {
             *taken = 0;
-            return Written::Refused {
-                number: Refusals::MORE_NEEDED,
-                place: input.len(),
-            };
+            return Err(Refusal::MoreNeeded.at(input.len()));
         }
-        Outcome::Refusal { number, place } => {
+        Err(Stop::Refused(refused)) => {
             *taken = 0;
-            return Written::Refused { number, place };
+            return Err(refused);
         }
-        Outcome::Message(r) => {
+        Ok(r) => {
             let w = write_message(input, r, headers, heads, chunks, trailers, out);
             *taken = taken_by(w, r.length);
             return w;
@@ -128,7 +118,7 @@ pub fn response_to_binary(input: &[u8], told: Told, out: &mut [u8], taken: &mut 
     ensures { TakenServed (read_response told input.now) (response_to_binary told input.now)
         out.old out.new taken.new result }
 {
-    let t = class_table();
+    let t = ClassTable::new();
     let mut headers = [0u32; 1280];
     let mut heads = [0u32; 8];
     let mut chunks = [0u32; 512];

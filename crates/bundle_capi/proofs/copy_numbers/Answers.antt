@@ -1,8 +1,6 @@
-use borrow.Author.Rules.{rules}
-use Prim.Native.Nat.{◌-◌}
-use lib.ListN.{length-set}
-use Rattle.output.proofs.Laws.{elements-more₀}
+use Rattle.std.proofs.Common.{refl, arith}
+use Rattle.output.proofs.Copies.{splice-part}
 use Rattle.bundle_capi.proofs.copy_numbers.Goals as goal
 
-pub loop-i-preserved : goal.loop-i-preserved
-loop-i-preserved c = (search rules, simp length-set (search rules), rw (elements-more₀ _ _ _ _ c.loop-i-test.true) at c.loop-i.invariant.2)
+pub returns : goal.returns
+returns c = splice-part c.args.out.now c.args.src.now 0 0 c.args.n refl c.copy_from_slice.ensures.after (omega (arith, c.requires.n_in_bounds_2)) (omega (arith, c.requires.n_in_bounds))

@@ -6,16 +6,16 @@ use Rattle.bundle_capi.proofs.ospirnar_append.Goals as goal
 
 pub offset_bounds-table-i : goal.offset_bounds-table-i
 offset_bounds-table-i c =
-    let h : c.append-p.result.index < length c.args.table.now = append-index _ _ _ _ _ _ c.append-p.ensures.0 (rw c.if-p.true tt) in
+    let h : c.in-Some.i < length c.args.table.now = append-index _ _ _ _ _ c.append-p.ensures.0 c.in-Some.is in
     search rules
 
-pub slice_copy_out-old : goal.slice_copy_out-old
-slice_copy_out-old c = append-index _ _ _ _ _ _ c.append-p.ensures.0 (rw c.if-p.true tt)
+pub slice_copy_out-enter : goal.slice_copy_out-enter
+slice_copy_out-enter c = append-index _ _ _ _ _ c.append-p.ensures.0 c.in-Some.is
 
-pub offset_bounds-table-i-then-p : goal.offset_bounds-table-i-then-p
-offset_bounds-table-i-then-p c =
-    let h : c.append-p.result.index < length c.args.table.now = append-index _ _ _ _ _ _ c.append-p.ensures.0 (rw c.if-p.true tt) in
+pub offset_bounds-table-i-in-Some : goal.offset_bounds-table-i-in-Some
+offset_bounds-table-i-in-Some c =
+    let h : c.in-Some.i < length c.args.table.now = append-index _ _ _ _ _ c.append-p.ensures.0 c.in-Some.is in
     search rules
 
 pub bounds-table-i : goal.bounds-table-i
-bounds-table-i c = append-index _ _ _ _ _ _ c.append-p.ensures.0 (rw c.if-p.true tt)
+bounds-table-i c = append-index _ _ _ _ _ c.append-p.ensures.0 c.in-Some.is

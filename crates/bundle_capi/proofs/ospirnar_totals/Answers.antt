@@ -6,8 +6,8 @@ use Rattle.bundle_capi.proofs.ospirnar_totals.Goals as goal
 
 pub offset_bounds-table-i : goal.offset_bounds-table-i
 offset_bounds-table-i c =
-    let h : c.slot_of-s.result.index < length c.args.table.now = slot-index _ _ _ c.slot_of-s.ensures (rw c.if-s.true tt) in
+    let h : c.in-Ok.i < length c.args.table.now = slot-index _ _ c.in-Ok.ensures in
     search rules
 
 pub bounds-table-i : goal.bounds-table-i
-bounds-table-i c = slot-index _ _ _ c.slot_of-s.ensures (rw c.if-s.true tt)
+bounds-table-i c = slot-index _ _ c.in-Ok.ensures

@@ -1,15 +1,15 @@
-use mathlib.Core.Path.{sym, ◌∙◌}
+use mathlib.Core.Path.{sym}
 use Rattle.flock_table.specs.Table as spec
 use Rattle.flock_table.proofs.slot_of.Goals as goal
 
-pub returns-then-is_flock : goal.returns-then-is_flock
+pub returns-then-not-is_table : goal.returns-then-not-is_table
 unfolding spec.slot_of
-returns-then-is_flock c = simp (sym c.is_table.ensures ∙ c.if-is_table.true, sym c.is_flock.ensures ∙ c.if-is_flock.true)
+returns-then-not-is_table c = simp (sym c.if-not-is_table.ensures)
 
-pub returns-else-is_flock : goal.returns-else-is_flock
+pub returns-then-not-is_flock : goal.returns-then-not-is_flock
 unfolding spec.slot_of
-returns-else-is_flock c = simp (sym c.is_table.ensures ∙ c.if-is_table.true, sym c.is_flock.ensures ∙ c.if-is_flock.false)
+returns-then-not-is_flock c = simp (sym c.if-not-is_table.ensures, sym c.if-not-is_flock.ensures)
 
-pub returns-else-is_table : goal.returns-else-is_table
+pub returns : goal.returns
 unfolding spec.slot_of
-returns-else-is_table c = simp (sym c.is_table.ensures ∙ c.if-is_table.false)
+returns c = simp (sym c.if-not-is_table.ensures, sym c.if-not-is_flock.ensures)

@@ -1,11 +1,7 @@
-use Rattle.octets.proofs.Texts.{span-step, span-end}
+use borrow.Author.Rules.{rules}
+use Rattle.octets.specs.Class.{is_blank}
+use Rattle.octets.proofs.Texts.{run_len}
 use Rattle.octets.proofs.blank_end.Goals as goal
 
-pub loop-i-preserved : goal.loop-i-preserved
-loop-i-preserved c = search (span-step, ← c.is_blank.ensures, c.if-is_blank.true, c.loop-i.invariant)
-
-pub returns-else-is_blank : goal.returns-else-is_blank
-returns-else-is_blank c = search (span-step, ← c.is_blank.ensures, c.if-is_blank.false, c.loop-i.invariant)
-
 pub returns : goal.returns
-returns c = search (span-end, c.loop-i.invariant)
+returns c = run_len is_blank c.args.s.now c.args.from c.run_end.result (λ k h g. search (rules, c.run_end.ensures.before k h g)) (λ h. search (rules, c.run_end.ensures.behind h)) c.run_end.ensures.bound.1 c.run_end.ensures.bound.0

@@ -1,12 +1,12 @@
-use Rattle.octets.proofs.Texts.{other-not, other-is, span-step, span-end}
-use Rattle.octets.proofs.Kit.{kit}
+use borrow.Author.Rules.{rules}
+use Rattle.octets.specs.Text.{is_other}
+use Rattle.octets.proofs.Texts.{run_len}
 use Rattle.octets.proofs.find.Goals as goal
 
-pub returns-then-s-i : goal.returns-then-s-i
-returns-then-s-i c = (search (span-step, other-not, c.loop-i.invariant.0), search kit)
-
-pub loop-i-preserved : goal.loop-i-preserved
-loop-i-preserved c = (search (span-step, other-is, c.loop-i.invariant.0), search kit)
-
 pub returns : goal.returns
-returns c = (search (span-end, c.loop-i.invariant.0), search kit)
+unfolding is_other
+returns c = (
+  run_len (is_other c.args.d) c.args.s.now c.args.from c.run_end.result (λ k h g. search (rules, c.run_end.ensures.before k h g))
+      (λ h. search (rules, c.run_end.ensures.behind h)) c.run_end.ensures.bound.1 c.run_end.ensures.bound.0,
+  c.run_end.ensures.bound.1,
+)

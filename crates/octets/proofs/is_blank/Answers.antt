@@ -6,6 +6,6 @@ pub returns-then-b-eq32 : goal.returns-then-b-eq32
 unfolding is_blank
 returns-then-b-eq32 c = search kit
 
-pub returns : goal.returns
+pub returns-else-b-eq32 : goal.returns-else-b-eq32
 unfolding is_blank
-returns c = search kit
+returns-else-b-eq32 c = search kit

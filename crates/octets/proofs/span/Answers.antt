@@ -1,11 +1,7 @@
-use Rattle.octets.proofs.Texts.{span-step, span-end}
+use borrow.Author.Rules.{rules}
+use Rattle.octets.specs.Table.{has_in}
+use Rattle.octets.proofs.Texts.{run_len}
 use Rattle.octets.proofs.span.Goals as goal
 
-pub loop-i-preserved : goal.loop-i-preserved
-loop-i-preserved c = search (span-step, ← c.has.ensures, c.if-has.true, c.loop-i.invariant)
-
-pub returns-else-has : goal.returns-else-has
-returns-else-has c = search (span-step, ← c.has.ensures, c.if-has.false, c.loop-i.invariant)
-
 pub returns : goal.returns
-returns c = search (span-end, c.loop-i.invariant)
+returns c = run_len (has_in c.args.t.now c.args.mask) c.args.s.now c.args.from c.run_end.result (λ k h g. search (rules, c.run_end.ensures.before k h g)) (λ h. search (rules, c.run_end.ensures.behind h)) c.run_end.ensures.bound.1 c.run_end.ensures.bound.0

@@ -1,12 +1,21 @@
+use Prim.Native.Nat.{◌+◌, ◌-◌}
+use mathlib.Core.Path.{◌≡◌, sym, ◌∙◌}
+use native.Mathlib.Omega.{arith}
+use Rattle.octets.specs.Class.{is_blank}
+use Rattle.octets.specs.Text.{trim_back}
 use Rattle.octets.proofs.Texts.{trim-step, trim-none}
-use Rattle.octets.proofs.Kit.{kit}
 use Rattle.octets.proofs.trim_len.Goals as goal
 
-pub loop-n-preserved : goal.loop-n-preserved
-loop-n-preserved c = (search kit, search (trim-step, ← c.is_blank.ensures, c.if-is_blank.true, c.loop-n.invariant.1))
+pub loop-i-preserved : goal.loop-i-preserved
+loop-i-preserved c = search (trim-step, ← c.is_blank.ensures, c.if-not-is_blank.false, c.loop-i.invariant)
 
-pub returns-else-is_blank : goal.returns-else-is_blank
-returns-else-is_blank c = (search (trim-step, ← c.is_blank.ensures, c.if-is_blank.false, c.loop-n.invariant.1), search kit)
+pub returns-then-not-is_blank : goal.returns-then-not-is_blank
+returns-then-not-is_blank c =
+    let e : trim_back is_blank c.args.s.now c.loop-i.i ≡ c.loop-i.i = search (trim-step, ← c.is_blank.ensures, c.if-not-is_blank.true) in
+    let d : c.loop-i.i - 1 + 1 ≡ c.loop-i.i = omega arith in
+    (d ∙ sym (c.loop-i.invariant ∙ e), omega arith)
 
 pub returns : goal.returns
-returns c = (search (trim-none, c.loop-n.invariant.1), search kit)
+returns c =
+    let d : 0 ≡ c.loop-i.i = omega arith in
+    (d ∙ sym (c.loop-i.invariant ∙ trim-none is_blank c.args.s.now c.loop-i.i (omega arith)), omega arith)

@@ -7,6 +7,3 @@ use Rattle.output.proofs.lay_int.Given as goal
 
 abbrev pub invariant-loop-k : goal.invariant-loop-k
 invariant-loop-k l = (length l.out ≡ length l.initial.out) × (l.at + l.k ≤ length l.out) × (to_put plain 256 l.at l.k l.w l.out ≡ to_put plain 256 l.at l.n l.initial.w l.initial.out)
-
-abbrev pub decreases-loop-k : goal.decreases-loop-k
-decreases-loop-k l = l.k

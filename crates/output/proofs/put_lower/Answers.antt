@@ -4,9 +4,10 @@ use lib.ListN.{length-map}
 use Rattle.output.proofs.Laws.{elements-length}
 use Rattle.output.proofs.Room.{put-not}
 use Rattle.output.proofs.put_lower.Goals as goal
+use Rattle.output.proofs.put_lower.Goals.{else-lies_within-via-then-lies_within+else-lies_within-2, else-lies_within-via-else-lies_within}
 
-pub returns-else-lies_within-2 : goal.returns-else-lies_within-2
-returns-else-lies_within-2 c = put-not (rw (sym c.lies_within.ensures ∙ c.if-lies_within.true, sym c.lies_within-then-lies_within.ensures ∙ c.if-lies_within-2.false)) (rw length-map (elements-length {A = ℕ} 0 c.args.src.now c.args.from c.args.len))
-
-pub returns-else-lies_within : goal.returns-else-lies_within
-returns-else-lies_within c = put-not (rw (sym c.lies_within.ensures ∙ c.if-lies_within.false)) (rw length-map (elements-length {A = ℕ} 0 c.args.src.now c.args.from c.args.len))
+pub returns : goal.returns
+returns c = elim c.else-lies_within.branch [
+  | else-lies_within-via-then-lies_within+else-lies_within-2 w ↦ put-not (rw (sym c.lies_within.ensures ∙ w.if-lies_within.true, sym w.lies_within-then-lies_within.ensures ∙ w.if-lies_within-2.false)) (rw length-map (elements-length {A = ℕ} 0 c.args.src.now c.args.from c.args.len))
+  | else-lies_within-via-else-lies_within w ↦ put-not (rw (sym c.lies_within.ensures ∙ w.if-lies_within.false)) (rw length-map (elements-length {A = ℕ} 0 c.args.src.now c.args.from c.args.len))
+]

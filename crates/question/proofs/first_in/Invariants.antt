@@ -1,10 +1,7 @@
-use Prim.Native.Nat.{◌+◌, ◌-◌, ◌≤◌}
+use Prim.Native.Nat.{◌+◌, ◌-◌}
 use mathlib.Core.Path.{◌≡◌}
 use Rattle.question.specs.Asking.{found_in}
 use Rattle.question.proofs.first_in.Given as goal
 
 abbrev pub invariant-loop-i : goal.invariant-loop-i
-invariant-loop-i l = (l.i ≤ l.n) × (found_in l.name l.s l.ranges (l.k + l.i) (l.n - l.i) ≡ found_in l.name l.s l.ranges l.k l.n)
-
-abbrev pub decreases-loop-i : goal.decreases-loop-i
-decreases-loop-i l = l.n - l.i
+invariant-loop-i l = found_in l.name l.s l.ranges (l.k + l.i) (l.n - l.i) ≡ found_in l.name l.s l.ranges l.k l.n

@@ -1,11 +1,10 @@
-use Prim.Native.Nat.{◌-◌}
 use mathlib.Core.Path.{sym}
 use native.Mathlib.Omega.{arith}
 use Rattle.ranges.proofs.Entries.{before-next, before-none}
 use Rattle.ranges.proofs.fields_before.Goals as goal
 
 pub loop-i-init : goal.loop-i-init
-loop-i-init c = (omega arith, omega arith, sym (before-none _))
+loop-i-init c = (omega arith, sym (before-none _))
 
 pub loop-i-preserved : goal.loop-i-preserved
-loop-i-preserved c = (omega arith, omega (arith, c.number_at-k.ensures), omega (arith, c.number_at-k.ensures, c.loop-i.invariant.2, before-next c.args.heads.now c.loop-i.i))
+loop-i-preserved c = (omega (arith, c.number_at-k.ensures), omega (arith, c.number_at-k.ensures, c.loop-i.invariant.1, before-next c.args.heads.now c.loop-i.i))

@@ -1,9 +1,5 @@
-use Prim.Native.Nat.{◌-◌, ◌≤◌}
 use Rattle.ranges.proofs.Content.{ContentLeft}
 use Rattle.ranges.proofs.put_chunks.Given as goal
 
 abbrev pub invariant-loop-i : goal.invariant-loop-i
-invariant-loop-i l = (l.i ≤ l.n) × ContentLeft l.s l.chunks l.n l.initial.out l.at l.out l.a l.i
-
-abbrev pub decreases-loop-i : goal.decreases-loop-i
-decreases-loop-i l = l.n - l.i
+invariant-loop-i l = ContentLeft l.s l.chunks l.n l.initial.out l.at l.out l.a l.i

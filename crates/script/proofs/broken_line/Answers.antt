@@ -11,8 +11,8 @@ pub loop-i-preserved : goal.loop-i-preserved
 unfolding cr_state
 loop-i-preserved c = (c.loop-i.invariant.0 ∙ search-on _ _ _ _ _ c.loop-i.invariant.1 (omega arith) (omega arith) c.if-s-i-eq10.false, omega arith, omega arith)
 
-pub returns-then-allowance-i : goal.returns-then-allowance-i
-returns-then-allowance-i c = sym (c.loop-i.invariant.0 ∙ search-long _ _ _ _ _ c.loop-i.invariant.1 c.if-allowance-i.true)
+pub returns-then-allowance-end : goal.returns-then-allowance-end
+returns-then-allowance-end c = sym (c.loop-i.invariant.0 ∙ search-long _ _ _ _ _ c.loop-i.invariant.1 (omega arith))
 
 pub returns : goal.returns
-returns c = sym (c.loop-i.invariant.0 ∙ search-more _ _ _ _ _ c.loop-i.invariant.1 c.if-allowance-i.false (omega arith))
+returns c = sym (c.loop-i.invariant.0 ∙ search-more _ _ _ _ _ c.loop-i.invariant.1 (omega arith) (omega arith))

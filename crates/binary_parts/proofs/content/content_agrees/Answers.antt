@@ -6,10 +6,10 @@ pub returns-then-body : goal.returns-then-body
 unfolding content_agrees
 returns-then-body c = search picks
 
-pub returns-then-does_agree : goal.returns-then-does_agree
+pub returns-else-body : goal.returns-else-body
 unfolding content_agrees
-returns-then-does_agree c = search picks
+returns-else-body c = search picks
 
-pub returns : goal.returns
+pub returns-else-does_agree : goal.returns-else-does_agree
 unfolding content_agrees
-returns c = search picks
+returns-else-does_agree c = search picks

@@ -5,12 +5,12 @@ use Rattle.binary_parts.proofs.lines.is_line_value.Goals as goal
 
 pub returns-then-form : goal.returns-then-form
 unfolding is_line_value is_empty
-returns-then-form c = search (picks, c.is_trimmed_value.ensures c.requires)
+returns-then-form c = search (picks, c.is_trimmed_value.ensures c.args.t.now.whole)
 
-pub returns-then-is_trimmed_value : goal.returns-then-is_trimmed_value
+pub returns-else-form : goal.returns-else-form
 unfolding is_line_value is_empty
-returns-then-is_trimmed_value c = search (picks, c.is_trimmed_value.ensures c.requires)
+returns-else-form c = search (picks, c.is_trimmed_value.ensures c.args.t.now.whole)
 
-pub returns : goal.returns
+pub returns-else-is_trimmed_value : goal.returns-else-is_trimmed_value
 unfolding is_line_value is_empty
-returns c = search (picks, c.is_trimmed_value.ensures c.requires)
+returns-else-is_trimmed_value c = search (picks, c.is_trimmed_value.ensures c.args.t.now.whole)

@@ -5,16 +5,16 @@ use Rattle.binary_parts.proofs.Places.{integer-few, within-cut, within-octets, w
 use Rattle.binary_parts.proofs.parts.part_within.Goals as goal
 
 pub returns-in_default : goal.returns-in_default
-returns-in_default c = within-cut c.args.s.now _ _ (sym c.read_int-v.ensures.0 ∙ c.in_default.is)
+returns-in_default c = within-cut c.args.s.now _ _ c.at.ensures (sym c.in_default.ensures.0)
 
 pub overflow_add-from : goal.overflow_add-from
-overflow_add-from c = omega (arith, integer-few c.args.s.now c.args.from c.requires (sym c.read_int-v.ensures.0 ∙ c.in-Value.is), int-within c.args.s.now c.args.from.at (sym c.read_int-v.ensures.0 ∙ c.in-Value.is))
+overflow_add-from c = omega (arith, integer-few c.args.s.now c.args.from c.requires (sym c.in-Some.ensures.0), int-within c.args.s.now c.args.from.at (sym c.in-Some.ensures.0))
 
 pub part_octets-requires : goal.part_octets-requires
-part_octets-requires c = ((int-within c.args.s.now c.args.from.at (sym c.read_int-v.ensures.0 ∙ c.in-Value.is)).1, integer-few c.args.s.now c.args.from c.requires (sym c.read_int-v.ensures.0 ∙ c.in-Value.is))
+part_octets-requires c = ((int-within c.args.s.now c.args.from.at (sym c.in-Some.ensures.0)).1, integer-few c.args.s.now c.args.from c.requires (sym c.in-Some.ensures.0))
 
 pub returns-then-fits : goal.returns-then-fits
-returns-then-fits c = within-octets c.args.s.now _ (sym c.read_int-v.ensures.0 ∙ c.in-Value.is) c.args.most (sym c.fits.ensures ∙ c.if-fits.true) c.part_octets.ensures
+returns-then-fits c = within-octets c.args.s.now _ (sym c.in-Some.ensures.0) c.args.most (sym c.fits.ensures ∙ c.if-fits.true) c.part_octets.ensures
 
-pub returns : goal.returns
-returns c = within-large c.args.s.now _ (sym c.read_int-v.ensures.0 ∙ c.in-Value.is) c.args.most (sym c.fits.ensures ∙ c.if-fits.false)
+pub returns-else-fits : goal.returns-else-fits
+returns-else-fits c = within-large c.args.s.now _ (sym c.in-Some.ensures.0) c.args.most c.at-else-fits.ensures (sym c.fits.ensures ∙ c.if-fits.false)

@@ -6,10 +6,10 @@ pub returns-then-body : goal.returns-then-body
 unfolding trailers_agree
 returns-then-body c = search picks
 
-pub returns-then-are_trailers : goal.returns-then-are_trailers
+pub returns-else-body : goal.returns-else-body
 unfolding trailers_agree
-returns-then-are_trailers c = search picks
+returns-else-body c = search picks
 
-pub returns : goal.returns
+pub returns-else-are_trailers : goal.returns-else-are_trailers
 unfolding trailers_agree
-returns c = search picks
+returns-else-are_trailers c = search picks

@@ -6,6 +6,6 @@ pub returns-then-edition-eq0 : goal.returns-then-edition-eq0
 unfolding form_of
 returns-then-edition-eq0 c = search picks
 
-pub returns : goal.returns
+pub returns-else-edition-eq0 : goal.returns-else-edition-eq0
 unfolding form_of
-returns c = search picks
+returns-else-edition-eq0 c = search picks

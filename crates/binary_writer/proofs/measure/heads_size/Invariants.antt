@@ -5,7 +5,4 @@ use Rattle.binary_writer.specs.Sizes.{heads_size}
 use Rattle.binary_writer.proofs.measure.heads_size.Given as goal
 
 abbrev pub invariant-loop-i : goal.invariant-loop-i
-invariant-loop-i l = (l.i ≤ l.n) × (l.size ≤ l.i * 549755814800) × (l.k ≡ fields_before l.heads l.i) × (l.size + heads_size l.fields l.heads l.i (l.n - l.i) ≡ heads_size l.fields l.heads 0 l.n)
-
-abbrev pub decreases-loop-i : goal.decreases-loop-i
-decreases-loop-i l = l.n - l.i
+invariant-loop-i l = (l.size ≤ l.i * 549755814800) × (l.k ≡ fields_before l.heads l.i) × (l.size + heads_size l.fields l.heads l.i (l.n - l.i) ≡ heads_size l.fields l.heads 0 l.n)

@@ -1,4 +1,4 @@
-use Prim.Native.Nat.{◌+◌, ◌-◌, ◌≤◌}
+use Prim.Native.Nat.{◌+◌, ◌-◌}
 use mathlib.Core.List.{map}
 use Rattle.output.specs.Splice.{Left}
 use Rattle.messages.specs.Meaning.{field_means}
@@ -8,7 +8,4 @@ use Rattle.binary_writer.specs.Sizes.{fields_size}
 use Rattle.binary_writer.proofs.put.put_fields.Given as goal
 
 abbrev pub invariant-loop-i : goal.invariant-loop-i
-invariant-loop-i l = (l.i ≤ l.n) × Left l.initial.out l.at (fields_bytes (map field_means (fields_in l.s l.ranges l.k l.n))) (fields_size l.ranges l.k l.n) l.out l.a (fields_bytes (map field_means (fields_in l.s l.ranges (l.k + l.i) (l.n - l.i)))) (fields_size l.ranges (l.k + l.i) (l.n - l.i))
-
-abbrev pub decreases-loop-i : goal.decreases-loop-i
-decreases-loop-i l = l.n - l.i
+invariant-loop-i l = Left l.initial.out l.at (fields_bytes (map field_means (fields_in l.s l.ranges l.k l.n))) (fields_size l.ranges l.k l.n) l.out l.a (fields_bytes (map field_means (fields_in l.s l.ranges (l.k + l.i) (l.n - l.i)))) (fields_size l.ranges (l.k + l.i) (l.n - l.i))

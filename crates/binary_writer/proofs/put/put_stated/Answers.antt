@@ -4,8 +4,8 @@ use Rattle.binary_writer.proofs.Lengths.{is-missing}
 use Rattle.binary_writer.proofs.Steps.{put-length}
 use Rattle.binary_writer.proofs.put.put_stated.Goals as goal
 
-pub returns-in-Missing : goal.returns-in-Missing
-returns-in-Missing c = let e = is-missing c.in-Missing.is in put_as (e.bytes, e.size) (put-none _ _)
+pub returns-in-None : goal.returns-in-None
+returns-in-None c = let e = is-missing c.in-None.is in put_as (e.bytes, e.size) (put-none _ _)
 
-pub returns-in-Of : goal.returns-in-Of
-returns-in-Of c = put-length c.in-Of.is c.digit_count.ensures (puts c.put_text-a.ensures) (puts c.put_int-b.ensures) (puts c.put_decimal.ensures) c.requires
+pub returns-in-Some : goal.returns-in-Some
+returns-in-Some c = put-length c.in-Some.is c.digit_count.ensures (puts c.put_text-a.ensures) (puts c.put_int-b.ensures) (puts c.put_decimal.ensures) c.requires

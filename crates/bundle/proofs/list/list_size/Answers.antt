@@ -1,4 +1,3 @@
-use Prim.Native.Nat.{◌-◌}
 use Rattle.bundle.proofs.Lists.{passing-start, passing-next, whole, sizing-start, sizing-next, sizing-end}
 use Rattle.bundle.proofs.list.list_size.Goals as goal
 

@@ -1,4 +1,3 @@
-use Prim.Native.Nat.{◌-◌}
 use Rattle.bundle.proofs.Lists.{passing-start, passing-next, whole, listing_start, listing-next, listing-end}
 use Rattle.bundle.proofs.list.put_list.Goals as goal
 

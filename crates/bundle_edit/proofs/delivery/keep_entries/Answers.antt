@@ -1,4 +1,3 @@
-use Prim.Native.Nat.{◌-◌}
 use Rattle.bundle.proofs.Lists.{passing-start, passing-next}
 use Rattle.bundle_edit.proofs.Sweeping.{keeps-start, keeps-whole, keeps-word, keeps-within, keeps-next}
 use Rattle.bundle_edit.proofs.delivery.keep_entries.Goals as goal

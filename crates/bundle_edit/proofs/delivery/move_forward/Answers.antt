@@ -1,6 +1,6 @@
-use Prim.Native.Nat.{◌-◌}
-use Rattle.bundle_edit.proofs.Sweeping.{moving-next}
+use Rattle.std.proofs.Common.{arith}
+use Rattle.output.proofs.Copies.{splice-within}
 use Rattle.bundle_edit.proofs.delivery.move_forward.Goals as goal
 
-pub loop-i-preserved : goal.loop-i-preserved
-loop-i-preserved c = moving-next c.requires.0 c.loop-i.invariant c.loop-i-test.true
+pub returns : goal.returns
+returns c = splice-within c.args.buf.now c.args.to c.args.from c.args.n (omega arith) c.copy_within.ensures.after c.requires.1 (omega (arith, c.requires))

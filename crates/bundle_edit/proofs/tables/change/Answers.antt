@@ -1,18 +1,18 @@
-use borrow.Author.Tests.{lt-ltb, le-ltb, eq-eqb, ne_eqb}
+use borrow.Author.Tests.{lt-ltb, le-ltb}
 use Rattle.bundle_edit.specs.Changes.{changed}
 use Rattle.bundle_edit.proofs.tables.change.Goals as goal
 
-pub returns-then-c-eq-PUTS : goal.returns-then-c-eq-PUTS
+pub returns-in-Leaves : goal.returns-in-Leaves
 unfolding changed
-returns-then-c-eq-PUTS c = simp (lt-ltb _ _ c.if-k-lt127.true, eq-eqb _ _ c.if-c-eq-PUTS.true)
+returns-in-Leaves c = simp (lt-ltb _ _ c.if-k-lt127.true, c.in-Leaves.is)
 
-pub returns-then-c-eq-TAKES_OFF : goal.returns-then-c-eq-TAKES_OFF
+pub returns-in-Puts : goal.returns-in-Puts
 unfolding changed
-returns-then-c-eq-TAKES_OFF c = simp (c.minus.ensures, lt-ltb _ _ c.if-k-lt127.true, ne_eqb _ _ c.if-c-eq-PUTS.false, eq-eqb _ _ c.if-c-eq-TAKES_OFF.true)
+returns-in-Puts c = simp (lt-ltb _ _ c.if-k-lt127.true, c.in-Puts.is)
 
-pub returns-then-k-lt127 : goal.returns-then-k-lt127
+pub returns-in-TakesOff : goal.returns-in-TakesOff
 unfolding changed
-returns-then-k-lt127 c = simp (lt-ltb _ _ c.if-k-lt127.true, ne_eqb _ _ c.if-c-eq-PUTS.false, ne_eqb _ _ c.if-c-eq-TAKES_OFF.false)
+returns-in-TakesOff c = simp (c.minus.ensures, lt-ltb _ _ c.if-k-lt127.true, c.in-TakesOff.is)
 
 pub returns : goal.returns
 unfolding changed

@@ -1,4 +1,3 @@
-use Prim.Native.Nat.{◌-◌}
 use Rattle.bundle.proofs.Lists.{passing-start, passing-next, whole}
 use Rattle.bundle_edit.proofs.Counting.{counting-start, counting-length, counting-flock, counting-next}
 use Rattle.bundle_edit.proofs.tables.count_entries.Goals as goal

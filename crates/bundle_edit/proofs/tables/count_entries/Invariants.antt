@@ -1,10 +1,6 @@
-use Prim.Native.Nat.{◌-◌}
 use Rattle.bundle.proofs.Lists.{Passing}
 use Rattle.bundle_edit.proofs.Counting.{Counting}
 use Rattle.bundle_edit.proofs.tables.count_entries.Given as goal
 
 abbrev pub invariant-loop-i : goal.invariant-loop-i
-invariant-loop-i l = Passing l.s l.count l.i l.at × Counting l.s l.all l.i l.at l.counts
-
-abbrev pub decreases-loop-i : goal.decreases-loop-i
-decreases-loop-i l = l.count - l.i
+invariant-loop-i l = Passing l.s l.count l._i l.at × Counting l.s l.all l._i l.at l.counts

@@ -4,10 +4,10 @@ use Rattle.capi.proofs.MessageEntry.{message-small, message-room, message-entere
 use Rattle.capi.proofs.entries.enter_binary.Goals as goal
 
 pub all_fields-fields-requires : goal.all_fields-fields-requires
-all_fields-fields-requires c = let g = given-message (response-outcomed c.binary_in-o.ensures) _ c.in-Message.is in (omega (arith, c.requires.2), (message-small c.args.input.now g c.binary_in-o.ensures c.requires.5 (binary-ok c.args.told c.args.input.now g)).headers)
+all_fields-fields-requires c = let g = given-message (response-outcomed c.binary_in-o.ensures) _ c.in-Ok.is in (omega (arith, c.requires.1), (message-small c.args.input.now g c.binary_in-o.ensures c.requires.4 (binary-ok c.args.told c.args.input.now g)).headers)
 
 pub give_message-requires : goal.give_message-requires
-give_message-requires c = let g = given-message (response-outcomed c.binary_in-o.ensures) _ c.in-Message.is in let z = message-room c.args.input.now g c.binary_in-o.ensures c.requires.5 (binary-ok c.args.told c.args.input.now g) _ c.all_fields-fields.ensures c.requires.1 c.requires.3 c.requires.4 in (message-small c.args.input.now g c.binary_in-o.ensures c.requires.5 (binary-ok c.args.told c.args.input.now g), z.0, omega (arith, c.requires.2), omega (arith, z.1), omega (arith, z.2), omega (arith, z.3))
+give_message-requires c = let g = given-message (response-outcomed c.binary_in-o.ensures) _ c.in-Ok.is in let z = message-room c.args.input.now g c.binary_in-o.ensures c.requires.4 (binary-ok c.args.told c.args.input.now g) _ c.all_fields-fields.ensures c.requires.0 c.requires.2 c.requires.3 in (message-small c.args.input.now g c.binary_in-o.ensures c.requires.4 (binary-ok c.args.told c.args.input.now g), z.0, omega (arith, c.requires.1), omega (arith, z.1), omega (arith, z.2), omega (arith, z.3))
 
-pub returns-in-Message : goal.returns-in-Message
-returns-in-Message c = let g = given-message (response-outcomed c.binary_in-o.ensures) _ c.in-Message.is in message-entered c.args.input.now g c.binary_in-o.ensures c.requires.5 (binary-ok c.args.told c.args.input.now g) _ c.all_fields-fields.ensures c.requires.1 c.requires.3 c.requires.4 _ _ _ _ _ c.give_message.ensures
+pub returns-in-Ok : goal.returns-in-Ok
+returns-in-Ok c = let g = given-message (response-outcomed c.binary_in-o.ensures) _ c.in-Ok.is in message-entered c.args.input.now g c.binary_in-o.ensures c.requires.4 (binary-ok c.args.told c.args.input.now g) _ c.all_fields-fields.ensures c.requires.0 c.requires.2 c.requires.3 _ _ _ _ _ c.give_message.ensures

@@ -5,4 +5,4 @@ use Rattle.capi.proofs.entries.ospirnar_read_binary.Goals as goal
 
 pub enter_binary-requires : goal.enter_binary-requires
 unfolding no_heads
-enter_binary-requires c = (c.class_table-t.ensures, omega arith, omega arith, omega arith, omega arith, refl)
+enter_binary-requires c = (omega arith, omega arith, omega arith, omega arith, refl)

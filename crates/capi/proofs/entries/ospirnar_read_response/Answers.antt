@@ -5,4 +5,4 @@ use Rattle.capi.proofs.entries.ospirnar_read_response.Goals as goal
 
 pub enter_response-requires : goal.enter_response-requires
 unfolding no_heads
-enter_response-requires c = (c.class_table-t.ensures, omega arith, omega arith, omega arith, omega arith, refl)
+enter_response-requires c = (omega arith, omega arith, omega arith, omega arith, refl)

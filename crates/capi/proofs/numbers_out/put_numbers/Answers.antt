@@ -1,12 +1,6 @@
-use borrow.Author.Rules.{rules}
-use mathlib.Core.Path.{refl, ◌∙◌}
-use Prim.Native.Nat.{ℕ, ◌-◌}
-use lib.ListN.{length-set}
-use Rattle.output.proofs.Laws.{elements-length, elements-more₀, elements-none, put-turn}
+use Rattle.std.proofs.Common.{length-take, arith}
+use Rattle.output.proofs.Laws.{put_as, elements-take}
 use Rattle.capi.proofs.numbers_out.put_numbers.Goals as goal
 
-pub loop-i-preserved : goal.loop-i-preserved
-loop-i-preserved c = (search rules, simp length-set (search rules), put-turn c.loop-i.out c.args.at c.loop-i.i _ _ _ (elements-more₀ {A = ℕ} 0 c.args.src.now c.loop-i.i c.args.len c.loop-i-test.true) ∙ c.loop-i.invariant.2)
-
 pub returns : goal.returns
-returns c = record { next = refl; size = elements-length {A = ℕ} 0 c.args.src.now 0 c.args.len; all = rw (elements-none {A = ℕ} 0 c.args.src.now c.loop-i.i c.loop-i.i c.args.len c.loop-i-test.false) at c.loop-i.invariant.2 }
+returns c = put_as (elements-take 0 c.args.src.now 0 c.args.len (omega (arith, c.requires.len_in_bounds_2)), omega (arith, length-take c.args.len c.args.src.now, c.requires.len_in_bounds_2)) c.put_all.ensures

@@ -8,5 +8,5 @@ returns-then-is_value_from c = λ h. search (chunk-good, by-table h)
 pub returns-else-is_value_from : goal.returns-else-is_value_from
 returns-else-is_value_from c = λ h. search (chunk-bad, by-table h)
 
-pub returns-in-Not : goal.returns-in-Not
-returns-in-Not c = λ h. search chunk-none
+pub returns-in-None : goal.returns-in-None
+returns-in-None c = λ h. search chunk-none

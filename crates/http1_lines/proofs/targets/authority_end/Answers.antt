@@ -1,17 +1,18 @@
+use Rattle.http1_lines.proofs.RequestTargets.{authority-here, authority-on, authority-all}
+use mathlib.Core.Path.{◌≡◌, sym, ◌∙◌}
+use native.Mathlib.Omega.{arith}
+use lib.ListN.{length}
 use Prim.Native.Nat.{◌-◌}
-use Rattle.octets.proofs.Texts.{span-step, span-end}
-use Rattle.octets.proofs.Kit.{kit}
-use Rattle.http1_lines.proofs.RequestTargets.{slash-ends, query-ends, before-path}
 use Rattle.http1_lines.proofs.targets.authority_end.Goals as goal
 
-pub returns-then-w-i-eq47 : goal.returns-then-w-i-eq47
-returns-then-w-i-eq47 c = (search (span-step, slash-ends, c.loop-i.invariant.0), search kit, search kit)
-
-pub returns-then-w-i-eq63 : goal.returns-then-w-i-eq63
-returns-then-w-i-eq63 c = (search (span-step, query-ends, c.loop-i.invariant.0), search kit, search kit)
+pub returns-then-not-is_before_path : goal.returns-then-not-is_before_path
+returns-then-not-is_before_path c =
+    (authority-here c.args.w.now c.args.from c.loop-i.i c.loop-i.invariant c.loop-i-test.true (sym c.is_before_path.ensures ∙ c.if-not-is_before_path.true), omega arith, omega arith)
 
 pub loop-i-preserved : goal.loop-i-preserved
-loop-i-preserved c = (search (span-step, before-path, c.loop-i.invariant.0), search kit, search kit)
+loop-i-preserved c = authority-on c.args.w.now c.args.from c.loop-i.i c.loop-i.invariant c.loop-i-test.true (sym c.is_before_path.ensures ∙ c.if-not-is_before_path.false)
 
 pub returns : goal.returns
-returns c = (search (span-end, c.loop-i.invariant.0), search kit, search kit)
+returns c =
+    let e : c.loop-i.i ≡ length c.args.w.now = omega arith in
+    (sym e ∙ authority-all c.args.w.now c.args.from c.loop-i.i c.loop-i.invariant c.loop-i-test.false, omega arith, omega arith)

@@ -5,4 +5,4 @@ pub returns-then-s-from-le-CONTENT : goal.returns-then-s-from-le-CONTENT
 returns-then-s-from-le-CONTENT c = unmeasured-more c.args.s.now c.args.from c.requires c.if-s-from-le-CONTENT.true
 
 pub returns : goal.returns
-returns c = unmeasured-over c.args.s.now c.args.from c.requires c.if-s-from-le-CONTENT.false
+returns c = rw c.at.ensures (unmeasured-over c.args.s.now c.args.from c.requires c.if-s-from-le-CONTENT.false)

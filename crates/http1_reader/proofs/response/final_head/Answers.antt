@@ -1,12 +1,10 @@
+use Rattle.std.proofs.lemmas.Result.{err_from_is_err_and}
 use Rattle.ranges.specs.Ranges.{AnyHeads}
-use Rattle.http1_reader.proofs.ResponseHeads.{headed-more, headed-refused, final-ends}
+use Rattle.http1_reader.proofs.ResponseHeads.{headed-stopped, final-ends}
 use Rattle.http1_reader.proofs.response.final_head.Goals as goal
 
-pub returns-in-More : goal.returns-in-More
-returns-in-More c = headed-more c.args.s.now _ _ _ _ _ _ c.read_headers-h.ensures AnyHeads (λ is u v. v is c.args.status) c.in-More.is
+pub returns-in_err-section : goal.returns-in_err-section
+returns-in_err-section c = let p = err_from_is_err_and c.from_residual.result c.from_residual.ensures.1 in rw (p.1, p.2) (headed-stopped c.args.s.now _ _ _ AnyHeads (λ is u v. v is c.args.status) c.in_err-section.ensures)
 
-pub returns-in-Refused : goal.returns-in-Refused
-returns-in-Refused c = headed-refused c.args.s.now _ _ _ _ _ _ c.read_headers-h.ensures AnyHeads (λ is u v. v is c.args.status) _ _ c.in-Refused.is
-
-pub returns-in-Done : goal.returns-in-Done
-returns-in-Done c = final-ends c.args.s.now _ _ _ _ _ _ c.read_headers-h.ensures c.requires.1 c.requires.2 _ _ _ _ c.in-Done.is _
+pub returns : goal.returns
+returns c = final-ends c.args.s.now _ _ _ c.requires.0 c.requires.1 c.in_ok-section.ensures _

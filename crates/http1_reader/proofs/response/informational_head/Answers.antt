@@ -1,17 +1,14 @@
-use mathlib.Core.Path.{sym, ◌∙◌}
+use Rattle.std.proofs.lemmas.Result.{err_from_is_err_and}
 use Rattle.ranges.specs.Ranges.{FewHeads}
 use Rattle.http1_lines.specs.Read.{after_informational}
-use Rattle.http1_reader.proofs.ResponseHeads.{headed-more, headed-refused, informational-states, informational-ends}
+use Rattle.http1_reader.proofs.ResponseHeads.{headed-stopped, informational-states, informational-ends}
 use Rattle.http1_reader.proofs.response.informational_head.Goals as goal
 
-pub returns-in-More : goal.returns-in-More
-returns-in-More c = headed-more c.args.s.now _ _ _ _ _ _ c.read_headers-h.ensures FewHeads (λ is u v. after_informational u is c.args.status) c.in-More.is
+pub returns-in_err-section : goal.returns-in_err-section
+returns-in_err-section c = let p = err_from_is_err_and c.from_residual.result c.from_residual.ensures.1 in rw (p.1, p.2) (headed-stopped c.args.s.now _ _ _ FewHeads (λ is u v. after_informational u is c.args.status) c.in_err-section.ensures)
 
-pub returns-in-Refused : goal.returns-in-Refused
-returns-in-Refused c = headed-refused c.args.s.now _ _ _ _ _ _ c.read_headers-h.ensures FewHeads (λ is u v. after_informational u is c.args.status) _ _ c.in-Refused.is
+pub returns-in_err-nothing_stated : goal.returns-in_err-nothing_stated
+returns-in_err-nothing_stated c = let p = err_from_is_err_and c.from_residual-in_err-nothing_stated.result c.from_residual-in_err-nothing_stated.ensures.1 in rw (p.1, p.2) (informational-states c.args.s.now _ _ _ c.requires.0 c.requires.1 c.in_ok-section.ensures _ c.in_err-nothing_stated.ensures)
 
-pub returns-in-Refused-b : goal.returns-in-Refused-b
-returns-in-Refused-b c = informational-states c.args.s.now _ _ _ _ _ _ c.read_headers-h.ensures c.requires.1 c.requires.2 _ _ _ _ c.in-Done.is _ _ _ (sym c.nothing_stated-b.ensures ∙ c.in-Refused-b.is)
-
-pub returns-in-Read : goal.returns-in-Read
-returns-in-Read c = informational-ends c.args.s.now _ _ _ _ _ _ c.read_headers-h.ensures c.requires.1 c.requires.2 _ _ _ _ c.in-Done.is _ _ (sym c.nothing_stated-b.ensures ∙ c.in-Read.is)
+pub returns : goal.returns
+returns c = informational-ends c.args.s.now _ _ _ c.requires.0 c.requires.1 c.in_ok-section.ensures _ c.in_ok-nothing_stated.ensures

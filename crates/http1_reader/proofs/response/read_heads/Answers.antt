@@ -1,23 +1,20 @@
 use native.Mathlib.Omega.{arith}
-use Prim.Native.Nat.{◌-◌}
 use mathlib.Core.Path.{refl}
-use Rattle.http1_reader.proofs.ResponseTurns.{heads-start, heads-more, heads-refused, heads-final, informational-some, heads-next}
+use Rattle.std.proofs.lemmas.Result.{err_from_is_err_and}
+use Rattle.http1_reader.proofs.ResponseTurns.{heads-start, heads-stopped, heads-final, informational-some, heads-next}
 use Rattle.http1_reader.proofs.response.read_heads.Goals as goal
 
-pub loop-number-init : goal.loop-number-init
-loop-number-init c = (c.requires.0, refl, refl, heads-start _ _ _)
+pub loop-status-init : goal.loop-status-init
+loop-status-init c = (refl, refl, heads-start _ _ _)
 
-pub returns-in-More : goal.returns-in-More
-returns-in-More c = heads-more c.loop-number.invariant.3 c.next_head-h.ensures _ c.in-More.is
-
-pub returns-in-Refused : goal.returns-in-Refused
-returns-in-Refused c = heads-refused c.loop-number.invariant.3 c.next_head-h.ensures _ _ _ c.in-Refused.is
+pub returns-in_err-status : goal.returns-in_err-status
+returns-in_err-status c = let p = err_from_is_err_and c.from_residual.result c.from_residual.ensures.1 in rw (p.1, p.2) (heads-stopped c.loop-status.invariant.2 c.in_err-status.ensures)
 
 pub returns-in-Final : goal.returns-in-Final
-returns-in-Final c = heads-final c.loop-number.invariant.3 c.next_head-h.ensures _ _ _ _ c.in-Final.is
+returns-in-Final c = heads-final c.loop-status.invariant.2 c.in_ok-status.ensures c.in-Final.is
 
 pub overflow_cast-kept : goal.overflow_cast-kept
-overflow_cast-kept c = omega (arith, informational-some c.loop-number.invariant.3 c.next_head-h.ensures _ _ _ _ c.in-Informational.is)
+overflow_cast-kept c = omega (arith, informational-some c.loop-status.invariant.2 c.in_ok-status.ensures c.in-Informational.is)
 
-pub loop-number-preserved : goal.loop-number-preserved
-loop-number-preserved c = (c.loop-number.invariant.0, omega arith, omega arith, heads-next c.loop-number.invariant.3 c.next_head-h.ensures _ _ _ _ c.in-Informational.is _ c.store.ensures)
+pub loop-status-preserved : goal.loop-status-preserved
+loop-status-preserved c = (omega arith, omega arith, heads-next c.loop-status.invariant.2 c.in_ok-status.ensures c.in-Informational.is c.store.ensures)

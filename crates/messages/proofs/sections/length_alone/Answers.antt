@@ -16,12 +16,12 @@ returns-in-Unstated c = simp c.in-Unstated.is
 
 pub returns-else-fits : goal.returns-else-fits
 unfolding length_alone
-returns-else-fits c = search alone-over
+returns-else-fits c = rw c.at.ensures (search alone-over)
 
 pub returns-else-is_yes : goal.returns-else-is_yes
 unfolding length_alone
-returns-else-is_yes c = search alone-coded
+returns-else-is_yes c = rw c.at-in-Chunked.ensures (search alone-coded)
 
 pub returns-in-Clashing : goal.returns-in-Clashing
 unfolding length_alone
-returns-in-Clashing c = simp c.in-Clashing.is
+returns-in-Clashing c = simp (c.at-in-Clashing.ensures, c.in-Clashing.is)

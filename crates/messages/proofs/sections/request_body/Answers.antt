@@ -12,7 +12,7 @@ returns-in-Unstated c = simp c.in-Unstated.is
 
 pub returns-else-fits : goal.returns-else-fits
 unfolding request_body
-returns-else-fits c = search stated-over
+returns-else-fits c = rw c.at.ensures (search stated-over)
 
 pub returns-in-Chunked : goal.returns-in-Chunked
 unfolding request_body
@@ -20,4 +20,4 @@ returns-in-Chunked c = simp c.in-Chunked.is
 
 pub returns-in-Clashing : goal.returns-in-Clashing
 unfolding request_body
-returns-in-Clashing c = simp c.in-Clashing.is
+returns-in-Clashing c = simp (c.at-in-Clashing.ensures, c.in-Clashing.is)

@@ -6,10 +6,10 @@ pub returns-then-fits : goal.returns-then-fits
 unfolding unmeasured_body
 returns-then-fits c = search closed-fits
 
-pub returns-in-Open : goal.returns-in-Open
+pub returns-in-None : goal.returns-in-None
 unfolding unmeasured_body
-returns-in-Open c = simp c.in-Open.is
+returns-in-None c = simp c.in-None.is
 
 pub returns-else-fits : goal.returns-else-fits
 unfolding unmeasured_body
-returns-else-fits c = search closed-over
+returns-else-fits c = rw c.at.ensures (search closed-over)

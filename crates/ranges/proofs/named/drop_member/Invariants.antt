@@ -1,9 +1,5 @@
-use Prim.Native.Nat.{◌-◌, ◌≤◌}
 use Rattle.ranges.proofs.Dropping.{LeftTo}
 use Rattle.ranges.proofs.named.drop_member.Given as goal
 
 abbrev pub invariant-loop-i : goal.invariant-loop-i
-invariant-loop-i l = (l.base ≤ l.i) × (l.i ≤ l.count) × LeftTo l.s l.name l.initial.out l.base l.i l.out l.k
-
-abbrev pub decreases-loop-i : goal.decreases-loop-i
-decreases-loop-i l = l.count - l.i
+invariant-loop-i l = LeftTo l.s l.name l.initial.out l.base l.i l.out l.k

@@ -1,11 +1,13 @@
+use native.Mathlib.Omega.{arith}
+use borrow.Author.Rules.{rules}
 use Rattle.step_lines.proofs.Counting.{does-none, does-some, does-other}
 use Rattle.step_lines.proofs.names.does_name.Goals as goal
 
-pub returns-then-entry-eq0 : goal.returns-then-entry-eq0
-returns-then-entry-eq0 c = does-none _ _ c.if-entry-eq0.true
+pub returns-in-44 : goal.returns-in-44
+returns-in-44 c = does-some _ _ (λ z. omega arith) (search rules) c.has_member.ensures
 
-pub returns-then-entry-eq44 : goal.returns-then-entry-eq44
-returns-then-entry-eq44 c = does-some _ _ c.if-entry-eq0.false c.if-entry-eq44.true c.has_member.ensures
+pub returns-in_default : goal.returns-in_default
+returns-in_default c = does-none _ _ (omega arith)
 
-pub returns : goal.returns
-returns c = does-other _ _ c.if-entry-eq0.false c.if-entry-eq44.false
+pub returns-in_default-2 : goal.returns-in_default-2
+returns-in_default-2 c = does-other _ _ (λ z. omega arith) (search rules)

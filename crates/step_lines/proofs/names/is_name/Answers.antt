@@ -1,14 +1,16 @@
+use native.Mathlib.Omega.{arith}
+use borrow.Author.Rules.{rules}
 use Rattle.step_lines.proofs.Counting.{name-none, name-connection, name-host, name-some}
 use Rattle.step_lines.proofs.names.is_name.Goals as goal
 
-pub returns-then-entry-eq0 : goal.returns-then-entry-eq0
-returns-then-entry-eq0 c = name-none _ c.if-entry-eq0.true
+pub returns-in_default : goal.returns-in_default
+returns-in_default c = name-some _ (λ z. omega arith) (search rules) (search rules)
 
-pub returns-then-entry-eq44 : goal.returns-then-entry-eq44
-returns-then-entry-eq44 c = name-connection _ c.if-entry-eq0.false c.if-entry-eq44.true
+pub returns-in-empty : goal.returns-in-empty
+returns-in-empty c = name-none _ (omega arith)
 
-pub returns-then-entry-eq58 : goal.returns-then-entry-eq58
-returns-then-entry-eq58 c = name-host _ c.if-entry-eq0.false c.if-entry-eq44.false c.if-entry-eq58.true
+pub returns-in-empty-2 : goal.returns-in-empty-2
+returns-in-empty-2 c = name-connection _ (λ z. omega arith) (search rules)
 
-pub returns : goal.returns
-returns c = name-some _ c.if-entry-eq0.false c.if-entry-eq44.false c.if-entry-eq58.false
+pub returns-in-empty-3 : goal.returns-in-empty-3
+returns-in-empty-3 c = name-host _ (λ z. omega arith) (search rules) (search rules)

@@ -1,11 +1,10 @@
-use Prim.Native.Nat.{◌-◌}
-use mathlib.Core.Path.{refl}
-use Rattle.octets.proofs.Texts.{itself}
-use Rattle.step_lines.proofs.Moving.{moving-next, moved-end}
+use Rattle.std.proofs.Common.{ap, ◌∙◌, arith}
+use Rattle.output.specs.Splice.{splice}
+use Rattle.output.proofs.Laws.{elements-take}
+use Rattle.output.proofs.Copies.{splice-within}
 use Rattle.step_lines.proofs.room.move_down.Goals as goal
 
-pub loop-i-preserved : goal.loop-i-preserved
-loop-i-preserved c = moving-next itself c.requires.0 c.loop-i.invariant c.loop-i-test.true refl
-
 pub returns : goal.returns
-returns c = moved-end c.requires.1 c.loop-i.invariant c.loop-i-test.false
+returns c =
+    splice-within c.args.room.now c.args.to c.args.from c.args.n (omega arith) c.copy_within.ensures.after c.requires.1 (omega (arith, c.requires))
+    ∙ ap (splice c.args.room.now c.args.to) (elements-take 0 c.args.room.now c.args.from c.args.n c.requires.1)

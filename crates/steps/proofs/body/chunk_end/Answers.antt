@@ -1,11 +1,12 @@
 use Rattle.steps.proofs.Picks.{end-no-cr, end-no-lf, end-good}
 use Rattle.steps.proofs.body.chunk_end.Goals as goal
+use Rattle.steps.proofs.body.chunk_end.Goals.{else-st-eq1-via-then-st-eq1+else-b-eq10, else-st-eq1-via-else-st-eq1}
 
 pub returns-then-b-eq10 : goal.returns-then-b-eq10
 returns-then-b-eq10 c = end-good _ _ c.if-st-eq1.true c.if-b-eq10.true c.fresh_word-l.ensures c.with_chunk-t.ensures c.with_tally-s.ensures c.onward.ensures
 
-pub returns-then-st-eq1 : goal.returns-then-st-eq1
-returns-then-st-eq1 c = end-no-lf _ _ c.if-st-eq1.true c.if-b-eq10.false c.refused.ensures
-
 pub returns : goal.returns
-returns c = end-no-cr _ _ c.if-st-eq1.false c.refused-2.ensures
+returns c = elim c.else-st-eq1.branch [
+  | else-st-eq1-via-then-st-eq1+else-b-eq10 w ↦ end-no-lf _ _ w.if-st-eq1.true w.if-b-eq10.false c.refused.ensures
+  | else-st-eq1-via-else-st-eq1 w ↦ end-no-cr _ _ w.if-st-eq1.false c.refused.ensures
+]

@@ -1,20 +1,21 @@
+use Rattle.std.proofs.Common.{rules}
 use Rattle.ranges.proofs.Outcomes.{given-refusal, given-more, response-outcomed}
 use Rattle.http1_writer.specs.Write.{to_http1}
 use Rattle.turning.specs.Behind.{read_to_http1}
 use Rattle.turning.proofs.Replies.{turned_more, turned-refused, turned, binary-held}
 use Rattle.turning.proofs.from_binary.turn_http1.Goals as goal
 
-pub returns-in-More : goal.returns-in-More
+pub returns-in-Err-More : goal.returns-in-Err-More
 unfolding read_to_http1
-returns-in-More c = turned_more _ (to_http1 c.args.told) _ (given-more (response-outcomed c.binary_in-o.ensures) c.in-More.is)
+returns-in-Err-More c = rw c.at.ensures (turned_more _ (to_http1 c.args.told) _ (given-more (response-outcomed c.binary_in-o.ensures) (search rules)))
 
-pub returns-in-Refusal : goal.returns-in-Refusal
+pub returns-in-Err-Refused : goal.returns-in-Err-Refused
 unfolding read_to_http1
-returns-in-Refusal c = turned-refused _ (to_http1 c.args.told) _ _ _ (given-refusal (response-outcomed c.binary_in-o.ensures) _ _ c.in-Refusal.is)
+returns-in-Err-Refused c = turned-refused _ (to_http1 c.args.told) _ _ _ (given-refusal (response-outcomed c.binary_in-o.ensures) c.in-Err-Refused.refused.number c.in-Err-Refused.refused.place (search rules))
 
 pub write_message-requires : goal.write_message-requires
-write_message-requires c = let h = binary-held c.args.told c.args.input.now c.binary_in-o.ensures c.in-Message.is c.requires.1 c.requires.2 c.requires.3 c.requires.4 in (h.0, h.1, h.3)
+write_message-requires c = let h = binary-held c.args.told c.args.input.now c.binary_in-o.ensures c.in-Ok.is c.requires.0 c.requires.1 c.requires.2 c.requires.3 in (h.0, h.1, h.3)
 
-pub returns-in-Message : goal.returns-in-Message
+pub returns-in-Ok : goal.returns-in-Ok
 unfolding read_to_http1
-returns-in-Message c = let h = binary-held c.args.told c.args.input.now c.binary_in-o.ensures c.in-Message.is c.requires.1 c.requires.2 c.requires.3 c.requires.4 in turned _ (to_http1 c.args.told) h.0 h.1 h.2 (c.write_message.ensures.by h.0 h.1 h.3)
+returns-in-Ok c = let h = binary-held c.args.told c.args.input.now c.binary_in-o.ensures c.in-Ok.is c.requires.0 c.requires.1 c.requires.2 c.requires.3 in turned _ (to_http1 c.args.told) h.0 h.1 h.2 (c.write_message.ensures.by h.0 h.1 h.3)

@@ -1,7 +1,0 @@
-use mathlib.Core.Path.{refl}
-use Rattle.flock_table.specs.Table as spec
-use Rattle.flock_table.proofs.difference.Goals as goal
-
-pub returns : goal.returns
-unfolding spec.difference
-returns c = refl
