@@ -1,8 +1,10 @@
 -- The head of an appended entry, read back.
-use Prim.Native.Nat.{ℕ, ◌≤◌, ◌<◌}
-use mathlib.Core.Path.{◌≡◌}
+use Prim.Native.Nat.{ℕ, ◌+◌, ◌*◌, ◌/◌, ◌%◌, ◌≤◌, ◌<◌}
+use mathlib.Core.Path.{◌≡◌, refl, sym, ap, ◌∙◌}
+use mathlib.Core.List.{List, [], ◌∷◌}
 use native.Mathlib.Omega.{arith}
 use Rattle.numbers.specs.Places.{push}
+use Rattle.numbers.specs.Integer.{plain}
 use Rattle.bundle.specs.Bundle.{word_of, flock_of, delivered_of, kind_of, length_of, head_of, head_octets}
 
 pub word_back : (w : ℕ) → w < 4294967296 → word_of (head_octets w) ≡ w

@@ -1,16 +1,17 @@
 -- The claims on lists: a flock's entries are good ones, so their octets are a bundle again.
 use Prim.Native.Nat.{ℕ, ◌+◌, ◌≤◌}
-use mathlib.Core.Path.{◌≡◌, sym, ap, ◌∙◌}
-use mathlib.Core.Bool.{Bool, true, false}
+use mathlib.Core.Path.{◌≡◌, refl, sym, ap, ◌∙◌}
+use mathlib.Core.Bool.{Bool, true, false, cond}
 use mathlib.Core.Logic.{◌↔◌}
-use mathlib.Core.List.{List, [], ◌∷◌}
+use mathlib.Core.List.{List, [], ◌∷◌, ◌++◌}
 use native.Mathlib.Omega.{arith}
 use borrow.Author.Tests.{eq-eqb, eqb-true}
 use lib.Dec.{eqb}
 use lib.ListN.{length}
+use Rattle.octets.specs.Refusals.{bad_entry}
 use Rattle.octets.proofs.Kit.{into}
 use Rattle.sound.specs.Placed.{Each}
-use Rattle.output.specs.Reply.{writes, refuses}
+use Rattle.output.specs.Reply.{Reply, writes, refuses}
 use Rattle.bundle.specs.Bundle.{is_flock, Entry, entries_octets, Walk, walk, pick_if, is_of, of_flock, flock_list}
 use Rattle.bundle.proofs.Walks.{few-entries}
 use Rattle.bundle_laws.specs.Reading.{InForm, IsBundle}

@@ -1,3 +1,4 @@
+use Prim.Native.Nat.{◌-◌}
 use Rattle.ranges.proofs.Dropping.{members-start, members-more, members-done, member-part}
 use Rattle.ranges.proofs.named.drop_members.Goals as goal
 
