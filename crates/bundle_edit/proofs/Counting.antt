@@ -18,8 +18,7 @@ use Rattle.flock_table.specs.Table.{picked, is_delivered, message_octets, record
 use Rattle.flock_table.specs.Tabulate.{tabulate}
 use Rattle.flock_table.specs.declared.Flock.{Flock}
 use Rattle.flock_table.proofs.Counted.{Short, picked-append, picked-few, picked-each, each_last, table-length, table-plus}
-use Rattle.bundle_edit.specs.Changes.{record_numbers, table_numbers, record_at, head_record, is_counted, refused_changes, rebuild_changes}
-use Rattle.bundle_edit.specs.declared.Kind.TheVariants.{Puts}
+use Rattle.bundle_edit.specs.Changes.{record_numbers, table_numbers, record_at, head_record, is_counted, refused_changes, rebuild_changes, puts}
 
 -- ---- a table as numbers
 
@@ -175,7 +174,7 @@ module _ (n : ℕ) (s : List ℕ) where
         rw (h, q, number, y)
 
     pub rebuild-puts : b.number ≡ 0 → {counts : List ℕ} → counts ≡ table_numbers (table_of (picked (is_counted true) (walk s).entries))
-        → record { kind = Puts; number = 0; place = 0; used = length s; counts = counts } ≡ rebuild_changes n s
+        → record { kind = puts; number = 0; place = 0; used = length s; counts = counts } ≡ rebuild_changes n s
     unfolding rebuild_changes
     rebuild-puts z {counts} q =
         let g : eqb (walk s).stop 0 ≡ true = eq-eqb (walk s).stop 0 (sym number ∙ z) in

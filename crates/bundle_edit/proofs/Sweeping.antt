@@ -20,14 +20,13 @@ use Rattle.flock_table.specs.Table.{picked, is_delivered, is_undelivered}
 use Rattle.flock_table.proofs.Counted.{flock-least, picked-append}
 use Rattle.bundle_edit.specs.Calls.{on_bundle}
 use Rattle.bundle_edit.specs.Delivery.{entry_number, entry_place, kept_octets, judged_call, Finds, none_there, idle_plan, marking_plan, mark_plan_of, marked_of, mark_plan, marked, sweep_changes, swept}
-use Rattle.bundle_edit.specs.Changes.{refused_changes, changes_by, table_numbers}
+use Rattle.bundle_edit.specs.Changes.{refused_changes, changes_by, table_numbers, takes_off}
 use Rattle.flock_table.specs.Table.{table_of}
 use Rattle.octets.specs.declared.Refused.{Refused}
 use Rattle.octets.specs.Refusals.{refused_at}
 use Rattle.std.proofs.Common.{Option, Some, None, Result, Ok, Err}
 use Rattle.bundle_edit.specs.declared.Plan.{Plan}
 use Rattle.bundle_edit.specs.declared.Changes.{Changes}
-use Rattle.bundle_edit.specs.declared.Kind.TheVariants.{TakesOff}
 
 part_length : (l : List ℕ) (from n : ℕ) → length (part l from n) ≡ n
 part_length l from n = elements-length 0 l from n
@@ -380,15 +379,15 @@ module _ (n : ℕ) (b : List ℕ) (used i : ℕ) {r : Plan} where
 -- ---- a sweep
 
 abbrev off : List Entry → Changes
-off es = changes_by TakesOff (length (kept_octets es)) (picked is_delivered es)
+off es = changes_by takes_off (length (kept_octets es)) (picked is_delivered es)
 
 module _ (n : ℕ) (b : List ℕ) (used : ℕ) where
   pub sweep-done : {b' counts : List ℕ} {count end : ℕ} → Accepts n b used count → counts ≡ table_numbers (table_of (picked is_delivered (walk (take used b)).entries))
       → (end ≡ length (kept_octets (walk (take used b)).entries)) × (b' ≡ splice b 0 (kept_octets (walk (take used b)).entries))
-      → (record { kind = TakesOff; number = 0; place = 0; used = end; counts = counts } ≡ sweep_changes n b used) × (b' ≡ swept n b used)
+      → (record { kind = takes_off; number = 0; place = 0; used = end; counts = counts } ≡ sweep_changes n b used) × (b' ≡ swept n b used)
   unfolding sweep_changes swept
   sweep-done {b'} {counts} {count} {end} a ec q =
-      let c : record { kind = TakesOff; number = 0; place = 0; used = end; counts = counts } ≡ off (walk (take used b)).entries = rw (ec, q.0) in
+      let c : record { kind = takes_off; number = 0; place = 0; used = end; counts = counts } ≡ off (walk (take used b)).entries = rw (ec, q.0) in
       (c ∙ on-good n b used count a (refused_changes used) off, q.1 ∙ on-good n b used count a (λ _ _. b) (λ es. splice b 0 (kept_octets es)))
 
   pub sweep-refused : {e : Refused} {r : Changes} → judged_call n b used ≡ Err e → r ≡ refused_changes used e.number e.place

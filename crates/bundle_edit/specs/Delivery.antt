@@ -8,10 +8,9 @@ use Rattle.bundle.specs.Bundle.{word_of, flock_of, is_flock, Entry, entries_octe
 use Rattle.flock_table.specs.Table.{picked, is_delivered, is_undelivered, none, minus}
 use Rattle.flock_table.specs.declared.Flock.{Flock}
 use Rattle.bundle_edit.specs.Calls.{on_bundle}
-use Rattle.bundle_edit.specs.Changes.{refused_changes, changes_by}
+use Rattle.bundle_edit.specs.Changes.{refused_changes, changes_by, takes_off}
 use Rattle.bundle_edit.specs.declared.Plan.{Plan}
 use Rattle.bundle_edit.specs.declared.Changes.{Changes}
-use Rattle.bundle_edit.specs.declared.Kind.TheVariants.{TakesOff}
 
 -- ---- marking
 
@@ -76,7 +75,7 @@ kept_octets es = entries_octets (picked is_undelivered es)
 
 -- what a sweep beside a table of n records answers: the records of the delivered entries are taken off
 unfoldable pub sweep_changes : ℕ → List ℕ → ℕ → Changes
-sweep_changes n b used = on_bundle (refused_changes used) n b used (λ es. changes_by TakesOff (length (kept_octets es)) (picked is_delivered es))
+sweep_changes n b used = on_bundle (refused_changes used) n b used (λ es. changes_by takes_off (length (kept_octets es)) (picked is_delivered es))
 
 -- and the buffer afterwards: "Behind the new end the old bytes stay"
 unfoldable pub swept : ℕ → List ℕ → ℕ → List ℕ

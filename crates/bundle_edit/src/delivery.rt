@@ -208,7 +208,7 @@ pub fn sweep(n: usize, buf: &mut [u8], used: usize) -> Changes
             count_delivered(buf, used, count, &mut counts);
             let end = keep_entries(buf, used, count);
             Changes {
-                kind: Kind::TakesOff,
+                kind: Kind::TakesOff as u32,
                 number: 0,
                 place: 0,
                 used: end,

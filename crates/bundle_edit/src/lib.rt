@@ -38,23 +38,23 @@ pub struct Plan {
     pub long: usize,
 }
 
-// What a call that changes all records of a table answers, flat: what is done to each, number, place, the used length afterwards; and the
-// records it is done with, three numbers each.
+// What a call that changes all records of a table answers, flat: what is done to each (the number of a Kind, and any other number leaves it), number, place, the
+// used length afterwards; and the records it is done with, three numbers each.
 #[derive(Clone, Copy)]
 pub struct Changes {
-    pub kind: Kind,
+    pub kind: u32,
     pub number: u32,
     pub place: usize,
     pub used: usize,
     pub counts: [u32; 381],
 }
 
-// What is done to each record: it is left, put, or taken off.
+// What is done to each record, with its number: it is left, put, or taken off.
 #[derive(Clone, Copy)]
 pub enum Kind {
-    Leaves,
-    Puts,
-    TakesOff,
+    Leaves = 0,
+    Puts = 1,
+    TakesOff = 2,
 }
 
 // An entry: where it begins, its head.

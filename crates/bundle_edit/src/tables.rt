@@ -105,7 +105,7 @@ pub(crate) fn refuse_changes(used: usize, number: u32, place: usize) -> Changes
     ensures { result ≡ refused_changes used number place }
 {
     Changes {
-        kind: Kind::Leaves,
+        kind: Kind::Leaves as u32,
         number,
         place,
         used,
@@ -123,7 +123,7 @@ pub fn rebuild(n: usize, s: &[u8]) -> Changes
             let mut counts = [0u32; 381];
             count_entries(s, b.count, true, &mut counts);
             return Changes {
-                kind: Kind::Puts,
+                kind: Kind::Puts as u32,
                 number: 0,
                 place: 0,
                 used: s.len(),
@@ -146,11 +146,12 @@ pub fn change(old: Flock, c: Changes, k: usize) -> Flock
             bytes: c.counts[k * 3 + 1],
             undelivered: c.counts[k * 3 + 2],
         };
-        return match c.kind {
-            Kind::Leaves => old,
-            Kind::Puts => s,
-            Kind::TakesOff => minus(old, s),
-        };
+        if c.kind == Kind::Puts as u32 {
+            return s;
+        }
+        if c.kind == Kind::TakesOff as u32 {
+            return minus(old, s);
+        }
     }
     old
 }

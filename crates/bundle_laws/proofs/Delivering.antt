@@ -15,8 +15,7 @@ use Rattle.flock_table.specs.Tabulate.{tabulate}
 use Rattle.flock_table.specs.declared.Flock.{Flock}
 use Rattle.flock_table.proofs.Tabulated.{tabulate-at, tabulate-set}
 use Rattle.flock_table.proofs.Counted.{flock-least, Short, Small, both, of-append, record-append, minus-exact, table_at, totals-small}
-use Rattle.bundle_edit.specs.Changes.{table_numbers, record_at, changed, changed_from, changes_by}
-use Rattle.bundle_edit.specs.declared.Kind.TheVariants.{TakesOff}
+use Rattle.bundle_edit.specs.Changes.{table_numbers, record_at, changed, changed_from, changes_by, takes_off}
 use Rattle.bundle_edit.specs.Delivery.{one_undelivered}
 use Rattle.bundle_edit.specs.declared.Changes.{Changes}
 use Rattle.bundle_edit.proofs.Counting.{numbers-at}
@@ -301,7 +300,7 @@ totals-parted f es =
 -- ---- the table of a sweep
 
 off-record : (used : ℕ) (es : List Entry) (j : ℕ) → Each Short es → length es ≤ 256 → j < 127
-    → changed (changes_by TakesOff used (picked is_delivered es)) j (totals (1 + j) es) ≡ totals (1 + j) (picked is_undelivered es)
+    → changed (changes_by takes_off used (picked is_delivered es)) j (totals (1 + j) es) ≡ totals (1 + j) (picked is_undelivered es)
 unfolding changed table_of
 off-record used es j s few l =
     let d = picked is_delivered es in
@@ -323,8 +322,8 @@ changed-table c g h (suc n) k e l =
     (ap (λ (i : ℕ). changed_from c (k + 1) (tabulate n i g)) q ∙ changed-table c g h n (k + 1) e (omega (arith, l)) ∙ ap (λ (i : ℕ). tabulate n i h) (sym q))
 
 pub table-swept : (used : ℕ) (es : List Entry) → Each Short es → length es ≤ 256
-    → changed_from (changes_by TakesOff used (picked is_delivered es)) 0 (table_of es) ≡ table_of (picked is_undelivered es)
+    → changed_from (changes_by takes_off used (picked is_delivered es)) 0 (table_of es) ≡ table_of (picked is_undelivered es)
 unfolding table_of
 table-swept used es s few =
-    changed-table (changes_by TakesOff used (picked is_delivered es)) (λ (f : ℕ). totals f es) (λ (f : ℕ). totals f (picked is_undelivered es)) 127 0
+    changed-table (changes_by takes_off used (picked is_delivered es)) (λ (f : ℕ). totals f es) (λ (f : ℕ). totals f (picked is_undelivered es)) 127 0
     (λ j l. off-record used es j s few l) (omega arith)

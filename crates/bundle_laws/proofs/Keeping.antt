@@ -22,8 +22,7 @@ use Rattle.flock_table.proofs.Tabulated.{tabulate-at}
 use Rattle.flock_table.proofs.Counted.{flock-least, Short, both, picked-few, picked-each, table-length, table_at, totals-more, totals-plus, table-plus}
 use Rattle.bundle_edit.specs.Append.{append_reply, append_plan, appended, plan_of, long_in, new_record, entered}
 use Rattle.bundle.specs.Bundle.{read_message}
-use Rattle.bundle_edit.specs.Changes.{changed, changed_from, refused_changes, changes_by, rebuild_changes}
-use Rattle.bundle_edit.specs.declared.Kind.TheVariants.{Leaves, Puts, TakesOff}
+use Rattle.bundle_edit.specs.Changes.{changed, changed_from, refused_changes, changes_by, rebuild_changes, leaves, puts, takes_off}
 use Rattle.bundle_edit.specs.Delivery.{none_there, entry_number, entry_place, idle_plan, mark_plan_of, marked_of, mark_plan, marked, one_undelivered, lessened, kept_octets, sweep_changes, swept}
 use Rattle.bundle_edit.specs.declared.Changes.{Changes}
 use Rattle.bundle_edit.proofs.Counting.{numbers-at}
@@ -50,22 +49,22 @@ changed-all c h k (r ∷ t) e l =
     ∙ ap (λ (x : List Flock). h (1 + k) ∷ x) (changed-all c h (k + 1) t e (omega (arith, l)) ∙ ap (λ (i : ℕ). tabulate (length t) i h) n)
 
 -- no record, where nothing is done
-pub changed-none : (c : Changes) (k : ℕ) (t : List Flock) → c.kind ≡ Leaves → changed_from c k t ≡ t
+pub changed-none : (c : Changes) (k : ℕ) (t : List Flock) → c.kind ≡ leaves → changed_from c k t ≡ t
 unfolding changed_from changed
 changed-none c k [] e = refl
 changed-none c k (r ∷ t) e =
     ap (λ (x : Flock). x ∷ changed_from c (k + 1) t) (rw e (either (λ (x : Flock). x ≡ r) (ltb k 127) r r (λ _. refl) (λ _. refl)))
     ∙ ap (λ (x : List Flock). r ∷ x) (changed-none c (k + 1) t e)
 
-put_record : (used : ℕ) (es : List Entry) (j : ℕ) (r : Flock) → j < 127 → changed (changes_by Puts used es) j r ≡ totals (1 + j) es
+put_record : (used : ℕ) (es : List Entry) (j : ℕ) (r : Flock) → j < 127 → changed (changes_by puts used es) j r ≡ totals (1 + j) es
 unfolding changed table_of
 put_record used es j r l =
     rw (lt-ltb j 127 l) (numbers-at (table_of es) j ∙ tabulate-at 127 1 j (λ (f : ℕ). totals f es) none l)
 
-pub table-put : (used : ℕ) (es : List Entry) (t : List Flock) → length t ≡ 127 → changed_from (changes_by Puts used es) 0 t ≡ table_of es
+pub table-put : (used : ℕ) (es : List Entry) (t : List Flock) → length t ≡ 127 → changed_from (changes_by puts used es) 0 t ≡ table_of es
 unfolding table_of
 table-put used es t l =
-    changed-all (changes_by Puts used es) (λ (f : ℕ). totals f es) 0 t (put_record used es) (omega (arith, l))
+    changed-all (changes_by puts used es) (λ (f : ℕ). totals f es) 0 t (put_record used es) (omega (arith, l))
     ∙ ap (λ (n : ℕ). tabulate n 1 (λ (f : ℕ). totals f es)) l
 
 -- ---- an empty bundle, and a rebuild
@@ -90,7 +89,7 @@ unbuilt n s t =
     let Q : Changes → Type 0 = λ (c : Changes). (c.number ≡ 0 → ⊥) → changed_from c 0 t ≡ t in
     either Q (eqb n 127) _ _
     (λ _.
-    either Q (eqb (walk s).stop 0) (changes_by Puts (length s) (walk s).entries) (refused_changes (length s) (walk s).stop (walk s).end) (λ _ h. absurd (h refl))
+    either Q (eqb (walk s).stop 0) (changes_by puts (length s) (walk s).entries) (refused_changes (length s) (walk s).stop (walk s).end) (λ _ h. absurd (h refl))
     (λ _ _. changed-none (refused_changes (length s) (walk s).stop (walk s).end) 0 t refl))
     (λ _ _. changed-none (refused_changes (length s) 16 0) 0 t refl)
 
@@ -200,7 +199,7 @@ swept_by x es =
     record {
       buffer = splice x.buffer 0 (kept_octets es);
       used = length (kept_octets es);
-      table = changed_from (changes_by TakesOff (length (kept_octets es)) (picked is_delivered es)) 0 x.table;
+      table = changed_from (changes_by takes_off (length (kept_octets es)) (picked is_delivered es)) 0 x.table;
     }
 
 pub after-sweep-is : (x : Night) (count : ℕ) → Accepts (length x.table) x.buffer x.used count → after sweeps x ≡ swept_by x (entries_in x)
@@ -208,7 +207,7 @@ unfolding sweep_changes swept
 after-sweep-is x count a =
     let n = length x.table in
     rw (
-      ← (on-good n x.buffer x.used count a (refused_changes x.used) (λ es. changes_by TakesOff (length (kept_octets es)) (picked is_delivered es))),
+      ← (on-good n x.buffer x.used count a (refused_changes x.used) (λ es. changes_by takes_off (length (kept_octets es)) (picked is_delivered es))),
       ← (on-good n x.buffer x.used count a (λ _ _. x.buffer) (λ es. splice x.buffer 0 (kept_octets es))),
     )
 

@@ -17,8 +17,7 @@ use Rattle.flock_table.specs.Table.{picked, is_delivered, is_undelivered, totals
 use Rattle.flock_table.specs.declared.Flock.{Flock}
 use Rattle.flock_table.proofs.Counted.{both, picked-few, table_at}
 use Rattle.bundle_edit.specs.Append.{message_entry, behind_bundle, buffer_reply, append_reply}
-use Rattle.bundle_edit.specs.Changes.{changes_by, refused_changes}
-use Rattle.bundle_edit.specs.declared.Kind.TheVariants.{TakesOff}
+use Rattle.bundle_edit.specs.Changes.{changes_by, refused_changes, takes_off}
 use Rattle.bundle_edit.specs.Delivery.{none_there, entry_number, idle_plan, mark_plan_of, marked_of, mark_plan, marked, kept_octets, judged_call, sweep_changes, swept}
 use Rattle.bundle_edit.specs.declared.Plan.{Plan}
 use Rattle.bundle_edit.specs.declared.Changes.{Changes}
@@ -165,11 +164,11 @@ module _ (x : Night) where
   unfolding sweep_changes swept
   unswept-by (Ok count) z n =
       let a = judged-good (length x.table) x.buffer x.used z in
-      let off : List Entry → Changes = λ (es : List Entry). changes_by TakesOff (length (kept_octets es)) (picked is_delivered es) in
+      let off : List Entry → Changes = λ (es : List Entry). changes_by takes_off (length (kept_octets es)) (picked is_delivered es) in
       let p = on-good (length x.table) x.buffer x.used count a (refused_changes x.used) off in
       absurd (n (ap (λ (r : Changes). r.number) (sym p)))
   unswept-by (Err e) z n =
-      let off : List Entry → Changes = λ (es : List Entry). changes_by TakesOff (length (kept_octets es)) (picked is_delivered es) in
+      let off : List Entry → Changes = λ (es : List Entry). changes_by takes_off (length (kept_octets es)) (picked is_delivered es) in
       rw (
         ← (on-bad (length x.table) x.buffer x.used z (refused_changes x.used) off),
         ← (on-bad (length x.table) x.buffer x.used z (λ _ _. x.buffer) (λ es. splice x.buffer 0 (kept_octets es))),

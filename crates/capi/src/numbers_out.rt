@@ -14,9 +14,10 @@ fn put_all(out: &mut [u32], at: usize, numbers: &[u32]) -> usize
     requires { at + length numbers.now ≤ length out.old }
     ensures { Put out.old at numbers.now (length numbers.now) out.new result }
 {
-    let end = at + numbers.len();
-    out[at..end].copy_from_slice(numbers);
-    end
+    for i in 0..numbers.len() {
+        out[at + i] = numbers[i];
+    }
+    at + numbers.len()
 }
 
 // The first `len` numbers of src, from `at` on in out.

@@ -155,7 +155,8 @@ pub fn next_line(t: &[u8; 256], s: &[u8], i: usize, left: usize) -> NextLine
     any_line(t, s, i, left)
 }
 
-// The size of the chunk of a chunk line.
+// The size of the chunk of a chunk line. (A function of its own in machine code too, as messages::parts::path_verdict is.)
+#[inline(never)]
 pub fn chunk_line(t: &[u8; 256], w: &[u8]) -> Option<usize>
     ensures { t.now ≡ classes → result ≡ chunk_lens w.now }
 {

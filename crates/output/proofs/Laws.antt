@@ -147,13 +147,6 @@ over-part o w at k n l h e =
     sym (splice-is o at w (omega arith) ∙ append_assoc (take at o) w (drop (at + length w) o)
     ∙ ap (λ (r : List ℕ). take at o ++ (w ++ r)) (ap (λ (j : ℕ). drop j o) d ∙ sym (drop-drop k at o)))
 
--- a part of a source, copied over a part
-pub copied : (o s w : List ℕ) (at from n k m : ℕ) → at + n ≤ length o → from + n ≤ length s → k ≡ n → m ≡ n → w ≡ take m (drop from s)
-    → put_mid at k o w ≡ splice o at (part s from n)
-copied o s w at from n k m h g ek em e =
-    let b : w ≡ part s from n = rw em at e ∙ sym (elements-take 0 s from n g) in
-    rw b (over-part o (part s from n) at k n (elements-length 0 s from n) h ek)
-
 -- nothing is written
 pub put-none : (o : List ℕ) (at : ℕ) → Put o at [] 0 o at
 put-none o at = record { next = omega arith; size = refl; all = refl }

@@ -31,7 +31,9 @@ fn copy_part(out: &mut [u8], at: usize, src: &[u8], from: usize, len: usize) -> 
     requires len_in_bounds_2 { from + len ≤ length src.now }
     ensures { Put out.old at (part src.now from len) len out.new result }
 {
-    out[at..at + len].copy_from_slice(&src[from..from + len]);
+    for i in 0..len {
+        out[at + i] = src[from + i];
+    }
     at + len
 }
 

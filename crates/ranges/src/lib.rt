@@ -26,7 +26,10 @@ pub fn store<const N: usize>(out: &mut [u32], k: usize, numbers: [u32; N])
     ensures { out.new ≡ splice out.old (k * N) numbers.entry }
 {
     let at = k * N;
-    out[at..at + N].copy_from_slice(&numbers);
+    let all: &[u32] = &numbers;
+    for i in 0..all.len() {
+        out[at + i] = all[i];
+    }
 }
 
 // Whether a line is a Connection line.

@@ -1,11 +1,12 @@
-use mathlib.Core.Path.{◌∙◌}
-use Rattle.std.proofs.Common.{rules, tests}
-use Rattle.std.proofs.lemmas.Iterator.{YieldsList-from_slice}
-use Rattle.std.proofs.lemmas.Iterator.Search.{all_from_yields_List}
-use Rattle.octets.specs.Table.{has_in}
-use Rattle.octets.proofs.Lists.{all-list_all}
+use borrow.Author.Rules.{rules}
+use Rattle.octets.proofs.Texts.{all_more, all-stop, all_done}
 use Rattle.octets.proofs.all_of.Goals as goal
 
+pub loop-i-preserved : goal.loop-i-preserved
+loop-i-preserved c = search (rules, all_more)
+
+pub returns-then-not-has : goal.returns-then-not-has
+returns-then-not-has c = search (rules, all-stop)
+
 pub returns : goal.returns
-returns c = all_from_yields_List (has_in c.args.t.now c.args.mask) _ _ _ c.all.ensures.ran (YieldsList-from_slice c.args.s.now cc) (λ x b q k. search (rules, tests))
-    ∙ all-list_all (has_in c.args.t.now c.args.mask) c.args.s.now
+returns c = search (rules, all_done)

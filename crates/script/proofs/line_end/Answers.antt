@@ -1,4 +1,4 @@
-use mathlib.Core.Path.{sym, ◌∙◌}
+use mathlib.Core.Path.{refl, sym, ◌∙◌}
 use native.Mathlib.Omega.{arith}
 use Rattle.script.proofs.Lines.{search-long, search-more, search-lf, search-cr, search-plain}
 use Rattle.script.proofs.line_end.Goals as goal
@@ -17,10 +17,11 @@ loop-i-preserved c = (
       (elim c.if-b-lt14.branch [ then-b-lt14+else-b-eq10+else-b-eq13 w ↦ (omega arith, omega arith) | else-b-lt14 w ↦ (omega arith, omega arith) ]),
   omega arith,
   omega arith,
+  refl,
 )
 
-pub returns-then-allowance-end : goal.returns-then-allowance-end
-returns-then-allowance-end c = sym (c.loop-i.invariant.0 ∙ search-long _ _ _ _ _ c.loop-i.invariant.1 (omega arith))
+pub returns-then-allowance-passed : goal.returns-then-allowance-passed
+returns-then-allowance-passed c = sym (c.loop-i.invariant.0 ∙ search-long _ _ _ _ _ c.loop-i.invariant.1 (omega arith))
 
 pub returns : goal.returns
 returns c = sym (c.loop-i.invariant.0 ∙ search-more _ _ _ _ _ c.loop-i.invariant.1 (omega arith) (omega arith))

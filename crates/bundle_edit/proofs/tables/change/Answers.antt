@@ -1,19 +1,19 @@
-use borrow.Author.Tests.{lt-ltb, le-ltb}
+use borrow.Author.Tests.{lt-ltb, le-ltb, eq-eqb, ne_eqb}
 use Rattle.bundle_edit.specs.Changes.{changed}
 use Rattle.bundle_edit.proofs.tables.change.Goals as goal
 
-pub returns-in-Leaves : goal.returns-in-Leaves
+pub returns-then-c : goal.returns-then-c
 unfolding changed
-returns-in-Leaves c = simp (lt-ltb _ _ c.if-k-lt127.true, c.in-Leaves.is)
+returns-then-c c = simp (lt-ltb _ _ c.if-k-lt127.true, eq-eqb _ _ c.if-c.true)
 
-pub returns-in-Puts : goal.returns-in-Puts
+pub returns-then-c-2 : goal.returns-then-c-2
 unfolding changed
-returns-in-Puts c = simp (lt-ltb _ _ c.if-k-lt127.true, c.in-Puts.is)
+returns-then-c-2 c = simp (c.minus.ensures, lt-ltb _ _ c.if-k-lt127.true, ne_eqb _ _ c.if-c.false, eq-eqb _ _ c.if-c-2.true)
 
-pub returns-in-TakesOff : goal.returns-in-TakesOff
+pub returns-else-c-2 : goal.returns-else-c-2
 unfolding changed
-returns-in-TakesOff c = simp (c.minus.ensures, lt-ltb _ _ c.if-k-lt127.true, c.in-TakesOff.is)
+returns-else-c-2 c = simp (lt-ltb _ _ c.if-k-lt127.true, ne_eqb _ _ c.if-c.false, ne_eqb _ _ c.if-c-2.false)
 
-pub returns : goal.returns
+pub returns-else-k-lt127 : goal.returns-else-k-lt127
 unfolding changed
-returns c = simp (le-ltb _ _ c.if-k-lt127.false)
+returns-else-k-lt127 c = simp (le-ltb _ _ c.if-k-lt127.false)
