@@ -9,7 +9,7 @@ ghost use Rattle.capi.specs.Entries.{control_count, stated_count, record_count, 
 use messages::{Part, PathPrefix, Record};
 use octets::Refusal;
 
-// All numbers given, from `at` on in out.
+// All numbers given, from `at` on in out. (One by one, as in output::copy_part.)
 fn put_all(out: &mut [u32], at: usize, numbers: &[u32]) -> usize
     requires { at + length numbers.now ≤ length out.old }
     ensures { Put out.old at numbers.now (length numbers.now) out.new result }

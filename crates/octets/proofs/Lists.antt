@@ -15,11 +15,6 @@ use Rattle.std.specs.Cmp.Lexicographic.{pointwise}
 use Rattle.octets.specs.Text.{all, lower_of, same_text}
 use Rattle.octets.proofs.Texts.{same_refl, same-eq}
 
-pub all-list_all : (p : ℕ → Bool) (s : List ℕ) → list_all p s ≡ all p s
-unfolding all
-all-list_all p [] = refl
-all-list_all p (b ∷ s) = ap (λ w. p b && w) (all-list_all p s)
-
 -- two tests of each octet, in one walk
 pub both-list_all : (p q : ℕ → Bool) (s : List ℕ) → list_all (λ b. p b && q b) s ≡ cond (all p s) (all q s) false
 unfolding all

@@ -25,7 +25,8 @@ fn digit_char(d: usize) -> u8
     }
 }
 
-// So many octets of the source, from a place on, where both have them.
+// So many octets of the source, from a place on, where both have them. (One by one: a copy of a slice of any length would be memmove, which the archives for C don't ask
+// for.)
 fn copy_part(out: &mut [u8], at: usize, src: &[u8], from: usize, len: usize) -> usize
     requires len_in_bounds { at + len ≤ length out.old }
     requires len_in_bounds_2 { from + len ≤ length src.now }

@@ -20,7 +20,8 @@ use messages::{Kind, Outcome, Part, PathPrefix, Ranges, Reading, Stop};
 use octets::Limits;
 use output::{put_octet, put_part};
 
-// Numbers are stored as the entry k of as many: start and length of a chunk, status and number of kept fields of an informational head, and the like.
+// Numbers are stored as the entry k of as many: start and length of a chunk, status and number of kept fields of an informational head, and the like. (One by one:
+// behind a copy of a slice a compiler doesn't see that readers only write these arrays, and clears them where nobody reads them.)
 pub fn store<const N: usize>(out: &mut [u32], k: usize, numbers: [u32; N])
     requires { k * N + N ≤ length out.old }
     ensures { out.new ≡ splice out.old (k * N) numbers.entry }
